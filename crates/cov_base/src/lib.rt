@@ -1,0 +1,22 @@
+//! What reaches outside, as traits, and each of them in memory.
+//!
+//! A trait's ghost members say what an object tells (its bytes or files, or nothing of them) and how often it has
+//! failed. A failure is answered only where that count rose in the call.
+#![tactic(auto)]
+
+mod failed;
+mod memory;
+mod shelf;
+mod sink;
+mod source;
+
+pub use failed::{Failed, Memory};
+pub use memory::shelf::{MemShelf, SureShelf};
+pub use memory::sink::{MemSink, SureSink};
+pub use memory::source::{MemSource, SureSource};
+pub use shelf::{Shelf, ShelfRefusal};
+pub use sink::Sink;
+pub use source::Source;
+
+#[cfg(test)]
+mod tests;

@@ -1,0 +1,7 @@
+-- The files of a shelf: pairs of a name and its bytes, of which the first of a name counts.
+use Rattle.std.specs.Prelude.{ℕ, List, [], ◌∷◌, Option, Some, None, if◌then◌else◌}
+use Rattle.std.specs.Str.{bytes_eq}
+
+abbrev pub file_of : List (List ℕ × List ℕ) → List ℕ → Option (List ℕ)
+file_of [] name = None
+file_of (file ∷ files) name = if bytes_eq file.0 name then Some file.1 else file_of files name

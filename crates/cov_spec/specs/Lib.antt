@@ -1,0 +1,5 @@
+pub mod Causes
+pub mod Coverage
+pub mod Files
+pub mod Number
+pub mod Told

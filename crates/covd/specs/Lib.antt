@@ -1,0 +1,3 @@
+pub mod Counted
+pub mod Early
+pub mod Sizes

@@ -1,0 +1,48 @@
+//! The texts of `covd --help` and `covd --version`.
+ghost use Rattle.std.specs.Prelude.{◌≡◌, ◌⊎◌, Some, IsSome, option_map};
+ghost use Rattle.covd.specs.Early.{IsOnly, help_word, version_word};
+
+/// What `covd --help` prints.
+pub const HELP: &str = "\
+covd counts the functional coverage of SystemVerilog designs.
+
+Usage:
+  covd count DESIGN RECORD   counts how often the record hits each bin of the
+                             design, and prints a line a bin
+  covd --help                prints this text
+  covd --version             prints the version
+
+Files:
+  DESIGN   a design text in SystemVerilog, at most 1,048,576 bytes
+  RECORD   a test record, binary, at most 8,388,608 bytes
+
+What is printed goes to standard output. The exit status is one of:
+   0   done
+   1   out of memory
+   2   the words are no command
+   3   the design is refused
+   4   the record is refused
+   7   standard output failed
+   8   a file could not be read
+  12   a file is too long
+";
+
+/// What `covd --version` prints.
+pub const VERSION: &str = "covd 0.1.0\n";
+
+/// The text that is asked for by the only word, which is `--help` or `--version`. The words don't have the program's
+/// name.
+pub fn early_text(words: &[String]) -> Option<&'static str>
+    ensures help { IsOnly words.now help_word → option_map (λ text. text.now) result ≡ Some HELP.now }
+    ensures version { IsOnly words.now version_word → option_map (λ text. text.now) result ≡ Some VERSION.now }
+    ensures only { IsSome result → IsOnly words.now help_word ⊎ IsOnly words.now version_word }
+{
+    let [word] = words else {
+        return None;
+    };
+    match word.as_str() {
+        "--help" => Some(HELP),
+        "--version" => Some(VERSION),
+        _ => None,
+    }
+}

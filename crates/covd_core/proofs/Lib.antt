@@ -1,0 +1,13 @@
+pub mod Designs
+pub mod Ends
+pub mod FormRules
+pub mod Grown
+pub mod Histograms
+pub mod Lists
+pub mod NamesDiffer
+pub mod OneAnswer
+pub mod Rules
+pub mod Runs
+pub mod Sole
+pub mod Tallies
+pub mod Three

@@ -1,0 +1,232 @@
+-- Told files and a shelf that didn't fail leave one status and one text to the words.
+use Rattle.std.proofs.Common.{◌≡◌, ℕ, ◌<◌, ◌≤◌, List, [], ◌∷◌, length, take, Some, None, inl, inr, refl, sym, ap, subst, ◌∙◌, arith}
+use Rattle.std.specs.Prelude.{◌⊎◌, slice_index_or, Result, Ok}
+use Rattle.cov_spec.specs.Causes.{Rose}
+use Rattle.cov_spec.specs.Coverage.{Sample, Hit}
+use Rattle.cov_spec.specs.Files.{file_of}
+use Rattle.cov_spec.proofs.Numbers.{number_is_one}
+use Rattle.record_codec.specs.declared.record.Record.{Record}
+use Rattle.record_codec.specs.Samples.{samples_of}
+use Rattle.record_codec.specs.Spelling.{Encodes}
+use Rattle.covd_core.specs.declared.design.Bin.{Bin}
+use Rattle.covd_core.specs.declared.design.Design.{Design}
+use Rattle.covd_core.specs.declared.status.Status.{Status}
+use Rattle.covd_core.specs.declared.status.Status.TheVariants as status
+use Rattle.covd_core.specs.Form.{IsDesign}
+use Rattle.covd_core.specs.Tally.{point, rule_of, AreCounts, IsTally}
+use Rattle.covd_core.specs.Lines.{count_text, design_refused_text, record_refused_text, cannot_read_text, too_long_text}
+use Rattle.covd_core.specs.Command.{Files, design_most, record_most, IsCountCommand, NotLoaded, HasDesign, HasNoDesign, HasRecord, HasNoRecord, IsCountText, Counts, Answers, HasOneAnswer}
+use Rattle.covd_core.proofs.Sole.{one_design}
+
+-- bytes spell one record
+abbrev pub SpellsOne : Type 0
+SpellsOne = (r q : Record) (bytes : List ℕ) → Encodes r bytes → Encodes q bytes → r ≡ q
+
+-- they do where a reading of bytes gives each record that they spell
+pub one_from_reading : {E : Type 0} (reading : List ℕ → Result Record E) → ((bytes : List ℕ) (r : Record) → Encodes r bytes → reading bytes ≡ Ok r) → SpellsOne
+one_from_reading reading reads r q bytes h k = let e = sym (reads bytes r h) ∙ reads bytes q k in cc e
+
+abbrev Told : Type 0
+Told = List (List ℕ × List ℕ)
+
+-- ---- a record has one tally
+
+counts_one : (samples : List Sample) (bins : List Bin) (counts others : List ℕ) → AreCounts samples bins counts → AreCounts samples bins others → counts ≡ others
+counts_one samples [] [] [] h k = refl
+counts_one samples [] [] (m ∷ others) h k = absurd k
+counts_one samples [] (n ∷ counts) others h k = absurd h
+counts_one samples (bin ∷ bins) [] others h k = absurd h
+counts_one samples (bin ∷ bins) (n ∷ counts) [] h k = absurd k
+counts_one samples (bin ∷ bins) (n ∷ counts) (m ∷ others) h k =
+    let here = number_is_one (λ at. Hit point (rule_of bin) (take at samples) (slice_index_or samples at [])) (length samples) n m h.0 k.0 in
+    let later = counts_one samples bins counts others h.1 k.1 in
+    λ i. here i ∷ later i
+
+tally_one : (d : Design) (r : Record) (counts others : List ℕ) → IsTally d r counts → IsTally d r others → counts ≡ others
+unfolding IsTally
+tally_one d r counts others h k = counts_one (samples_of r 0) d.bins counts others h k
+
+text_one : (d : Design) (r : Record) (text other : List ℕ) → IsCountText d r text → IsCountText d r other → text ≡ other
+text_one d r text other h k = h.2 ∙ ap (count_text d r.id) (tally_one d r h.0 k.0 h.1 k.1) ∙ sym k.2
+
+-- ---- a file has one answer
+
+same_file : (all : Told) (name bytes others : List ℕ) → file_of all name ≡ Some bytes → file_of all name ≡ Some others → bytes ≡ others
+same_file all name bytes others h k = cc (h, k)
+
+module _ (all : Told) (name : List ℕ) where
+  record IsMissing (s : Status) (text : List ℕ) : Type 0 where
+    absent : file_of all name ≡ None
+    is_status : s ≡ status.ShelfFault
+    is_text : text ≡ cannot_read_text name
+
+  record IsLong (most : ℕ) (s : Status) (text : List ℕ) : Type 0 where
+    bytes : List ℕ
+    file : file_of all name ≡ Some bytes
+    long : most < length bytes
+    is_status : s ≡ status.FileTooLong
+    is_text : text ≡ too_long_text name (length bytes)
+
+  abbrev IsRefused : ℕ → Status → List ℕ → Type 0
+  IsRefused most s text = IsMissing s text ⊎ IsLong most s text
+
+  module _ (before now : ℕ) (calm : Rose before now → ⊥) (most : ℕ) where
+    refused : (s : Status) (text : List ℕ) → NotLoaded (Some all) before now name most s text → IsRefused most s text
+    refused status.ShelfFault text h = elim h.0 [ inl absent ↦ inl (record { absent = absent; is_status = refl; is_text = h.1 }) | inr rose ↦ absurd (calm rose) ]
+    refused status.FileTooLong text h = inr (record { bytes = h.1.0; file = h.1.1; long = omega (arith, h.1.2, h.1.3); is_status = refl; is_text = h.2 ∙ ap (too_long_text name) (sym h.1.2) })
+    refused other text h = absurd h
+
+  module _ (most : ℕ) (s s' : Status) (text text' : List ℕ) where
+    refused_one : IsRefused most s text → IsRefused most s' text' → (s ≡ s') × (text ≡ text')
+    refused_one h k = elim h [
+      | inl a ↦ elim k [ inl b ↦ (a.is_status ∙ sym b.is_status, a.is_text ∙ sym b.is_text) | inr b ↦ absurd (cc (a.absent, b.file)) ]
+      | inr a ↦ elim k [
+        | inl b ↦ absurd (cc (a.file, b.absent))
+        | inr b ↦ (a.is_status ∙ sym b.is_status, a.is_text ∙ ap (λ (bytes : List ℕ). too_long_text name (length bytes)) (same_file all name a.bytes b.bytes a.file b.file) ∙ sym b.is_text)
+      ]
+    ]
+
+  not_refused : (most : ℕ) (s : Status) (text bytes : List ℕ) → file_of all name ≡ Some bytes → length bytes ≤ most → IsRefused most s text → ⊥
+  not_refused most s text bytes file short h = elim h [
+    | inl a ↦ cc (a.absent, file)
+    | inr a ↦ let same : length a.bytes ≡ length bytes = ap length (same_file all name a.bytes bytes a.file file) in omega (arith, a.long)
+  ]
+
+-- ---- the two files
+
+module _ (spells : SpellsOne) (all : Told) where
+  design_one : (name : List ℕ) (d e : Design) → HasDesign (Some all) name d → HasDesign (Some all) name e → d ≡ e
+  design_one name d e h k = one_design k.text d e (subst (λ (text : List ℕ). IsDesign d text) (same_file all name h.text k.text h.file k.file) h.is_design) k.is_design
+
+  no_design : (name : List ℕ) (d : Design) → HasDesign (Some all) name d → HasNoDesign (Some all) name → ⊥
+  no_design name d h n = n.none d (subst (λ (text : List ℕ). IsDesign d text) (same_file all name h.text n.text h.file n.file) h.is_design)
+
+  record_one : (name : List ℕ) (d : Design) (r q : Record) → HasRecord (Some all) name d r → HasRecord (Some all) name d q → r ≡ q
+  record_one name d r q h k = spells r q k.bytes (subst (λ (bytes : List ℕ). Encodes r bytes) (same_file all name h.bytes k.bytes h.file k.file) h.encodes) k.encodes
+
+  no_record : (name : List ℕ) (d : Design) (r : Record) → HasRecord (Some all) name d r → HasNoRecord (Some all) name d → ⊥
+  no_record name d r h n = n.none r (subst (λ (bytes : List ℕ). Encodes r bytes) (same_file all name h.bytes n.bytes h.file n.file) h.encodes) h.fits
+
+  module _ (name : List ℕ) (d : Design) where
+    record IsUnfit (s : Status) (text : List ℕ) : Type 0 where
+      none : HasNoRecord (Some all) name d
+      is_status : s ≡ status.RecordRefused
+      is_text : text ≡ record_refused_text
+
+    record IsCounted (s : Status) (text : List ℕ) : Type 0 where
+      r : Record
+      has : HasRecord (Some all) name d r
+      is_status : s ≡ status.Done
+      counted : IsCountText d r text
+
+    -- the answer once the design is there
+    abbrev Ends : Status → List ℕ → Type 0
+    Ends s text = IsRefused all name record_most s text ⊎ (IsUnfit s text ⊎ IsCounted s text)
+
+    had : (s : Status) (text : List ℕ) (r : Record) → HasRecord (Some all) name d r → IsRefused all name record_most s text → ⊥
+    had s text r h = not_refused all name record_most s text h.bytes h.file h.short
+
+    had_none : (s : Status) (text : List ℕ) → HasNoRecord (Some all) name d → IsRefused all name record_most s text → ⊥
+    had_none s text h = not_refused all name record_most s text h.bytes h.file h.short
+
+    counted_one : (s s' : Status) (text text' : List ℕ) → IsCounted s text → IsCounted s' text' → (s ≡ s') × (text ≡ text')
+    counted_one s s' text text' a b =
+        (a.is_status ∙ sym b.is_status, text_one d b.r text text' (subst (λ (r : Record). IsCountText d r text) (record_one name d a.r b.r a.has b.has) a.counted) b.counted)
+
+    ends_one : (s s' : Status) (text text' : List ℕ) → Ends s text → Ends s' text' → (s ≡ s') × (text ≡ text')
+    ends_one s s' text text' h k = elim h [
+      | inl a ↦ elim k [
+        | inl b ↦ refused_one all name record_most s s' text text' a b
+        | inr y ↦ elim y [ inl b ↦ absurd (had_none s text b.none a) | inr b ↦ absurd (had s text b.r b.has a) ]
+      ]
+      | inr x ↦ elim x [
+        | inl a ↦ elim k [
+          | inl b ↦ absurd (had_none s' text' a.none b)
+          | inr y ↦ elim y [ inl b ↦ (a.is_status ∙ sym b.is_status, a.is_text ∙ sym b.is_text) | inr b ↦ absurd (no_record name d b.r b.has a.none) ]
+        ]
+        | inr a ↦ elim k [
+          | inl b ↦ absurd (had s' text' a.r a.has b)
+          | inr y ↦ elim y [ inl b ↦ absurd (no_record name d a.r a.has b.none) | inr b ↦ counted_one s s' text text' a b ]
+        ]
+      ]
+    ]
+
+  module _ (design rec : List ℕ) where
+    record IsUncompiled (s : Status) (text : List ℕ) : Type 0 where
+      none : HasNoDesign (Some all) design
+      is_status : s ≡ status.DesignRefused
+      is_text : text ≡ design_refused_text
+
+    record IsCompiled (s : Status) (text : List ℕ) : Type 0 where
+      d : Design
+      has : HasDesign (Some all) design d
+      ends : Ends rec d s text
+
+    -- the answer to the words
+    abbrev Case : Status → List ℕ → Type 0
+    Case s text = IsRefused all design design_most s text ⊎ (IsUncompiled s text ⊎ IsCompiled s text)
+
+    module _ (before now : ℕ) (calm : Rose before now → ⊥) where
+      case_of : (s : Status) (text : List ℕ) → Counts (Some all) before now design rec s text → Case s text
+      case_of status.Done text h = inr (inr (record { d = h.0; has = h.1; ends = inr (inr (record { r = h.2; has = h.3; is_status = refl; counted = h.4 })) }))
+      case_of status.DesignRefused text h = inr (inl (record { none = h.0; is_status = refl; is_text = h.1 }))
+      case_of status.RecordRefused text h = inr (inr (record { d = h.0; has = h.1; ends = inr (inl (record { none = h.2; is_status = refl; is_text = h.3 })) }))
+      case_of status.ShelfFault text h = elim h [
+        | inl a ↦ inl (refused all design before now calm design_most status.ShelfFault text a)
+        | inr a ↦ inr (inr (record { d = a.0; has = a.1; ends = inl (refused all rec before now calm record_most status.ShelfFault text a.2) }))
+      ]
+      case_of status.FileTooLong text h = elim h [
+        | inl a ↦ inl (refused all design before now calm design_most status.FileTooLong text a)
+        | inr a ↦ inr (inr (record { d = a.0; has = a.1; ends = inl (refused all rec before now calm record_most status.FileTooLong text a.2) }))
+      ]
+      case_of other text h = absurd h
+
+    compiled_one : (s s' : Status) (text text' : List ℕ) → IsCompiled s text → IsCompiled s' text' → (s ≡ s') × (text ≡ text')
+    compiled_one s s' text text' a b = ends_one rec b.d s s' text text' (subst (λ (d : Design). Ends rec d s text) (design_one design a.d b.d a.has b.has) a.ends) b.ends
+
+    has_had : (s : Status) (text : List ℕ) (d : Design) → HasDesign (Some all) design d → IsRefused all design design_most s text → ⊥
+    has_had s text d h = not_refused all design design_most s text h.text h.file h.short
+
+    none_had : (s : Status) (text : List ℕ) → HasNoDesign (Some all) design → IsRefused all design design_most s text → ⊥
+    none_had s text h = not_refused all design design_most s text h.text h.file h.short
+
+    case_one : (s s' : Status) (text text' : List ℕ) → Case s text → Case s' text' → (s ≡ s') × (text ≡ text')
+    case_one s s' text text' h k = elim h [
+      | inl a ↦ elim k [
+        | inl b ↦ refused_one all design design_most s s' text text' a b
+        | inr y ↦ elim y [ inl b ↦ absurd (none_had s text b.none a) | inr b ↦ absurd (has_had s text b.d b.has a) ]
+      ]
+      | inr x ↦ elim x [
+        | inl a ↦ elim k [
+          | inl b ↦ absurd (none_had s' text' a.none b)
+          | inr y ↦ elim y [ inl b ↦ (a.is_status ∙ sym b.is_status, a.is_text ∙ sym b.is_text) | inr b ↦ absurd (no_design design b.d b.has a.none) ]
+        ]
+        | inr a ↦ elim k [
+          | inl b ↦ absurd (has_had s' text' a.d a.has b)
+          | inr y ↦ elim y [ inl b ↦ absurd (no_design design a.d a.has b.none) | inr b ↦ compiled_one s s' text text' a b ]
+        ]
+      ]
+    ]
+
+-- ---- the words
+
+module _ (spells : SpellsOne) (words : List (List ℕ)) (all : Told) (before now : ℕ) (calm : Rose before now → ⊥) (s s' : Status) (text text' : List ℕ) where
+  same_words : (design rec : List ℕ) → IsCountCommand words design rec → Counts (Some all) before now design rec s text → (other more : List ℕ) → IsCountCommand words other more → Counts (Some all) before now other more s' text'
+      → (s ≡ s') × (text ≡ text')
+  same_words design rec e h other more f k =
+      let one : other ≡ design = cc (e, f) in
+      let two : more ≡ rec = cc (e, f) in
+      let k' = subst (λ (d : List ℕ). Counts (Some all) before now d rec s' text') one (subst (λ (r : List ℕ). Counts (Some all) before now other r s' text') two k) in
+      case_one spells all design rec s s' text text' (case_of spells all design rec before now calm s text h) (case_of spells all design rec before now calm s' text' k')
+
+  answer_one : Answers words (Some all) before now s text → Answers words (Some all) before now s' text' → (s ≡ s') × (text ≡ text')
+  answer_one h k = elim h [
+    | inl a ↦ elim k [ inl b ↦ (a.1 ∙ sym b.1, a.2 ∙ sym b.2) | inr b ↦ absurd (a.0 b.0 b.1 b.2) ]
+    | inr a ↦ elim k [ inl b ↦ absurd (b.0 a.0 a.1 a.2) | inr b ↦ same_words a.0 a.1 a.2 a.3 b.0 b.1 b.2 b.3 ]
+  ]
+
+pub has_one_answer : SpellsOne → (words : List (List ℕ)) (files : Files) (before now : ℕ) → HasOneAnswer words files before now
+has_one_answer spells words files before now all told calm s s' text text' h k =
+    answer_one spells words all before now calm s s' text text'
+    (subst (λ (f : Files). Answers words f before now s text) told h)
+    (subst (λ (f : Files). Answers words f before now s' text') told k)

@@ -1,0 +1,121 @@
+-- What a command answers: a status and a text, from its words and the files of a shelf. The steps are: words, load of
+-- the design, compiling, load of the record, decoding and shape, printing; the first step that refuses decides.
+use Rattle.std.specs.Prelude.{◌≡◌, ◌⊎◌, false, ℕ, ◌≤◌, List, [], ◌∷◌, length, Option, Some, codes}
+use Rattle.cov_spec.specs.Causes.{Rose}
+use Rattle.cov_spec.specs.Told.{Grows, GrowsByFront, Stays}
+use Rattle.cov_base.specs.Loads.{HasFile, LacksFile, HasLongFile}
+use Rattle.record_codec.specs.declared.record.Record.{Record}
+use Rattle.record_codec.specs.declared.record.SignalRow.{SignalRow}
+use Rattle.record_codec.specs.declared.record.InstRow.{InstRow}
+use Rattle.record_codec.specs.Spelling.{Encodes}
+use Rattle.covd_core.specs.declared.design.Design.{Design}
+use Rattle.covd_core.specs.declared.status.Status.{Status}
+use Rattle.covd_core.specs.declared.status.Status.TheVariants as status
+use Rattle.covd_core.specs.Form.{IsDesign}
+use Rattle.covd_core.specs.Tally.{IsTally}
+use Rattle.covd_core.specs.Lines.{count_text, bad_words_text, design_refused_text, record_refused_text, cannot_read_text, too_long_text}
+
+-- the files of a shelf, where it tells them
+abbrev pub Files : Type 0
+Files = Option (List (List ℕ × List ℕ))
+
+-- the most bytes of a design text and of a record
+abbrev pub design_most : ℕ
+design_most = 1048576
+
+abbrev pub record_most : ℕ
+record_most = 8388608
+
+-- ---- words
+
+-- the words are `count`, the design's name and the record's
+abbrev pub IsCountCommand : List (List ℕ) → List ℕ → List ℕ → Type 0
+IsCountCommand words design rec = words ≡ codes "count" ∷ design ∷ rec ∷ []
+
+abbrev pub IsNoCommand : List (List ℕ) → Type 0
+IsNoCommand words = (design rec : List ℕ) → IsCountCommand words design rec → ⊥
+
+-- ---- files
+
+-- The file of that name isn't there, or the count of the shelf's faults rose from `before` to `now`.
+abbrev pub IsUnread : Files → ℕ → ℕ → List ℕ → Type 0
+IsUnread files before now name = LacksFile files name ⊎ Rose before now
+
+-- status and text where the file of that name, of at most so many bytes, can't be had
+abbrev pub NotLoaded : Files → ℕ → ℕ → List ℕ → ℕ → Status → List ℕ → Type 0
+NotLoaded files before now name most status.ShelfFault text = IsUnread files before now name × (text ≡ cannot_read_text name)
+NotLoaded files before now name most status.FileTooLong text = (size : ℕ) × HasLongFile files before now name most size × (text ≡ too_long_text name size)
+NotLoaded files before now name most other text = ⊥
+
+-- the file of that name has the design
+pub record HasDesign (files : Files) (name : List ℕ) (d : Design) : Type 0 where
+  pub text : List ℕ
+  pub file : HasFile files name text
+  pub short : length text ≤ design_most
+  pub is_design : IsDesign d text
+
+-- the file of that name has no design
+pub record HasNoDesign (files : Files) (name : List ℕ) : Type 0 where
+  pub text : List ℕ
+  pub file : HasFile files name text
+  pub short : length text ≤ design_most
+  pub none : (d : Design) → IsDesign d text → ⊥
+
+-- the record's tables are the design's: its one signal, of width 8 and unsigned, and its one instance
+abbrev pub signal_of : Design → SignalRow
+signal_of d = record { name = d.variable; width = 8; signed = false }
+
+abbrev pub instance_of : Design → InstRow
+instance_of d = record { name = d.instance; group = d.group }
+
+pub record Fits (d : Design) (r : Record) : Type 0 where
+  pub signals : r.signals ≡ signal_of d ∷ []
+  pub instances : r.instances ≡ instance_of d ∷ []
+
+-- the file of that name has the record, and it fits the design
+pub record HasRecord (files : Files) (name : List ℕ) (d : Design) (r : Record) : Type 0 where
+  pub bytes : List ℕ
+  pub file : HasFile files name bytes
+  pub short : length bytes ≤ record_most
+  pub encodes : Encodes r bytes
+  pub fits : Fits d r
+
+-- the file of that name has no record that fits the design
+pub record HasNoRecord (files : Files) (name : List ℕ) (d : Design) : Type 0 where
+  pub bytes : List ℕ
+  pub file : HasFile files name bytes
+  pub short : length bytes ≤ record_most
+  pub none : (r : Record) → Encodes r bytes → Fits d r → ⊥
+
+-- ---- answers
+
+-- the text of the counts of the record
+abbrev pub IsCountText : Design → Record → List ℕ → Type 0
+IsCountText d r text = (counts : List ℕ) × IsTally d r counts × (text ≡ count_text d r.id counts)
+
+-- Status and text of `count DESIGN RECORD`: the cause of each status.
+abbrev pub Counts : Files → ℕ → ℕ → List ℕ → List ℕ → Status → List ℕ → Type 0
+Counts files before now design rec status.Done text = (d : Design) × HasDesign files design d × (r : Record) × HasRecord files rec d r × IsCountText d r text
+Counts files before now design rec status.DesignRefused text = HasNoDesign files design × (text ≡ design_refused_text)
+Counts files before now design rec status.RecordRefused text = (d : Design) × HasDesign files design d × HasNoRecord files rec d × (text ≡ record_refused_text)
+Counts files before now design rec status.ShelfFault text = NotLoaded files before now design design_most status.ShelfFault text ⊎ ((d : Design) × HasDesign files design d × NotLoaded files before now rec record_most status.ShelfFault text)
+Counts files before now design rec status.FileTooLong text = NotLoaded files before now design design_most status.FileTooLong text ⊎ ((d : Design) × HasDesign files design d × NotLoaded files before now rec record_most status.FileTooLong text)
+Counts files before now design rec other text = ⊥
+
+-- Status and text of any words; `before` and `now` are the counts of the shelf's faults.
+abbrev pub Answers : List (List ℕ) → Files → ℕ → ℕ → Status → List ℕ → Type 0
+Answers words files before now s text =
+    (IsNoCommand words × (s ≡ status.BadWords) × (text ≡ bad_words_text)) ⊎ ((design rec : List ℕ) × IsCountCommand words design rec × Counts files before now design rec s text)
+
+-- What a run leaves in the sink. Where memory ran out: nothing. Where the sink failed, its count having risen: some of
+-- the answer's text from the front. Else: the whole text of the answer, whose status it is.
+abbrev pub Leaves : List (List ℕ) → Files → ℕ → ℕ → ℕ → ℕ → Option (List ℕ) → Option (List ℕ) → Status → Type 0
+Leaves words files before now faults faults_now written written_now status.Memory = Stays written written_now
+Leaves words files before now faults faults_now written written_now status.WriteFault = Rose faults faults_now × (s : Status) × (text : List ℕ) × Answers words files before now s text × GrowsByFront written written_now text
+Leaves words files before now faults faults_now written written_now s = (text : List ℕ) × Answers words files before now s text × Grows written written_now text
+
+-- Told files and a shelf that didn't fail leave one status and one text to the words.
+abbrev pub HasOneAnswer : List (List ℕ) → Files → ℕ → ℕ → Type 0
+HasOneAnswer words files before now =
+    (all : List (List ℕ × List ℕ)) → files ≡ Some all → (Rose before now → ⊥)
+    → (s s' : Status) (text text' : List ℕ) → Answers words files before now s text → Answers words files before now s' text' → (s ≡ s') × (text ≡ text')

@@ -1,0 +1,19 @@
+//! What the program does with its words: `run` over any shelf of files and any sink.
+#![tactic(auto)]
+
+mod compile;
+mod count;
+mod design;
+mod lines;
+mod names;
+mod running;
+mod status;
+mod tally;
+mod words;
+mod writing;
+
+pub use running::run;
+pub use status::Status;
+
+#[cfg(test)]
+mod tests;

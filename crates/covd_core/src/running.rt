@@ -1,0 +1,74 @@
+//! The program's one call.
+ghost use Rattle.std.specs.Prelude.{◌≡◌, ◌≤◌, map, string_bytes, IfOk, MatchOption};
+ghost use Rattle.covd_core.specs.Command.{Answers, IsCountCommand, IsNoCommand, Leaves, HasOneAnswer};
+
+use crate::Status;
+use crate::count::{Answer, count};
+use crate::lines::bad_words;
+use crate::writing::write_all;
+use cov_base::{Memory, Shelf, Sink, Source};
+use std::alloc::Global;
+
+// The two names behind `count`.
+fn count_words(words: &[String]) -> Option<(&str, &str)>
+    ensures { MatchOption result (IsNoCommand (map string_bytes words.now)) (λ names. IsCountCommand (map string_bytes words.now) names.0.now names.1.now) }
+{
+    match words {
+        [command, design, rec] => {
+            if command.as_str() == "count" {
+                Some((design.as_str(), rec.as_str()))
+            } else {
+                None
+            }
+        }
+        _ => None,
+    }
+}
+
+fn answer<F: Shelf>(alloc: Global, words: &[String], shelf: &mut F) -> Result<Answer, Memory>
+    ensures same { F.files shelf.new ≡ F.files shelf.old }
+    ensures later { F.faults shelf.old ≤ F.faults shelf.new }
+    ensures answer { IfOk result (λ a. Answers (map string_bytes words.now) (F.files shelf.old) (F.faults shelf.old) (F.faults shelf.new) a.status a.text.items) }
+{
+    match count_words(words) {
+        Some((design, rec)) => count(alloc, design, rec, shelf),
+        None => {
+            let text = bad_words(alloc)?;
+            Ok(Answer {
+                status: Status::BadWords,
+                text,
+            })
+        }
+    }
+}
+
+/// Does what the words say over the files of the shelf, and writes its text to the sink.
+///
+/// The words are those after the program's name; the one command is `count DESIGN RECORD`, which prints how often the
+/// record hits each bin of the design. The text is built whole before its first byte is written. The source isn't
+/// touched.
+pub fn run<F: Shelf, S: Source, K: Sink>(
+    alloc: Global,
+    words: &[String],
+    shelf: &mut F,
+    source: &mut S,
+    sink: &mut K,
+) -> Status
+    // Status and text are those of the words and files; memory alone is free.
+    ensures leaves { Leaves (map string_bytes words.now) (F.files shelf.old) (F.faults shelf.old) (F.faults shelf.new) (K.faults sink.old) (K.faults sink.new) (K.written sink.old) (K.written sink.new) result }
+    ensures one_answer { HasOneAnswer (map string_bytes words.now) (F.files shelf.old) (F.faults shelf.old) (F.faults shelf.new) }
+    // What the call leaves alone.
+    ensures files { F.files shelf.new ≡ F.files shelf.old }
+    ensures shelf_faults { F.faults shelf.old ≤ F.faults shelf.new }
+    ensures source { source.new ≡ source.old }
+    ensures sink_faults { K.faults sink.old ≤ K.faults sink.new }
+{
+    let _source = source;
+    match answer(alloc, words, shelf) {
+        Err(_) => Status::Memory,
+        Ok(Answer { status, text }) => match write_all(sink, &text) {
+            Ok(()) => status,
+            Err(_) => Status::WriteFault,
+        },
+    }
+}

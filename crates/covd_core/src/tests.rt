@@ -1,0 +1,229 @@
+//! Whole commands: worked examples, the printed text, and each refusal.
+use super::*;
+use cov_base::{MemShelf, MemSink, MemSource, SureShelf, SureSink, SureSource};
+use std::alloc::Global;
+use std::process::Abort;
+use std::test::*;
+
+const DESIGN: &[u8] =
+    b"bit [7:0] v; covergroup g; p: coverpoint v { bins a = {0}; bins b = {1, 2}; } endgroup g i = new;";
+
+// The test t1: v is set to 0 and sampled, set to 1 and sampled twice.
+const RECORD: [u8; 81] = [
+    67, 86, 82, 67, 0, 1, 0, 2, 116, 49, 0, 0, 0, 0, 0, 0, 0, 0, 0, 0, 0, 0, 0, 0, 0, 0, 0, 0, 0,
+    0, 1, 0, 1, 118, 8, 0, 0, 1, 0, 1, 105, 0, 1, 103, 0, 0, 0, 5, 1, 0, 0, 1, 0, 0, 0, 0, 0, 0, 0,
+    0, 2, 0, 0, 1, 0, 0, 1, 0, 0, 0, 0, 0, 0, 0, 1, 2, 0, 0, 2, 0, 0,
+];
+
+// How many of its bytes stand before the number of events.
+const HEAD: usize = 44;
+
+fn words(alloc: Global, all: &[&str]) -> Result<Vec<String>, Fail> {
+    let mut words = Vec::new(alloc);
+    for word in all {
+        words.push(String::from_str(alloc, word)?)?;
+    }
+    Ok(words)
+}
+
+// The files `d` and `r`.
+fn files(alloc: Global, design: &[u8], rec: &[u8]) -> Result<Vec<(String, Vec<u8>)>, Fail> {
+    let mut files = Vec::new(alloc);
+    files.push((
+        String::from_str(alloc, "d")?,
+        Vec::from_slice(alloc, design)?,
+    ))?;
+    files.push((String::from_str(alloc, "r")?, Vec::from_slice(alloc, rec)?))?;
+    Ok(files)
+}
+
+// A record like t1 with other events, their number in front.
+fn with_events(alloc: Global, events: &[u8]) -> Result<Vec<u8>, Fail> {
+    let mut bytes = Vec::from_slice(alloc, &RECORD[..HEAD])?;
+    bytes.extend_from_slice(events)?;
+    Ok(bytes)
+}
+
+// Runs the words over `d` and `r`, with a sink that takes three bytes a call.
+fn check(
+    rt: &(impl Abort + AllocGlobal),
+    design: &[u8],
+    rec: &[u8],
+    all: &[&str],
+    status: Status,
+    text: &[u8],
+) -> Result<(), Fail> {
+    let alloc = rt.alloc();
+    let mut shelf = MemShelf::new(files(alloc, design, rec)?, Vec::new(alloc));
+    let mut source = MemSource::new(Vec::new(alloc), 1, Vec::new(alloc));
+    let mut sink = MemSink::new(alloc, 3, Vec::new(alloc));
+    let all = words(alloc, all)?;
+    let answered = run(alloc, &all, &mut shelf, &mut source, &mut sink);
+    assert_eq!(rt; answered, status);
+    assert_eq!(rt; sink.contents(), text);
+    Ok(())
+}
+
+#[test]
+fn counts_a_record(rt: HostRuntime) -> Result<(), Fail> {
+    let none = with_events(rt.alloc(), &[0, 0, 0, 0])?;
+    let cases = [
+        (
+            RECORD.as_slice(),
+            b"test t1\nbin 0 CVGBIN 1 g/i/p/a\nbin 1 CVGBIN 2 g/i/p/b\n".as_slice(),
+        ),
+        (
+            none.as_slice(),
+            b"test t1\nbin 0 CVGBIN 0 g/i/p/a\nbin 1 CVGBIN 0 g/i/p/b\n".as_slice(),
+        ),
+    ];
+    for (rec, text) in cases.as_slice() {
+        check(&rt, DESIGN, rec, &["count", "d", "r"], Status::Done, text)?;
+    }
+    Ok(())
+}
+
+#[test]
+fn counts_known_values_once(rt: HostRuntime) -> Result<(), Fail> {
+    // A Sample before any Set, at 255, at Unknown, and twice at 0.
+    let rec = with_events(
+        rt.alloc(),
+        &[
+            0, 0, 0, 8, 2, 0, 0, 1, 0, 0, 1, 0, 0, 0, 0, 0, 0, 0, 255, 2, 0, 0, 1, 0, 0, 0, 2, 0,
+            0, 1, 0, 0, 1, 0, 0, 0, 0, 0, 0, 0, 0, 2, 0, 0, 2, 0, 0,
+        ],
+    )?;
+    let design =
+        b"bit[7:0]v;covergroup g;\n p:coverpoint v{bins a={0};bins b={255,7,007,255};bins c={0,255};}\nendgroup g i=new;";
+    let text = b"test t1\nbin 0 CVGBIN 2 g/i/p/a\nbin 1 CVGBIN 1 g/i/p/b\nbin 2 CVGBIN 3 g/i/p/c\n";
+    check(&rt, design, &rec, &["count", "d", "r"], Status::Done, text)
+}
+
+#[test]
+fn refuses_words(rt: HostRuntime) -> Result<(), Fail> {
+    let cases: [&[&str]; 5] = [
+        &[],
+        &["count", "d"],
+        &["count", "d", "r", "r"],
+        &["Count", "d", "r"],
+        &["check", "d"],
+    ];
+    for all in cases.as_slice() {
+        check(&rt, DESIGN, &RECORD, all, Status::BadWords, b"bad words\n")?;
+    }
+    Ok(())
+}
+
+#[test]
+fn refuses_designs(rt: HostRuntime) -> Result<(), Fail> {
+    let cases: [&[u8]; 12] = [
+        b"",
+        b"bit [8:0] v;",
+        b"bit [7:0] v; covergroup g; p: coverpoint v { } endgroup g i = new;",
+        b"bit [7:0] v; covergroup g; p: coverpoint v { bins a = {}; } endgroup g i = new;",
+        b"bit [7:0] v; covergroup g; p: coverpoint v { bins a = {256}; } endgroup g i = new;",
+        b"bit [7:0] v; covergroup g; p: coverpoint v { bins a = {0255}; } endgroup g i = new;",
+        b"bit [7:0] v; covergroup g; p: coverpoint w { bins a = {0}; } endgroup g i = new;",
+        b"bit [7:0] v; covergroup g; p: coverpoint v { bins a = {0}; bins a = {1}; } endgroup g i = new;",
+        b"bit [7:0] v; covergroup g; p: coverpoint v { bins cross = {0}; } endgroup g i = new;",
+        b"bit [7:0] v; covergroup v; p: coverpoint v { bins a = {0}; } endgroup v i = new;",
+        b"bit [7:0] v; covergroup g; p: coverpoint v { bins 1a = {0}; } endgroup g i = new;",
+        b"bit [7:0] v; covergroup g; p: coverpoint v { bins a = {0}; } endgroup g i = new; bit",
+    ];
+    for design in cases.as_slice() {
+        check(
+            &rt,
+            design,
+            &RECORD,
+            &["count", "d", "r"],
+            Status::DesignRefused,
+            b"design refused NotBuiltYet at 0\n",
+        )?;
+    }
+    Ok(())
+}
+
+#[test]
+fn refuses_records(rt: HostRuntime) -> Result<(), Fail> {
+    let other = b"bit [7:0] w; covergroup g; p: coverpoint w { bins a = {0}; } endgroup g i = new;";
+    let cases: [(&[u8], &[u8]); 3] = [(DESIGN, &RECORD[..80]), (DESIGN, &[]), (other, &RECORD)];
+    for (design, rec) in cases.as_slice() {
+        check(
+            &rt,
+            design,
+            rec,
+            &["count", "d", "r"],
+            Status::RecordRefused,
+            b"record 1 refused Unread 0\n",
+        )?;
+    }
+    Ok(())
+}
+
+#[test]
+fn refuses_files(rt: HostRuntime) -> Result<(), Fail> {
+    let alloc = rt.alloc();
+    let mut long = vec![in alloc; 32u8; 1_048_577]?;
+    check(
+        &rt,
+        &long,
+        &RECORD,
+        &["count", "d", "r"],
+        Status::FileTooLong,
+        b"too long d 1048577\n",
+    )?;
+    check(
+        &rt,
+        DESIGN,
+        &RECORD,
+        &["count", "d", "q"],
+        Status::ShelfFault,
+        b"cannot read q\n",
+    )?;
+    long.truncate(1_048_576);
+    check(
+        &rt,
+        &long,
+        &RECORD,
+        &["count", "d", "r"],
+        Status::DesignRefused,
+        b"design refused NotBuiltYet at 0\n",
+    )
+}
+
+#[test]
+fn sure_ends_do_the_same(rt: HostRuntime) -> Result<(), Fail> {
+    let alloc = rt.alloc();
+    let mut shelf = SureShelf::new(files(alloc, DESIGN, &RECORD)?);
+    let mut source = SureSource::new(Vec::new(alloc), 1);
+    let mut sink = SureSink::new(alloc, 7);
+    let all = words(alloc, &["count", "d", "q"])?;
+    let status = run(alloc, &all, &mut shelf, &mut source, &mut sink);
+    assert_eq!(rt; status, Status::ShelfFault);
+    let text = sink.contents().ok_or("memory ran out")?;
+    assert_eq!(rt; text, b"cannot read q\n".as_slice());
+    Ok(())
+}
+
+#[test]
+fn failing_ends(rt: HostRuntime) -> Result<(), Fail> {
+    let alloc = rt.alloc();
+    let all = words(alloc, &["count", "d", "r"])?;
+    // The second load fails.
+    let mut shelf = MemShelf::new(
+        files(alloc, DESIGN, &RECORD)?,
+        Vec::from_slice(alloc, &[1])?,
+    );
+    let mut source = MemSource::new(Vec::new(alloc), 1, Vec::new(alloc));
+    let mut sink = MemSink::new(alloc, 3, Vec::new(alloc));
+    let status = run(alloc, &all, &mut shelf, &mut source, &mut sink);
+    assert_eq!(rt; status, Status::ShelfFault);
+    assert_eq!(rt; sink.contents(), b"cannot read r\n".as_slice());
+    // The third write fails: six bytes were written.
+    let mut shelf = MemShelf::new(files(alloc, DESIGN, &RECORD)?, Vec::new(alloc));
+    let mut sink = MemSink::new(alloc, 3, Vec::from_slice(alloc, &[2])?);
+    let status = run(alloc, &all, &mut shelf, &mut source, &mut sink);
+    assert_eq!(rt; status, Status::WriteFault);
+    assert_eq!(rt; sink.contents(), b"test t".as_slice());
+    Ok(())
+}

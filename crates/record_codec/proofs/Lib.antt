@@ -1,0 +1,10 @@
+pub mod Counts
+pub mod EventLaws
+pub mod Laws
+pub mod Loops
+pub mod Numbers
+pub mod RecordLaws
+pub mod Singles
+pub mod Tables
+pub mod Texts
+pub mod Widths

@@ -1,0 +1,190 @@
+-- The whole record: what is read is spelled so and within its limits, and what is spelled so is read.
+use Rattle.std.proofs.Common.{◌≡◌, ℕ, ◌^◌, ◌<◌, eqb, List, [], ◌++◌, length, Ok, refl, sym, ap, subst, ◌∙◌, append_assoc, arith}
+use Rattle.std.specs.Int.{w8, w16, w32, w64, to_be_bytes}
+use Rattle.std.proofs.lemmas.Bool.{eqb-true}
+use Rattle.std.proofs.lemmas.List.{append-nil, nil_from_length}
+use Rattle.record_codec.specs.declared.fault.Fault.TheVariants.{BadMagic, BadVersion, Trailing}
+use Rattle.record_codec.specs.declared.record.Record.{Record}
+use Rattle.record_codec.specs.declared.record.TestRow.{TestRow}
+use Rattle.record_codec.specs.declared.record.SignalRow.{SignalRow}
+use Rattle.record_codec.specs.declared.record.InstRow.{InstRow}
+use Rattle.record_codec.specs.declared.record.Event.{Event}
+use Rattle.record_codec.specs.Limits.{IsText, IsSignalRow, IsInstRow, IsEvent, IsWithinLimits}
+use Rattle.record_codec.specs.Spelling.{text, head, signal_table, instance_table, event_list, spelling, Encodes}
+use Rattle.record_codec.specs.Reading.{number_at, number_within, text_at, version_at, head_at, test_at, signals_at, instances_at, events_at, record_at, reading}
+use Rattle.record_codec.proofs.Laws.{IsBytes, bind_ok, let_pass, ok_is, Takes, Takes-then, Read, last}
+use Rattle.record_codec.proofs.Numbers.{IsWithin, one_byte, wide8, wide16, wide32, wide64, number_field, within_field}
+use Rattle.record_codec.proofs.Texts.{text_field}
+use Rattle.record_codec.proofs.Tables.{AreRows, signals_field, instances_field}
+use Rattle.record_codec.proofs.EventLaws.{events_field}
+
+-- ---- the letters and the version
+
+version_takes : (bytes rest : List ℕ) → IsBytes bytes → version_at bytes ≡ Ok rest → Takes bytes (to_be_bytes w16 1) rest
+unfolding version_at
+version_takes bytes rest fits e =
+    let a = bind_ok (number_at w16 bytes) _ rest e in
+    let g = let_pass (eqb a.0.0 1) (BadVersion a.0.0) (Ok a.0.1) rest a.2 in
+    let same : a.0.0 ≡ 1 = eqb-true _ _ g.0 in
+    let found = (number_field wide16).takes bytes a.0 fits a.1 in
+    subst (λ (r : List ℕ). Takes bytes (to_be_bytes w16 1) r) {x = a.0.1} (ok_is a.0.1 rest g.1) (subst (λ (n : ℕ). Takes bytes (to_be_bytes w16 n) a.0.1) same found.takes)
+
+head_takes : (bytes rest : List ℕ) → IsBytes bytes → head_at bytes ≡ Ok rest → Takes bytes head rest
+unfolding head_at
+head_takes bytes rest fits e =
+    let a = bind_ok (number_at w32 bytes) _ rest e in
+    let g = let_pass (eqb a.0.0 0x43565243) BadMagic (version_at a.0.1) rest a.2 in
+    let same : a.0.0 ≡ 0x43565243 = eqb-true _ _ g.0 in
+    let found = (number_field wide32).takes bytes a.0 fits a.1 in
+    Takes-then (subst (λ (n : ℕ). Takes bytes (to_be_bytes w32 n) a.0.1) same found.takes) (version_takes a.0.1 rest found.takes.rest_fits g.1)
+
+head_again : (rest : List ℕ) → head_at (head ++ rest) ≡ Ok rest
+unfolding head_at version_at
+head_again rest =
+    last (number_field wide32) 0x43565243 (to_be_bytes w16 1 ++ rest) _ (omega arith)
+    ∙ last (number_field wide16) 1 rest _ (omega arith)
+
+-- ---- the test
+
+abbrev test_row : TestRow → List ℕ
+test_row t = text t.id ++ (one_byte t.status ++ (to_be_bytes w64 t.seed ++ (to_be_bytes w64 t.time ++ text t.user)))
+
+-- the same, with what follows
+abbrev test_and : TestRow → List ℕ → List ℕ
+test_and t rest = text t.id ++ (one_byte t.status ++ (to_be_bytes w64 t.seed ++ (to_be_bytes w64 t.time ++ (text t.user ++ rest))))
+
+flat : (a b c d e rest : List ℕ) → (a ++ (b ++ (c ++ (d ++ e)))) ++ rest ≡ a ++ (b ++ (c ++ (d ++ (e ++ rest))))
+flat a b c d e rest = simp append_assoc
+
+pub record IsTestRow (t : TestRow) : Type 0 where
+  pub id : IsText 1 255 33 t.id
+  pub status : t.status < 4
+  pub seed : t.seed < 2 ^ 64
+  pub time : t.time < 2 ^ 64
+  pub user : IsText 0 255 32 t.user
+
+test_made : (bytes id user a b c d e : List ℕ) (status seed time : ℕ)
+    → Read text (IsText 1 255 33) bytes (id, a) → Read one_byte (IsWithin 0 4) a (status, b)
+    → Read (to_be_bytes w64) (λ n. n < 2 ^ 64) b (seed, c) → Read (to_be_bytes w64) (λ n. n < 2 ^ 64) c (time, d) → Read text (IsText 0 255 32) d (user, e)
+    → Read test_row IsTestRow bytes (record { id = id; status = status; seed = seed; time = time; user = user }, e)
+test_made bytes id user a b c d e status seed time i s n t u = record {
+  takes = Takes-then i.takes (Takes-then s.takes (Takes-then n.takes (Takes-then t.takes u.takes)));
+  fits = record { id = i.fits; status = s.fits.high; seed = n.fits; time = t.fits; user = u.fits };
+}
+
+test_takes : (bytes : List ℕ) (x : TestRow × List ℕ) → IsBytes bytes → test_at bytes ≡ Ok x → Read test_row IsTestRow bytes x
+unfolding test_at
+test_takes bytes x fits e =
+    let a = bind_ok (text_at 1 255 33 bytes) _ x e in
+    let b = bind_ok (number_within w8 0 4 a.0.1) _ x a.2 in
+    let c = bind_ok (number_at w64 b.0.1) _ x b.2 in
+    let d = bind_ok (number_at w64 c.0.1) _ x c.2 in
+    let f = bind_ok (text_at 0 255 32 d.0.1) _ x d.2 in
+    let id = (text_field 1 255 33 (omega arith)).takes bytes a.0 fits a.1 in
+    let status = (within_field wide8 0 4 (omega arith)).takes a.0.1 b.0 id.takes.rest_fits b.1 in
+    let seed = (number_field wide64).takes b.0.1 c.0 status.takes.rest_fits c.1 in
+    let time = (number_field wide64).takes c.0.1 d.0 seed.takes.rest_fits d.1 in
+    let user = (text_field 0 255 32 (omega arith)).takes d.0.1 f.0 time.takes.rest_fits f.1 in
+    let t : TestRow = record { id = a.0.0; status = b.0.0; seed = c.0.0; time = d.0.0; user = f.0.0 } in
+    subst (λ (y : TestRow × List ℕ). Read test_row IsTestRow bytes y) {x = (t, f.0.1)} (ok_is (t, f.0.1) x f.2)
+    (test_made bytes a.0.0 f.0.0 a.0.1 b.0.1 c.0.1 d.0.1 f.0.1 b.0.0 c.0.0 d.0.0 id status seed time user)
+
+test_again : (t : TestRow) (rest : List ℕ) → IsTestRow t → test_at (test_and t rest) ≡ Ok (t, rest)
+unfolding test_at
+test_again t rest fits =
+    last (text_field 1 255 33 (omega arith)) t.id (one_byte t.status ++ (to_be_bytes w64 t.seed ++ (to_be_bytes w64 t.time ++ (text t.user ++ rest)))) _ fits.id
+    ∙ last (within_field wide8 0 4 (omega arith)) t.status (to_be_bytes w64 t.seed ++ (to_be_bytes w64 t.time ++ (text t.user ++ rest))) _ (record { low = omega arith; high = fits.status })
+    ∙ last (number_field wide64) t.seed (to_be_bytes w64 t.time ++ (text t.user ++ rest)) _ fits.seed
+    ∙ last (number_field wide64) t.time (text t.user ++ rest) _ fits.time
+    ∙ last (text_field 0 255 32 (omega arith)) t.user rest _ fits.user
+
+-- ---- the record
+
+abbrev test_of : Record → TestRow
+test_of r = record { id = r.id; status = r.status; seed = r.seed; time = r.time; user = r.user }
+
+-- the spelling of a record, with what follows
+abbrev record_and : Record → List ℕ → List ℕ
+record_and r rest = head ++ test_and (test_of r) (signal_table r.signals ++ (instance_table r.instances ++ (event_list r.events ++ rest)))
+
+alone : (r : Record) → record_and r [] ≡ spelling r
+unfolding spelling
+alone r = ap (λ (events : List ℕ). head ++ test_and (test_of r) (signal_table r.signals ++ (instance_table r.instances ++ events))) (append-nil (event_list r.events))
+
+pub record Found (bytes : List ℕ) (x : Record × List ℕ) : Type 0 where
+  pub parts : bytes ≡ record_and x.0 x.1
+  pub within : IsWithinLimits x.0
+
+record_made : (bytes a b c d e : List ℕ) (t : TestRow) (signals : List SignalRow) (instances : List InstRow) (events : List Event)
+    → Takes bytes head a → Read test_row IsTestRow a (t, b) → Read signal_table (AreRows IsSignalRow 4096) b (signals, c)
+    → Read instance_table (AreRows IsInstRow 1024) c (instances, d) → Read event_list (AreRows (IsEvent signals (length instances)) 1048576) d (events, e)
+    → Found bytes (record { id = t.id; status = t.status; seed = t.seed; time = t.time; user = t.user; signals = signals; instances = instances; events = events }, e)
+record_made bytes a b c d e t signals instances events letters test s i v =
+    let tables : b ≡ signal_table signals ++ (instance_table instances ++ (event_list events ++ e)) =
+    s.takes.parts ∙ ap (λ (l : List ℕ). signal_table signals ++ l) (i.takes.parts ∙ ap (λ (l : List ℕ). instance_table instances ++ l) v.takes.parts) in
+    let behind : a ≡ test_and t b = test.takes.parts ∙ flat (text t.id) (one_byte t.status) (to_be_bytes w64 t.seed) (to_be_bytes w64 t.time) (text t.user) b in
+    record {
+      parts = letters.parts ∙ ap (λ (l : List ℕ). head ++ l) (behind ∙ ap (test_and t) tables);
+      within = record {
+        id = test.fits.id;
+        status = test.fits.status;
+        seed = test.fits.seed;
+        time = test.fits.time;
+        user = test.fits.user;
+        signal_count = s.fits.count;
+        signals = s.fits.all;
+        instance_count = i.fits.count;
+        instances = i.fits.all;
+        event_count = v.fits.count;
+        events = v.fits.all;
+      };
+    }
+
+record_takes : (bytes : List ℕ) (x : Record × List ℕ) → IsBytes bytes → record_at bytes ≡ Ok x → Found bytes x
+unfolding record_at
+record_takes bytes x fits e =
+    let a = bind_ok (head_at bytes) _ x e in
+    let b = bind_ok (test_at a.0) _ x a.2 in
+    let c = bind_ok (signals_at b.0.1) _ x b.2 in
+    let d = bind_ok (instances_at c.0.1) _ x c.2 in
+    let f = bind_ok (events_at c.0.0 (length d.0.0) d.0.1) _ x d.2 in
+    let letters = head_takes bytes a.0 fits a.1 in
+    let test = test_takes a.0 b.0 letters.rest_fits b.1 in
+    let signals = signals_field.takes b.0.1 c.0 test.takes.rest_fits c.1 in
+    let instances = instances_field.takes c.0.1 d.0 signals.takes.rest_fits d.1 in
+    let events = (events_field c.0.0 (length d.0.0) signals.fits instances.fits.count).takes d.0.1 f.0 instances.takes.rest_fits f.1 in
+    let r : Record = record { id = b.0.0.id; status = b.0.0.status; seed = b.0.0.seed; time = b.0.0.time; user = b.0.0.user; signals = c.0.0; instances = d.0.0; events = f.0.0 } in
+    subst (λ (y : Record × List ℕ). Found bytes y) {x = (r, f.0.1)} (ok_is (r, f.0.1) x f.2)
+    (record_made bytes a.0 b.0.1 c.0.1 d.0.1 f.0.1 b.0.0 c.0.0 d.0.0 f.0.0 letters test signals instances events)
+
+record_again : (r : Record) (rest : List ℕ) → IsWithinLimits r → record_at (record_and r rest) ≡ Ok (r, rest)
+unfolding record_at
+record_again r rest within =
+    let signals : AreRows IsSignalRow 4096 r.signals = record { count = within.signal_count; all = within.signals } in
+    let instances : AreRows IsInstRow 1024 r.instances = record { count = within.instance_count; all = within.instances } in
+    let events : AreRows (IsEvent r.signals (length r.instances)) 1048576 r.events = record { count = within.event_count; all = within.events } in
+    let from_instances : List ℕ = instance_table r.instances ++ (event_list r.events ++ rest) in
+    let from_signals : List ℕ = signal_table r.signals ++ from_instances in
+    let test : IsTestRow (test_of r) = record { id = within.id; status = within.status; seed = within.seed; time = within.time; user = within.user } in
+    rw (head_again (test_and (test_of r) from_signals), test_again (test_of r) from_signals test)
+    (last signals_field r.signals from_instances _ signals
+    ∙ last instances_field r.instances (event_list r.events ++ rest) _ instances
+    ∙ last (events_field r.signals (length r.instances) signals within.instance_count) r.events rest _ events)
+
+-- ---- all of the bytes
+
+pub is_encoded : (bytes : List ℕ) (r : Record) → IsBytes bytes → reading bytes ≡ Ok r → Encodes r bytes
+unfolding reading
+is_encoded bytes r fits e =
+    let a = bind_ok (record_at bytes) _ r e in
+    let g = let_pass (eqb (length a.0.1) 0) (Trailing (length a.0.1)) (Ok a.0.0) r a.2 in
+    let nothing : a.0.1 ≡ [] = nil_from_length a.0.1 (eqb-true _ _ g.0) in
+    let found = record_takes bytes a.0 fits a.1 in
+    let all : bytes ≡ spelling a.0.0 = found.parts ∙ ap (record_and a.0.0) nothing ∙ alone a.0.0 in
+    subst (λ (x : Record). Encodes x bytes) {x = a.0.0} (ok_is a.0.0 r g.1) (record { within = found.within; spelled = all })
+
+pub is_read : (bytes : List ℕ) (r : Record) → Encodes r bytes → reading bytes ≡ Ok r
+unfolding reading
+is_read bytes r h =
+    let one : bytes ≡ record_and r [] = h.spelled ∙ sym (alone r) in
+    rw (one, record_again r [] h.within) refl

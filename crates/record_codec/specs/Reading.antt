@@ -1,0 +1,169 @@
+-- Reading the record that bytes begin with, from left to right, with the first fault that is met. The place of a
+-- fault is told by the number of bytes that are left there, its own among them.
+use Rattle.std.specs.Prelude.{◌≡◌, ℕ, zero, suc, ◌+◌, ◌-◌, ◌^◌, List, [], ◌∷◌, length, take, drop, slice_get, Option, Some, None, Result, Ok, Err, Bool, nat_lt, nat_le, ◌==◌, ◌||◌, if◌then◌else◌, ok_or}
+use mathlib.Core.Bool.{◌&&◌}
+use Rattle.std.specs.List.{position}
+use Rattle.std.specs.Int.{Width, w8, w16, w32, w64, byte_len, from_be_bytes}
+use Rattle.record_codec.specs.declared.fault.Fault.{Fault}
+use Rattle.record_codec.specs.declared.fault.Fault.TheVariants.{Short, BadMagic, BadVersion, BadField, TooManyEvents, Trailing, Memory}
+use Rattle.record_codec.specs.declared.fault.RecordFault.{RecordFault}
+use Rattle.record_codec.specs.declared.fault.RecordFault.TheVariants as refusals
+use Rattle.record_codec.specs.declared.record.Record.{Record}
+use Rattle.record_codec.specs.declared.record.TestRow.{TestRow}
+use Rattle.record_codec.specs.declared.record.SignalRow.{SignalRow}
+use Rattle.record_codec.specs.declared.record.InstRow.{InstRow}
+use Rattle.record_codec.specs.declared.record.Event.{Event}
+use Rattle.record_codec.specs.declared.record.Event.TheVariants.{Set, Sample}
+
+infixl 10 ◌>>=◌
+abbrev pub ◌>>=◌ : {A B : Type 0} → Result A Fault → (A → Result B Fault) → Result B Fault
+(Ok x) >>= f = f x
+(Err e) >>= f = Err e
+
+-- What a function returned, seen by view, is what reading gives, unless memory ran out.
+abbrev pub Fails : {Y : Type 0} → Fault → Result Y Fault → Type 0
+Fails Memory read = Unit {0}
+Fails (Short left) read = read ≡ Err (Short left)
+Fails BadMagic read = read ≡ Err BadMagic
+Fails (BadVersion version) read = read ≡ Err (BadVersion version)
+Fails (BadField left) read = read ≡ Err (BadField left)
+Fails (TooManyEvents count) read = read ≡ Err (TooManyEvents count)
+Fails (Trailing left) read = read ≡ Err (Trailing left)
+
+abbrev pub Gives : {X Y : Type 0} → (X → Y) → Result X Fault → Result Y Fault → Type 0
+Gives view (Ok x) read = read ≡ Ok (view x)
+Gives view (Err e) read = Fails e read
+
+-- A field is a value and the bytes behind it.
+abbrev pub number_at : Width → List ℕ → Result (ℕ × List ℕ) Fault
+number_at w bytes = if nat_lt (length bytes) (byte_len w) then Err (Short (length bytes)) else Ok (from_be_bytes w (take (byte_len w) bytes), drop (byte_len w) bytes)
+
+-- a number from least on and below the limit
+unfoldable pub number_within : Width → ℕ → ℕ → List ℕ → Result (ℕ × List ℕ) Fault
+number_within w least limit bytes = do
+  n ← number_at w bytes
+  if nat_le least n.0 && nat_lt n.0 limit then Ok n else Err (BadField (length bytes))
+
+-- no byte of a text whose bytes are from low on
+abbrev pub is_bad : ℕ → ℕ → Bool
+is_bad low byte = nat_lt byte low || nat_le 127 byte
+
+-- the text of this length, where no byte of it is bad
+abbrev pub unless_bad : Option ℕ → ℕ → List ℕ → Result (List ℕ × List ℕ) Fault
+unless_bad None count bytes = Ok (take count bytes, drop count bytes)
+unless_bad (Some bad) count bytes = Err (BadField (length bytes - bad))
+
+-- A text begins at its length.
+unfoldable pub text_at : ℕ → ℕ → ℕ → List ℕ → Result (List ℕ × List ℕ) Fault
+text_at least most low bytes = do
+  n ← number_within w16 least (most + 1) bytes
+  if nat_lt (length n.1) n.0 then Err (Short (length bytes)) else unless_bad (position (is_bad low) (take n.0 n.1)) n.0 n.1
+
+-- the letters CVRC and the version
+unfoldable pub version_at : List ℕ → Result (List ℕ) Fault
+version_at bytes = do
+  version ← number_at w16 bytes
+  if version.0 == 1 then Ok version.1 else Err (BadVersion version.0)
+
+unfoldable pub head_at : List ℕ → Result (List ℕ) Fault
+head_at bytes = do
+  magic ← number_at w32 bytes
+  if magic.0 == 0x43565243 then version_at magic.1 else Err BadMagic
+
+unfoldable pub test_at : List ℕ → Result (TestRow × List ℕ) Fault
+test_at bytes = do
+  id ← text_at 1 255 33 bytes
+  status ← number_within w8 0 4 id.1
+  seed ← number_at w64 status.1
+  time ← number_at w64 seed.1
+  user ← text_at 0 255 32 time.1
+  Ok (record { id = id.0; status = status.0; seed = seed.0; time = time.0; user = user.0 }, user.1)
+
+-- so many of what is read
+unfoldable pub counted : {A : Type 0} → (List ℕ → Result (A × List ℕ) Fault) → ℕ → List ℕ → Result (List A × List ℕ) Fault
+counted read zero bytes = Ok ([], bytes)
+counted read (suc n) bytes = do
+  first ← read bytes
+  others ← counted read n first.1
+  Ok (first.0 ∷ others.0, others.1)
+
+unfoldable pub signal_at : List ℕ → Result (SignalRow × List ℕ) Fault
+signal_at bytes = do
+  name ← text_at 1 1024 33 bytes
+  width ← number_within w8 1 65 name.1
+  sign ← number_within w8 0 2 width.1
+  Ok (record { name = name.0; width = width.0; signed = sign.0 == 1 }, sign.1)
+
+unfoldable pub signals_at : List ℕ → Result (List SignalRow × List ℕ) Fault
+signals_at bytes = do
+  n ← number_within w16 0 4097 bytes
+  counted signal_at n.0 n.1
+
+unfoldable pub instance_at : List ℕ → Result (InstRow × List ℕ) Fault
+instance_at bytes = do
+  name ← text_at 1 1024 33 bytes
+  group ← text_at 1 1024 33 name.1
+  Ok (record { name = name.0; group = group.0 }, group.1)
+
+unfoldable pub instances_at : List ℕ → Result (List InstRow × List ℕ) Fault
+instances_at bytes = do
+  n ← number_within w16 0 1025 bytes
+  counted instance_at n.0 n.1
+
+-- a value of this many bits, which is Unknown behind a 0
+unfoldable pub known_at : ℕ → List ℕ → Result (Option ℕ × List ℕ) Fault
+known_at width bytes = do
+  bits ← number_within w64 0 (2 ^ width) bytes
+  Ok (Some bits.0, bits.1)
+
+unfoldable pub value_at : ℕ → List ℕ → Result (Option ℕ × List ℕ) Fault
+value_at width bytes = do
+  known ← number_within w8 0 2 bytes
+  if known.0 == 0 then Ok (None, known.1) else known_at width known.1
+
+unfoldable pub set_at : List SignalRow → List ℕ → Result (Event × List ℕ) Fault
+set_at signals bytes = do
+  signal ← number_at w16 bytes
+  row ← ok_or (slice_get signals signal.0) (BadField (length bytes))
+  value ← value_at row.width signal.1
+  Ok (Set signal.0 value.0, value.1)
+
+unfoldable pub sample_at : ℕ → List ℕ → Result (Event × List ℕ) Fault
+sample_at instances bytes = do
+  instance ← number_within w16 0 instances bytes
+  Ok (Sample instance.0, instance.1)
+
+unfoldable pub event_at : List SignalRow → ℕ → List ℕ → Result (Event × List ℕ) Fault
+event_at signals instances bytes = do
+  tag ← number_within w8 1 3 bytes
+  if tag.0 == 1 then set_at signals tag.1 else sample_at instances tag.1
+
+unfoldable pub events_at : List SignalRow → ℕ → List ℕ → Result (List Event × List ℕ) Fault
+events_at signals instances bytes = do
+  n ← number_at w32 bytes
+  if nat_lt 1048576 n.0 then Err (TooManyEvents n.0) else counted (event_at signals instances) n.0 n.1
+
+unfoldable pub record_at : List ℕ → Result (Record × List ℕ) Fault
+record_at bytes = do
+  rest ← head_at bytes
+  test ← test_at rest
+  signals ← signals_at test.1
+  instances ← instances_at signals.1
+  events ← events_at signals.0 (length instances.0) instances.1
+  Ok (record { id = test.0.id; status = test.0.status; seed = test.0.seed; time = test.0.time; user = test.0.user; signals = signals.0; instances = instances.0; events = events.0 }, events.1)
+
+-- the record that is all of the bytes
+unfoldable pub reading : List ℕ → Result Record Fault
+reading bytes = do
+  r ← record_at bytes
+  if length r.1 == 0 then Ok r.0 else Err (Trailing (length r.1))
+
+-- how a fault is told for now
+abbrev pub refusal : Fault → RecordFault
+refusal Memory = refusals.Memory
+refusal (Short left) = refusals.Unread
+refusal BadMagic = refusals.Unread
+refusal (BadVersion version) = refusals.Unread
+refusal (BadField left) = refusals.Unread
+refusal (TooManyEvents count) = refusals.Unread
+refusal (Trailing left) = refusals.Unread

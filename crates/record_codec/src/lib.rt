@@ -1,0 +1,17 @@
+//! Records of a simulation as bytes: which signals were set to what, and when each instance was sampled.
+#![tactic(auto)]
+
+mod decoding;
+mod events;
+mod fault;
+mod fields;
+mod reading;
+mod record;
+mod rows;
+
+pub use decoding::decode;
+pub use fault::RecordFault;
+pub use record::{Event, InstRow, Record, SignalRow};
+
+#[cfg(test)]
+mod tests;
