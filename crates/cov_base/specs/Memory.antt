@@ -33,3 +33,19 @@ pub record PlannedFiles : Type 0 where
 -- files as pairs of a name and its bytes
 abbrev pub told : List (String Global × Vec ℕ) → List (List ℕ × List ℕ)
 told files = map (λ file. (string_bytes file.0, file.1.items)) files
+
+-- a link that doesn't fail
+pub record SureWire : Type 0 where
+  pub source : Feed
+  pub sink : Store
+
+-- a link whose reads and writes fail by plans
+pub record PlannedWire : Type 0 where
+  pub source : PlannedFeed
+  pub sink : PlannedStore
+
+-- a door: the links still to be handed out, and how many were
+pub record PlannedLinks : Type 0 where
+  pub links : List PlannedWire
+  pub handed : ℕ
+  pub plan : Plan

@@ -4,13 +4,23 @@
 //! failed. A failure is answered only where that count rose in the call.
 #![tactic(auto)]
 
+mod book;
+mod door;
 mod failed;
+mod gate;
+mod link;
 mod memory;
 mod shelf;
 mod sink;
 mod source;
 
+pub use book::Book;
+pub use door::Door;
 pub use failed::{Failed, Memory};
+pub use gate::{Gate, OpenGate};
+pub use link::{Link, Pair};
+pub use memory::door::MemDoor;
+pub use memory::link::{MemLink, SureLink};
 pub use memory::shelf::{MemShelf, SureShelf};
 pub use memory::sink::{MemSink, SureSink};
 pub use memory::source::{MemSource, SureSource};

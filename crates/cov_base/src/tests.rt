@@ -1,4 +1,6 @@
 //! Each object of the outside in memory, through its trait's bound.
+mod links;
+
 use super::*;
 use std::alloc::Global;
 use std::process::Abort;

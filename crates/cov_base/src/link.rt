@@ -1,0 +1,66 @@
+//! Both ways at once: bytes in and bytes out.
+ghost use Rattle.std.specs.Prelude.{◌≡◌, ℕ, ◌<◌, ◌≤◌, List, Option, length, IfOk};
+ghost use Rattle.std.specs.Io.{ReadsAtMost};
+ghost use Rattle.std.specs.Io.KnownBytes.{ReadConsumes};
+ghost use Rattle.cov_spec.specs.Causes.{HasCause};
+ghost use Rattle.cov_spec.specs.Told.{Writes};
+
+use crate::{Failed, Sink, Source};
+
+/// A connection: a stream of bytes to read and one to write, each with a count of its failures.
+pub trait Link {
+    /// The bytes still to come, where it tells them.
+    ghost left: { Self → Option (List ℕ) };
+
+    /// The bytes written, where it tells them.
+    ghost written: { Self → Option (List ℕ) };
+
+    /// How often a read has failed. The count never falls, and stands still at 2^64-1.
+    ghost read_faults: { Self → ℕ };
+
+    /// How often a write has failed. The count never falls, and stands still at 2^64-1.
+    ghost write_faults: { Self → ℕ };
+
+    /// Reads as a `Source` does. What is written stays.
+    fn read(&mut self, into: &mut [u8]) -> Result<usize, Failed>
+        requires { 0 < length into.old }
+        ensures bound { ReadsAtMost result into.new }
+        ensures bytes { ReadConsumes (left self.old) (left self.new) result into.new }
+        ensures cause { HasCause (read_faults self.old) (read_faults self.new) result }
+        ensures same_written { written self.new ≡ written self.old }
+        ensures same_faults { write_faults self.new ≡ write_faults self.old };
+
+    /// Writes as a `Sink` does. What is left stays.
+    fn write(&mut self, bytes: &[u8]) -> Result<usize, Failed>
+        requires { 0 < length bytes.now }
+        ensures bound { IfOk result (λ n. (0 < n) × (n ≤ length bytes.now)) }
+        ensures bytes { Writes (written self.old) (written self.new) result bytes.now }
+        ensures cause { HasCause (write_faults self.old) (write_faults self.new) result }
+        ensures same_left { left self.new ≡ left self.old }
+        ensures same_faults { read_faults self.new ≡ read_faults self.old };
+}
+
+/// The link of a source and a sink.
+#[derive(Drop)]
+pub struct Pair<'a, S, K> {
+    pub source: &'a mut S,
+    pub sink: &'a mut K,
+}
+
+impl<S: Source, K: Sink> Link for Pair<'_, S, K> {
+    ghost left = { λ pair. S.left pair.source.now };
+
+    ghost written = { λ pair. K.written pair.sink.now };
+
+    ghost read_faults = { λ pair. S.faults pair.source.now };
+
+    ghost write_faults = { λ pair. K.faults pair.sink.now };
+
+    fn read(&mut self, into: &mut [u8]) -> Result<usize, Failed> {
+        self.source.read(into)
+    }
+
+    fn write(&mut self, bytes: &[u8]) -> Result<usize, Failed> {
+        self.sink.write(bytes)
+    }
+}
