@@ -16,9 +16,9 @@ abbrev pub LacksFile : Option (List (List ℕ × List ℕ)) → List ℕ → Typ
 LacksFile None name = ⊥
 LacksFile (Some files) name = file_of files name ≡ None
 
--- the file of that name has this size, above the limit; where the files aren't told, the count rose
+-- the file of that name has this size, which is above the limit; where the files aren't told, the count rose
 abbrev pub HasLongFile : Option (List (List ℕ × List ℕ)) → ℕ → ℕ → List ℕ → ℕ → ℕ → Type 0
-HasLongFile None before now name most size = Rose before now
+HasLongFile None before now name most size = Rose before now × (most < size)
 HasLongFile (Some files) before now name most size = (bytes : List ℕ) × (file_of files name ≡ Some bytes) × (length bytes ≡ size) × (most < size)
 
 -- the answer to a load of a file of at most so many bytes, `before` and `now` being the counts of faults

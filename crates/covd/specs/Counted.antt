@@ -1,5 +1,5 @@
 -- What the files and the standard streams promise beside their traits: they tell no content, and count exactly.
-use Rattle.std.specs.Prelude.{◌≡◌, ℕ, ◌<◌, Option, List, Result, Ok, Err, ⊤}
+use Rattle.std.specs.Prelude.{◌≡◌, ℕ, ◌<◌, Result, Ok, Err, ⊤}
 use Rattle.std.specs.Global.{Vec}
 use Rattle.cov_base.specs.Plan.{one_more}
 use Rattle.cov_base.specs.declared.shelf.ShelfRefusal.{ShelfRefusal}

@@ -43,6 +43,20 @@ fn open<R: Files>(rt: &R, name: &str) -> io::Result<R::File>
     Err(io::Error::from(ErrorKind::TimedOut))
 }
 
+/// What the system says of the file. An interrupted call is made again.
+fn metadata_of<F: OpenFile>(file: &F) -> io::Result<Metadata>
+    ensures { IfErr result (λ e. error_kind e ≢ ErrorKind.Interrupted) }
+{
+    for _ in 0..u64::MAX {
+        match file.metadata() {
+            Ok(metadata) => return Ok(metadata),
+            Err(error) if error.kind() == ErrorKind::Interrupted => {}
+            Err(error) => return Err(error),
+        }
+    }
+    Err(io::Error::from(ErrorKind::TimedOut))
+}
+
 /// The bytes that the system says that the file has. A directory can't be read.
 fn size_of(metadata: &Metadata, most: u64) -> Result<u64, ShelfRefusal>
     ensures size { IsSize metadata.now most result }
@@ -70,7 +84,7 @@ fn append_piece<F: Read>(
     ensures room { length room.new ≡ length room.old }
     ensures bound { IfOk result (λ n. vec_len bytes.new ≤ most) }
     ensures refusal { IfErr result (λ cause. IsUntoldRefusal most cause) }
-    ensures bytes { IfOk result (λ n. (piece : List ℕ) × (bytes.new.items ≡ bytes.old.items ++ piece) × Consumes (F.remaining file.old) (F.remaining file.new) piece) }
+    ensures bytes { IfOk result (λ n. (piece : List ℕ) × (length piece ≡ n) × (bytes.new.items ≡ bytes.old.items ++ piece) × Consumes (F.remaining file.old) (F.remaining file.new) piece) }
     ensures end { IfOk result (λ n. n ≡ 0 → IsAtEnd (F.remaining file.new)) }
 {
     let count = read_again(file, room).map_err(|error| refusal_of(&error))?;
@@ -119,7 +133,7 @@ fn read_file<R: Files>(
     ensures refusal { IfErr result (λ cause. IsUntoldRefusal most cause) }
 {
     let mut file = open(rt, name).map_err(|error| refusal_of(&error))?;
-    let metadata = file.metadata().map_err(|error| refusal_of(&error))?;
+    let metadata = metadata_of(&file).map_err(|error| refusal_of(&error))?;
     let size = size_of(&metadata, most)?;
     read_whole(&mut file, alloc, size, most)
 }

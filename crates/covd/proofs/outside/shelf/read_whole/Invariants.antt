@@ -1,5 +1,5 @@
 -- What was read so far stands in `bytes`.
-use Rattle.std.proofs.Common.{◌≡◌, ◌≤◌, ◌<◌, length, vec_len}
+use Rattle.std.proofs.Common.{◌≤◌, ◌<◌, vec_len}
 use Rattle.std.specs.Io.KnownBytes.{Consumes}
 use Rattle.covd.proofs.outside.shelf.read_whole.Given as goal
 
