@@ -1,0 +1,12 @@
+//! An upload gathered from pieces in any order, and handed over only whole and with the digest that was announced.
+#![tactic(auto)]
+
+mod fault;
+mod held;
+mod stage;
+
+pub use fault::StageFault;
+pub use stage::Stage;
+
+#[cfg(test)]
+mod tests;
