@@ -1,6 +1,10 @@
+pub mod Intervals
 pub mod Loads
 pub mod Memory
 pub mod Plan
+pub mod Sets
+pub mod Stored
 pub use Rattle.cov_spec.specs.Causes
+pub use Rattle.cov_spec.specs.Coverage
 pub use Rattle.cov_spec.specs.Files
 pub use Rattle.cov_spec.specs.Told

@@ -1,4 +1,4 @@
-//! What reaches outside, as traits, and each of them in memory.
+//! Numbers and sets of numbers; and what reaches outside, as traits, and each of them in memory.
 //!
 //! A trait's ghost members say what an object tells (its bytes or files, or nothing of them) and how often it has
 //! failed. A failure is answered only where that count rose in the call.
@@ -8,8 +8,10 @@ mod book;
 mod door;
 mod failed;
 mod gate;
+mod int;
 mod link;
 mod memory;
+mod sets;
 mod shelf;
 mod sink;
 mod source;
@@ -18,12 +20,14 @@ pub use book::Book;
 pub use door::Door;
 pub use failed::{Failed, Memory};
 pub use gate::{Gate, OpenGate};
+pub use int::Int;
 pub use link::{Link, Pair};
 pub use memory::door::MemDoor;
 pub use memory::link::{MemLink, SureLink};
 pub use memory::shelf::{MemShelf, SureShelf};
 pub use memory::sink::{MemSink, SureSink};
 pub use memory::source::{MemSource, SureSource};
+pub use sets::ValueSet;
 pub use shelf::{Shelf, ShelfRefusal};
 pub use sink::Sink;
 pub use source::Source;

@@ -1,0 +1,12 @@
+pub mod Counts
+pub mod Cuts
+pub mod Finds
+pub mod Joins
+pub mod Laws
+pub mod Members
+pub mod Merges
+pub mod Normal
+pub mod Runs
+pub mod Search
+pub mod Sorts
+pub mod Steps

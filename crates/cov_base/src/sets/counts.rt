@@ -1,0 +1,64 @@
+//! How many numbers stand before each interval.
+ghost use Rattle.std.specs.Prelude.{◌≡◌, ℕ, ◌<◌, ◌≤◌, ◌≤ℤ◌, IfOk, length, slice_index, slice_get};
+ghost use Rattle.cov_base.specs.Sets.{IsNormalForm, size, written};
+ghost use Rattle.cov_base.specs.Stored.{IsStored};
+ghost use Rattle.cov_base.specs.Intervals.{starts, total};
+
+use crate::Memory;
+use crate::int::Int;
+use std::alloc::Global;
+
+/// For each interval how many numbers stand before it, and how many there are.
+#[derive(Drop, Debug)]
+pub(super) struct Counts {
+    pub(super) starts: Vec<u128>,
+    pub(super) total: u128,
+}
+
+/// How many numbers stand from `low` to `high`.
+pub(super) fn size_of(low: Int, high: Int) -> u128
+    requires { low ≤ℤ high }
+    ensures { result ≡ size (low, high) }
+{
+    (high.get() - low.get() + 1) as u128
+}
+
+/// Counts the numbers of intervals in normal form.
+pub(super) fn count(alloc: Global, intervals: &[(Int, Int)]) -> Result<Counts, Memory>
+    requires { IsNormalForm intervals.now }
+    ensures starts { IfOk result (λ counts. counts.starts.items ≡ starts 0 intervals.now) }
+    ensures total { IfOk result (λ counts. counts.total ≡ total 0 intervals.now) }
+{
+    let mut starts = Vec::new(alloc);
+    let mut total = 0;
+    for range in intervals {
+        starts.push(total)?;
+        total += size_of(range.0, range.1);
+    }
+    Ok(Counts { starts, total })
+}
+
+/// The place of the last interval before which at most k numbers stand.
+pub(super) fn place_of(starts: &[u128], k: u128) -> usize
+    requires some { 0 < length starts.now }
+    requires first { slice_index starts.now 0 ≤ k }
+    requires ascends { (i j : ℕ) → i ≤ j → j < length starts.now → slice_index starts.now i ≤ slice_index starts.now j }
+    ensures within { result < length starts.now }
+    ensures reached { slice_index starts.now result ≤ k }
+    ensures above { (t : ℕ) → result < t → t < length starts.now → k < slice_index starts.now t }
+{
+    starts.partition_point(|start| *start <= k) - 1
+}
+
+/// The number at place k.
+pub(super) fn nth(intervals: &[(Int, Int)], counts: &Counts, k: u128) -> Option<Int>
+    requires { IsStored intervals.now counts.now.starts.items counts.now.total }
+    ensures { result ≡ slice_get (written intervals.now) k }
+{
+    if k >= counts.total {
+        return None;
+    }
+    let starts = counts.starts.as_slice();
+    let place = place_of(starts, k);
+    Some(intervals[place].0.plus(k - starts[place]))
+}

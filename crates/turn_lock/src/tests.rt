@@ -1,0 +1,295 @@
+ghost use Rattle.std.specs.Prelude.{◌≡◌, ◌≤◌, ◌-◌, IfSome};
+ghost use Rattle.turn_lock.specs.Seats.{IsSeatOf, free, left};
+
+use super::*;
+use cov_base::Book;
+use std::alloc::{AllocError, Global};
+use std::sync::Wait;
+use std::test::*;
+use std::thread::for_each_mut;
+
+#[derive(Clone, Copy, PartialEq, Eq, Debug)]
+struct Entry {
+    number: u32,
+    /// How many entries its caller had made before.
+    at: u32,
+}
+
+/// A list of numbered entries.
+#[derive(Drop)]
+struct Entries {
+    items: Vec<Entry>,
+}
+
+impl Book for Entries {
+    type Base = ();
+
+    type Entry = Entry;
+
+    ghost base = { λ _. tt };
+
+    ghost entries = { λ book. book.items.items };
+
+    ghost number = { λ entry. entry.number };
+
+    ghost sound = { λ _ _. Unit {0} };
+
+    ghost is_sound = { λ _. tt };
+
+    fn len(&self) -> u64 {
+        self.items.len() as u64
+    }
+}
+
+impl Entries {
+    fn of(alloc: Global, numbers: &[u32]) -> Result<Entries, AllocError> {
+        let mut items = Vec::new(alloc);
+        for number in numbers {
+            items.push(Entry {
+                number: *number,
+                at: 0,
+            })?;
+        }
+        Ok(Entries { items })
+    }
+
+    // The entries of one number, which stand in the order in which they were made.
+    fn count_in_order(&self, number: u32) -> Option<u32> {
+        let mut next = 0;
+        for entry in self.items.iter().filter(|entry| entry.number == number) {
+            if entry.at != next {
+                return None;
+            }
+            next = next.checked_add(1)?;
+        }
+        Some(next)
+    }
+}
+
+// Takes a turn, and adds an entry of the seat's number.
+fn add<R: Wait>(rt: &R, lock: &TurnLock<Entries>, seat: Seat<Entries>, at: u32) -> Seat<Entries>
+    requires { IsSeatOf (λ _. tt) (λ _ _. Unit {0}) lock.now seat }
+    ensures { IsSeatOf (λ _. tt) (λ _ _. Unit {0}) lock.now result }
+{
+    let number = seat.number();
+    let (turn, mut book) = lock.take(rt, seat);
+    let _ = book.items.push(Entry { number, at });
+    lock.give(turn, book)
+}
+
+fn add_many<R: Wait>(
+    rt: &R,
+    lock: &TurnLock<Entries>,
+    mut seat: Seat<Entries>,
+    from: u32,
+    to: u32,
+) -> Seat<Entries>
+    requires { IsSeatOf (λ _. tt) (λ _ _. Unit {0}) lock.now seat }
+    ensures { IsSeatOf (λ _. tt) (λ _ _. Unit {0}) lock.now result }
+{
+    for at in from..to {
+        seat = add(rt, lock, seat, at);
+    }
+    seat
+}
+
+#[test]
+fn seats_meet_and_end(rt: HostRuntime) -> Result<(), Fail> {
+    let book = Entries::of(rt.alloc(), &[0, 1, 7])?;
+    let (lock, mut first) = TurnLock::open(rt.alloc(), book, 2)?;
+    assert_eq!(rt; (first.number(), first.seen()), (0, 3));
+    assert_eq!(rt; (first.free(), first.left()), (1, 4_294_967_295));
+    let second = lock.split(&mut first);
+    assert_eq!(rt; (second.number(), second.seen()), (1, 3));
+    assert_eq!(rt; (second.free(), second.left()), (0, 0));
+    assert_eq!(rt; (first.free(), first.left()), (0, 4_294_967_294));
+    let mut second = add(&rt, &lock, second, 0);
+    assert_eq!(rt; (first.seen(), second.seen()), (3, 4));
+    lock.meet(&mut first, &mut second);
+    assert_eq!(rt; (first.seen(), second.seen()), (4, 4));
+    lock.end(second, &mut first);
+    assert_eq!(rt; (first.number(), first.seen()), (0, 4));
+    assert_eq!(rt; (first.free(), first.left()), (1, 4_294_967_294));
+    let third = lock.split(&mut first);
+    assert_eq!(rt; (third.number(), third.seen()), (2, 4));
+    lock.leave(third);
+    lock.leave(first);
+    Ok(())
+}
+
+// Two seats of one thread, as long as they are there.
+struct Desk {
+    first: Option<Seat<Entries>>,
+    second: Option<Seat<Entries>>,
+}
+
+fn clear(mut desks: Vec<Desk>, lock: &TurnLock<Entries>) {
+    while let Some(desk) = desks.pop() {
+        let Desk { first, second } = desk;
+        if let Some(seat) = first {
+            lock.leave(seat);
+        }
+        if let Some(seat) = second {
+            lock.leave(seat);
+        }
+    }
+    desks.destroy_empty();
+}
+
+const ROUNDS: u32 = 50;
+
+// Both seats add entries and meet now and then. The second ends, and the first goes on.
+fn add_in_pairs<R: Wait>(
+    rt: &R,
+    lock: &TurnLock<Entries>,
+    mut first: Seat<Entries>,
+    mut second: Seat<Entries>,
+)
+    requires first { IsSeatOf (λ _. tt) (λ _ _. Unit {0}) lock.now first }
+    requires second { IsSeatOf (λ _. tt) (λ _ _. Unit {0}) lock.now second }
+{
+    for at in 0..ROUNDS {
+        first = add(rt, lock, first, at);
+        second = add(rt, lock, second, at);
+        if at % 4 == 0 {
+            lock.meet(&mut first, &mut second);
+        }
+    }
+    lock.end(second, &mut first);
+    lock.leave(add_many(rt, lock, first, ROUNDS, 2 * ROUNDS));
+}
+
+// In each round the seat makes another, both add entries, they meet, and the other ends.
+fn add_with_guests<R: Wait>(rt: &R, lock: &TurnLock<Entries>, mut host: Seat<Entries>)
+    requires { IsSeatOf (λ _. tt) (λ _ _. Unit {0}) lock.now host }
+{
+    for at in 0..ROUNDS {
+        if host.free() > 0 && host.left() > 0 {
+            let guest = lock.split(&mut host);
+            host = add(rt, lock, host, at);
+            let mut guest = add_many(rt, lock, guest, 0, 3);
+            lock.meet(&mut host, &mut guest);
+            lock.end(guest, &mut host);
+        }
+    }
+    lock.leave(host);
+}
+
+fn work<R: Wait>(rt: &R, lock: &TurnLock<Entries>, desk: &mut Desk)
+    requires first { IfSome desk.old.first (λ s. IsSeatOf (λ _. tt) (λ _ _. Unit {0}) lock.now s) }
+    requires second { IfSome desk.old.second (λ s. IsSeatOf (λ _. tt) (λ _ _. Unit {0}) lock.now s) }
+{
+    if let Some(first) = desk.first.take() {
+        match desk.second.take() {
+            Some(second) => add_in_pairs(rt, lock, first, second),
+            None => add_with_guests(rt, lock, first),
+        }
+    }
+}
+
+fn add_alone<R: Wait>(rt: &R, lock: &TurnLock<Entries>, desk: &mut Desk)
+    requires { IfSome desk.old.first (λ s. IsSeatOf (λ _. tt) (λ _ _. Unit {0}) lock.now s) }
+{
+    if let Some(seat) = desk.first.take() {
+        lock.leave(add_many(rt, lock, seat, 0, 1000));
+    }
+}
+
+#[test]
+fn two_threads(rt: HostRuntime) -> Result<(), Fail> {
+    let book = Entries::of(rt.alloc(), &[])?;
+    let (lock, mut first) = TurnLock::open(rt.alloc(), book, 3)?;
+    let Ok(mut seats) = Vec::with_capacity(rt.alloc(), 2) else {
+        lock.leave(first);
+        return Err("no memory".into());
+    };
+    seats.push_reserved(Desk {
+        first: Some(lock.split(&mut first)),
+        second: None,
+    });
+    seats.push_reserved(Desk {
+        first: Some(lock.split(&mut first)),
+        second: None,
+    });
+    for_each_mut(
+        &rt,
+        seats.as_mut_slice(),
+        2,
+        &|_, desk| { add_alone(&rt, &lock, desk) },
+    );
+    clear(seats, &lock);
+    let (turn, book) = lock.take(&rt, first);
+    let counts = (book.len(), book.count_in_order(1), book.count_in_order(2));
+    lock.leave(lock.give(turn, book));
+    assert_eq!(rt; counts, (2000, Some(1000), Some(1000)));
+    Ok(())
+}
+
+// A desk with two new seats.
+fn pair(lock: &TurnLock<Entries>, first: &mut Seat<Entries>) -> Desk
+    requires seat { IsSeatOf (λ _. tt) (λ _ _. Unit {0}) lock.now first.old }
+    requires room { (2 ≤ free first.old) × (2 ≤ left first.old) }
+    ensures seat { IsSeatOf (λ _. tt) (λ _ _. Unit {0}) lock.now first.new }
+    ensures room { (free first.new ≡ free first.old - 2) × (left first.new ≡ left first.old - 2) }
+    ensures first { IfSome result.first (λ s. IsSeatOf (λ _. tt) (λ _ _. Unit {0}) lock.now s) }
+    ensures second { IfSome result.second (λ s. IsSeatOf (λ _. tt) (λ _ _. Unit {0}) lock.now s) }
+{
+    Desk {
+        first: Some(lock.split(first)),
+        second: Some(lock.split(first)),
+    }
+}
+
+#[test]
+fn four_threads(rt: HostRuntime) -> Result<(), Fail> {
+    let book = Entries::of(rt.alloc(), &[])?;
+    let (lock, mut first) = TurnLock::open(rt.alloc(), book, 9)?;
+    let Ok(mut desks) = Vec::with_capacity(rt.alloc(), 4) else {
+        lock.leave(first);
+        return Err("no memory".into());
+    };
+    let reader = lock.split(&mut first);
+    desks.push_reserved(pair(&lock, &mut first));
+    desks.push_reserved(pair(&lock, &mut first));
+    desks.push_reserved(pair(&lock, &mut first));
+    desks.push_reserved(Desk {
+        first: Some(first),
+        second: None,
+    });
+    for_each_mut(
+        &rt,
+        desks.as_mut_slice(),
+        4,
+        &|_, desk| { work(&rt, &lock, desk) },
+    );
+    clear(desks, &lock);
+    let (turn, book) = lock.take(&rt, reader);
+    let counts = [
+        book.count_in_order(0),
+        book.count_in_order(1),
+        book.count_in_order(2),
+        book.count_in_order(3),
+        book.count_in_order(4),
+        book.count_in_order(5),
+        book.count_in_order(6),
+        book.count_in_order(7),
+    ];
+    let guests = (8..58).all(|number| book.count_in_order(number) == Some(3));
+    let len = book.len();
+    lock.leave(lock.give(turn, book));
+    assert_eq!(rt;
+        counts,
+        [
+            Some(50),
+            Some(0),
+            Some(100),
+            Some(50),
+            Some(100),
+            Some(50),
+            Some(100),
+            Some(50)
+        ]
+    );
+    assert_eq!(rt; (guests, len), (true, 650));
+    Ok(())
+}
