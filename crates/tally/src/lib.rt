@@ -1,8 +1,10 @@
 //! The counts of one test: a row for each bin that was hit.
 #![tactic(auto)]
 
+mod ranked;
 mod tally;
 
+pub use ranked::Ranked;
 pub use tally::Tally;
 
 #[cfg(test)]

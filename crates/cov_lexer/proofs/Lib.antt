@@ -1,0 +1,6 @@
+pub mod Tables
+pub mod Fitting
+pub mod Begins
+pub mod Found
+pub mod Numbers
+pub mod Covering

@@ -1,0 +1,180 @@
+-- From a row of a ranking to the next.
+use Rattle.std.proofs.Common.{◌≡◌, ℕ, zero, suc, ◌+◌, ◌-◌, ◌<◌, min, List, [], ◌∷◌, ◌++◌, length, get_or, set, take, drop, refl, sym, ap, subst, ◌∙◌, arith, inl, inr, Option, Some, None, Bool, true, false}
+use Rattle.std.specs.Prelude.{map, slice_index, slice_index_or, replicate, ◌||◌, ◌==◌}
+use Rattle.std.specs.List.{sum_by}
+use Rattle.std.proofs.lemmas.List.{map-append, length-map, get_or-map, get_or-set_same, get_or-set_other, take-append-le, take_all}
+use Rattle.std.proofs.lemmas.List.Sums.{sum_by-cons, sum_by-append}
+use Rattle.std.proofs.lemmas.List.Folds.{list_any-append}
+use Rattle.std.proofs.lemmas.Bool.{cases_eq, eq-eqb, ne_eqb}
+use Rattle.tally.specs.Rows.{count_in}
+use Rattle.tally.specs.declared.ranked.Ranked.{Ranked}
+use Rattle.rank_report.specs.Ranking.{Test, total, worth, test_at, tests_of, is_taken, gain_at, IsNext, IsGreedy, none, then, IsRanking}
+use Rattle.rank_report.specs.Steps.{added, less, open_gain, IsBestRow, IsBest}
+use Rattle.rank_report.proofs.Greatest.{open_here, taken_here}
+
+-- what is missing of the wanted hits after the tests
+abbrev pub missing_of : List (ℕ × ℕ) → List Test → List (ℕ × ℕ)
+missing_of wanted tests = map (λ (pair : ℕ × ℕ). (pair.0, pair.1 - total tests pair.0)) wanted
+
+total_more : (tests : List Test) (test : Test) (bin : ℕ) → total (tests ++ (test ∷ [])) bin ≡ total tests bin + count_in test bin
+total_more tests test bin = omega (arith, sum_by-append (λ (test : Test). count_in test bin) tests (test ∷ []))
+
+raised : (wanted : List (ℕ × ℕ)) (tests : List Test) (test : Test) → worth wanted (tests ++ (test ∷ [])) ≡ worth wanted tests + added test (missing_of wanted tests)
+raised [] tests test = refl
+raised (pair ∷ wanted) tests test =
+    let here : min pair.1 (total (tests ++ (test ∷ [])) pair.0) ≡ min pair.1 (total tests pair.0) + min (pair.1 - total tests pair.0) (count_in test pair.0) = ap (min pair.1) (total_more tests test pair.0) ∙ parted pair.1 (total tests pair.0) (count_in test pair.0) in
+    let rest = raised wanted tests test in
+    let a = sum_by-cons (λ (pair : ℕ × ℕ). min pair.1 (total (tests ++ (test ∷ [])) pair.0)) pair wanted in
+    let b = sum_by-cons (λ (pair : ℕ × ℕ). min pair.1 (total tests pair.0)) pair wanted in
+    let c = sum_by-cons (λ (pair : ℕ × ℕ). min pair.1 (count_in test pair.0)) (pair.0, pair.1 - total tests pair.0) (missing_of wanted tests) in
+    omega (arith, here, rest, a, b, c)
+  where
+    parted : (a s c : ℕ) → min a (s + c) ≡ min a s + min (a - s) c
+    parted a s c = omega arith
+
+-- what was missing is met or still missing
+pub shrinks : (test : Test) (missing : List (ℕ × ℕ)) → sum_by (λ (pair : ℕ × ℕ). pair.1) (less test missing) + added test missing ≡ sum_by (λ (pair : ℕ × ℕ). pair.1) missing
+shrinks test [] = refl
+shrinks test (pair ∷ missing) =
+    let rest = shrinks test missing in
+    let a = sum_by-cons (λ (pair : ℕ × ℕ). pair.1) (pair.0, pair.1 - count_in test pair.0) (less test missing) in
+    let b = sum_by-cons (λ (pair : ℕ × ℕ). min pair.1 (count_in test pair.0)) pair missing in
+    let c = sum_by-cons (λ (pair : ℕ × ℕ). pair.1) pair missing in
+    omega (arith, rest, a, b, c)
+
+less_missing : (wanted : List (ℕ × ℕ)) (tests : List Test) (test : Test) → less test (missing_of wanted tests) ≡ missing_of wanted (tests ++ (test ∷ []))
+less_missing [] tests test = refl
+less_missing (pair ∷ wanted) tests test = joined (omega (arith, total_more tests test pair.0)) (less_missing wanted tests test)
+  where
+    joined : {n m : ℕ} {xs ys : List (ℕ × ℕ)} → n ≡ m → xs ≡ ys → (pair.0, n) ∷ xs ≡ (pair.0, m) ∷ ys
+    joined {n} {m} {xs} {ys} e f = rw (e, f) refl
+
+missing_first : (wanted : List (ℕ × ℕ)) → wanted ≡ missing_of wanted []
+missing_first [] = refl
+missing_first (pair ∷ wanted) = joined (omega arith) (missing_first wanted)
+  where
+    joined : {n : ℕ} {xs ys : List (ℕ × ℕ)} → pair.1 ≡ n → xs ≡ ys → pair ∷ xs ≡ (pair.0, n) ∷ ys
+    joined {n} {xs} {ys} e f = rw (← e, f) refl
+
+-- ---- what the loop keeps
+
+pub record Reached (tests : List Test) (wanted : List (ℕ × ℕ)) (ranked : List Ranked) (missing : List (ℕ × ℕ)) (taken : List Bool) : Type 0 where
+  pub greedy : IsGreedy tests wanted ranked
+  pub lacks : missing ≡ missing_of wanted (tests_of tests ranked)
+  pub marks : (place : ℕ) → place < length tests → slice_index_or taken place false ≡ is_taken ranked place
+
+module _ (tests : List Test) (wanted : List (ℕ × ℕ)) (ranked : List Ranked) (missing : List (ℕ × ℕ)) (taken : List Bool) (r : Reached tests wanted ranked missing taken) where
+  gain_is : (place : ℕ) → place < length tests → slice_index (map (λ test. added test missing) tests) place ≡ gain_at tests wanted ranked place
+  gain_is place lt =
+      let a : slice_index (map (λ test. added test missing) tests) place ≡ added (test_at tests place) missing = get_or-map (λ test. added test missing) tests place [] 0 lt in
+      let b = raised wanted (tests_of tests ranked) (test_at tests place) in
+      let c : added (test_at tests place) missing ≡ added (test_at tests place) (missing_of wanted (tests_of tests ranked)) = ap (added (test_at tests place)) r.lacks in
+      omega (arith, a, b, c)
+
+  open_is : (place : ℕ) → place < length tests → is_taken ranked place ≡ false → open_gain (map (λ test. added test missing) tests) taken place ≡ gain_at tests wanted ranked place
+  open_is place lt free = open_here (map (λ test. added test missing) tests) taken place (r.marks place lt ∙ free) ∙ gain_is place lt
+
+  open_zero : (place : ℕ) → place < length tests → is_taken ranked place ≡ true → open_gain (map (λ test. added test missing) tests) taken place ≡ 0
+  open_zero place lt gone = taken_here (map (λ test. added test missing) tests) taken place (r.marks place lt ∙ gone)
+
+  pub ends : ((place : ℕ) → place < length (map (λ test. added test missing) tests) → open_gain (map (λ test. added test missing) tests) taken place ≡ 0) → IsRanking tests wanted ranked
+  ends none_left = record {
+    greedy = r.greedy;
+    end = λ place lt free. sym (open_is place lt free) ∙ none_left place (omega (arith, length-map tests (λ test. added test missing)));
+  }
+
+  module _ (row : Ranked) (b : IsBestRow (map (λ test. added test missing) tests) taken row) where
+    pub row_inside : row.test < length tests
+    row_inside = omega (arith, b.inside, length-map tests (λ test. added test missing))
+
+    row_free : (t : Bool) → is_taken ranked row.test ≡ t → is_taken ranked row.test ≡ false
+    row_free false e = e
+    row_free true e = let z = open_zero row.test row_inside e in absurd (omega (arith, z, b.is, b.some))
+
+    free : is_taken ranked row.test ≡ false
+    free = row_free (is_taken ranked row.test) refl
+
+    is_next : IsNext tests wanted ranked row
+    is_next = record {
+      inside = row_inside;
+      left = free;
+      gains = b.is ∙ open_is row.test row_inside free;
+      some = b.some;
+      greatest = λ place lt left. let e = open_is place lt left in let g = b.greatest place (omega (arith, length-map tests (λ test. added test missing))) in omega (arith, e, g);
+      earliest = λ place lt left. let e = open_is place (omega (arith, row_inside)) left in let g = b.earliest place lt in omega (arith, e, g);
+    }
+
+    tests_more : tests_of tests (ranked ++ (row ∷ [])) ≡ tests_of tests ranked ++ (test_at tests row.test ∷ [])
+    tests_more = map-append (λ row. test_at tests row.test) ranked (row ∷ [])
+
+    taken_more : (place : ℕ) → is_taken (ranked ++ (row ∷ [])) place ≡ (is_taken ranked place || ((row.test == place) || false))
+    taken_more place = list_any-append (λ row. row.test == place) ranked (row ∷ [])
+
+    or_true : (b : Bool) → (b || (true || false)) ≡ true
+    or_true true = refl
+    or_true false = refl
+
+    or_false : (b : Bool) → (b || (false || false)) ≡ b
+    or_false true = refl
+    or_false false = refl
+
+    marks_more : (n : ℕ) → length taken ≡ n → n ≡ length tests → (place : ℕ) → place < length tests → slice_index_or (set taken row.test true) place false ≡ is_taken (ranked ++ (row ∷ [])) place
+    marks_more n long same place lt = elim (cases_eq row.test place) [
+      | inl e ↦ subst (λ (k : ℕ). slice_index_or (set taken row.test true) k false ≡ is_taken (ranked ++ (row ∷ [])) k) e (get_or-set_same taken row.test true false (omega (arith, row_inside)) ∙ sym (taken_more row.test ∙ rw (eq-eqb row.test row.test refl) (or_true (is_taken ranked row.test))))
+      | inr ne ↦ get_or-set_other taken row.test place true false (λ e. ne (sym e)) ∙ (r.marks place lt ∙ sym (taken_more place ∙ rw (ne_eqb row.test place ne) (or_false (is_taken ranked place))))
+    ]
+
+    pub one_more : (n : ℕ) → length taken ≡ n → n ≡ length tests → Reached tests wanted (ranked ++ (row ∷ [])) (less (test_at tests row.test) missing) (set taken row.test true)
+    one_more n long same = record {
+      greedy = then r.greedy is_next;
+      lacks = ap (less (test_at tests row.test)) r.lacks ∙ (less_missing wanted (tests_of tests ranked) (test_at tests row.test) ∙ ap (missing_of wanted) (sym tests_more));
+      marks = marks_more n long same;
+    }
+
+    -- what is missing in all becomes less
+    pub falls : sum_by (λ (pair : ℕ × ℕ). pair.1) (less (test_at tests row.test) missing) < sum_by (λ (pair : ℕ × ℕ). pair.1) missing
+    falls =
+        let a : slice_index (map (λ test. added test missing) tests) row.test ≡ added (test_at tests row.test) missing = get_or-map (λ test. added test missing) tests row.test [] 0 row_inside in
+        let o : open_gain (map (λ test. added test missing) tests) taken row.test ≡ slice_index (map (λ test. added test missing) tests) row.test = open_here (map (λ test. added test missing) tests) taken row.test (r.marks row.test row_inside ∙ free) in
+        omega (arith, shrinks (test_at tests row.test) missing, a, o, b.is, b.some)
+
+map_map : {X : Type 0} (f : Test → ℕ) (h : X → Test) (xs : List X) → map (λ x. f (h x)) xs ≡ map f (map h xs)
+map_map f h [] = refl
+map_map f h (x ∷ xs) = ap (λ (l : List ℕ). f (h x) ∷ l) (map_map f h xs)
+
+-- the best row of tests that are kept in places of their own
+pub best_of : {X : Type 0} (h : X → Test) (xs : List X) (missing' missing : List (ℕ × ℕ)) (taken' taken : List Bool) (next : Option Ranked) (row : Ranked) → missing' ≡ missing → taken' ≡ taken → next ≡ Some row → IsBest (map (λ x. added (h x) missing') xs) taken' next → IsBestRow (map (λ test. added test missing) (map h xs)) taken row
+best_of h xs missing' missing taken' taken next row e f n b = rw (← map_map (λ test. added test missing) h xs, ← e, ← f) (rw n at b)
+
+pub none_of : {X : Type 0} (h : X → Test) (xs : List X) (missing' missing : List (ℕ × ℕ)) (taken' taken : List Bool) (next : Option Ranked) → missing' ≡ missing → taken' ≡ taken → next ≡ None → IsBest (map (λ x. added (h x) missing') xs) taken' next → IsBest (map (λ test. added test missing) (map h xs)) taken None
+none_of h xs missing' missing taken' taken next e f n b = rw (← map_map (λ test. added test missing) h xs, ← e, ← f) (rw n at b)
+
+pub kept_at : {X : Type 0} (h : X → Test) (xs : List X) (i : ℕ) (x : X) (test : Test) → x ≡ get_or xs i x → i < length xs → test ≡ h x → test ≡ test_at (map h xs) i
+kept_at h xs i x test p lt e = e ∙ (ap h p ∙ sym (get_or-map h xs i x [] lt))
+
+-- a vector after its items are written
+pub written : {A : Type 0} (n : ℕ) (xs ys : List A) → length xs ≡ n → take n (xs ++ drop (length xs) ys) ≡ xs
+written n xs ys e = take-append-le n xs (drop (length xs) ys) (omega arith) ∙ take_all n xs (omega arith)
+
+pub next_reached : (tests : List Test) (wanted : List (ℕ × ℕ)) (ranked ranked' : List Ranked) (missing missing' : List (ℕ × ℕ)) (taken : List Bool) (row : Ranked) (test : Test) → Reached tests wanted ranked missing taken → IsBestRow (map (λ test. added test missing) tests) taken row → length taken ≡ length tests
+    → ranked' ≡ ranked ++ (row ∷ []) → test ≡ test_at tests row.test → missing' ≡ less test missing → Reached tests wanted ranked' missing' (set taken row.test true)
+next_reached tests wanted ranked ranked' missing missing' taken row test r b same e f g = rw (e, g, f) (one_more tests wanted ranked missing taken r row b (length taken) refl same)
+
+pub next_falls : (tests : List Test) (wanted : List (ℕ × ℕ)) (ranked : List Ranked) (missing missing' : List (ℕ × ℕ)) (taken : List Bool) (row : Ranked) (test : Test) → Reached tests wanted ranked missing taken → IsBestRow (map (λ test. added test missing) tests) taken row
+    → test ≡ test_at tests row.test → missing' ≡ less test missing → sum_by (λ (pair : ℕ × ℕ). pair.1) missing' < sum_by (λ (pair : ℕ × ℕ). pair.1) missing
+next_falls tests wanted ranked missing missing' taken row test r b f g = rw (g, f) (falls tests wanted ranked missing taken r row b)
+
+pub first_reached : (tests : List Test) (wanted : List (ℕ × ℕ)) (n : ℕ) → Reached tests wanted [] wanted (replicate n false)
+first_reached tests wanted n = record {
+  greedy = none;
+  lacks = missing_first wanted;
+  marks = λ place lt. unmarked n place;
+}
+  where
+    unmarked : (n place : ℕ) → get_or (replicate n false) place false ≡ false
+    unmarked zero place = refl
+    unmarked (suc n) zero = refl
+    unmarked (suc n) (suc place) = unmarked n place
+
+pub started : (tests : List Test) (wanted : List (ℕ × ℕ)) (n : ℕ) (ranked : List Ranked) (missing : List (ℕ × ℕ)) (taken : List Bool) → ranked ≡ [] → missing ≡ wanted → taken ≡ replicate n false → Reached tests wanted ranked missing taken
+started tests wanted n ranked missing taken e f g = rw (e, f, g) (first_reached tests wanted n)

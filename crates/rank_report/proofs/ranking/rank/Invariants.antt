@@ -1,0 +1,16 @@
+use Rattle.std.proofs.Common.{◌≡◌, ℕ, length}
+use Rattle.std.specs.Prelude.{map}
+use Rattle.std.specs.List.{sum_by}
+use Rattle.std.specs.Arc.{arc_value}
+use Rattle.rank_report.proofs.RankLemmas.{Reached}
+use Rattle.rank_report.proofs.ranking.rank.Given as goal
+
+abbrev pub invariant-rows : goal.invariant-rows
+invariant-rows g l = record {
+  reached : Reached (map arc_value l.tests) l.wanted l.ranked.items l.missing.items l.taken.items;
+  marked : length l.taken.items ≡ length l.tests;
+  paired : length l.missing.items ≡ length l.wanted;
+}
+
+abbrev pub decreases-rows : goal.decreases-rows
+decreases-rows g l = sum_by (λ (pair : ℕ × ℕ). pair.1) l.missing.items

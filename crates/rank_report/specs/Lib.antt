@@ -1,0 +1,4 @@
+pub mod Lines
+pub mod Ranking
+pub mod Steps
+pub use Rattle.tally.specs.Rows

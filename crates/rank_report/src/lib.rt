@@ -1,0 +1,12 @@
+//! Which tests add most to the coverage that is wanted, in greedy order.
+#![tactic(auto)]
+
+mod lines;
+mod missing;
+mod ranking;
+
+pub use lines::rank_lines;
+pub use ranking::rank;
+
+#[cfg(test)]
+mod tests;
