@@ -6,6 +6,8 @@ pub mod Histograms
 pub mod Lists
 pub mod NamesDiffer
 pub mod OneAnswer
+pub mod Records
+pub mod Refusals
 pub mod Rules
 pub mod Runs
 pub mod Sole

@@ -1,6 +1,6 @@
 -- Told files and a shelf that didn't fail leave one status and one text to the words.
 use Rattle.std.proofs.Common.{◌≡◌, ℕ, ◌<◌, ◌≤◌, List, [], ◌∷◌, length, take, Some, None, inl, inr, refl, sym, ap, subst, ◌∙◌, arith}
-use Rattle.std.specs.Prelude.{◌⊎◌, slice_index_or, Result, Ok}
+use Rattle.std.specs.Prelude.{◌⊎◌, slice_index_or}
 use Rattle.cov_spec.specs.Causes.{Rose}
 use Rattle.cov_spec.specs.Coverage.{Sample, Hit}
 use Rattle.cov_spec.specs.Files.{file_of}
@@ -14,17 +14,10 @@ use Rattle.covd_core.specs.declared.status.Status.{Status}
 use Rattle.covd_core.specs.declared.status.Status.TheVariants as status
 use Rattle.covd_core.specs.Form.{IsDesign}
 use Rattle.covd_core.specs.Tally.{point, rule_of, AreCounts, IsTally}
-use Rattle.covd_core.specs.Lines.{count_text, design_refused_text, record_refused_text, cannot_read_text, too_long_text}
-use Rattle.covd_core.specs.Command.{Files, design_most, record_most, IsCountCommand, NotLoaded, HasDesign, HasNoDesign, HasRecord, HasNoRecord, IsCountText, Counts, Answers, HasOneAnswer}
+use Rattle.covd_core.specs.Lines.{count_text, design_refused_text, cannot_read_text, too_long_text}
+use Rattle.covd_core.specs.Command.{Files, design_most, record_most, IsCountCommand, NotLoaded, HasDesign, HasNoDesign, HasRecord, HasNoRecord, IsCountText, IsRefusedText, Counts, Answers, HasOneAnswer}
 use Rattle.covd_core.proofs.Sole.{one_design}
-
--- bytes spell one record
-abbrev pub SpellsOne : Type 0
-SpellsOne = (r q : Record) (bytes : List ℕ) → Encodes r bytes → Encodes q bytes → r ≡ q
-
--- they do where a reading of bytes gives each record that they spell
-pub one_from_reading : {E : Type 0} (reading : List ℕ → Result Record E) → ((bytes : List ℕ) (r : Record) → Encodes r bytes → reading bytes ≡ Ok r) → SpellsOne
-one_from_reading reading reads r q bytes h k = let e = sym (reads bytes r h) ∙ reads bytes q k in cc e
+use Rattle.covd_core.proofs.Refusals.{IsReading, refused_text_one}
 
 abbrev Told : Type 0
 Told = List (List ℕ × List ℕ)
@@ -94,7 +87,7 @@ module _ (all : Told) (name : List ℕ) where
 
 -- ---- the two files
 
-module _ (spells : SpellsOne) (all : Told) where
+module _ (spells : IsReading) (all : Told) where
   design_one : (name : List ℕ) (d e : Design) → HasDesign (Some all) name d → HasDesign (Some all) name e → d ≡ e
   design_one name d e h k = one_design k.text d e (subst (λ (text : List ℕ). IsDesign d text) (same_file all name h.text k.text h.file k.file) h.is_design) k.is_design
 
@@ -102,16 +95,15 @@ module _ (spells : SpellsOne) (all : Told) where
   no_design name d h n = n.none d (subst (λ (text : List ℕ). IsDesign d text) (same_file all name h.text n.text h.file n.file) h.is_design)
 
   record_one : (name : List ℕ) (d : Design) (r q : Record) → HasRecord (Some all) name d r → HasRecord (Some all) name d q → r ≡ q
-  record_one name d r q h k = spells r q k.bytes (subst (λ (bytes : List ℕ). Encodes r bytes) (same_file all name h.bytes k.bytes h.file k.file) h.encodes) k.encodes
+  record_one name d r q h k = spells.one k.bytes r q (subst (λ (bytes : List ℕ). Encodes r bytes) (same_file all name h.bytes k.bytes h.file k.file) h.encodes) k.encodes
 
-  no_record : (name : List ℕ) (d : Design) (r : Record) → HasRecord (Some all) name d r → HasNoRecord (Some all) name d → ⊥
-  no_record name d r h n = n.none r (subst (λ (bytes : List ℕ). Encodes r bytes) (same_file all name h.bytes n.bytes h.file n.file) h.encodes) h.fits
+  no_record : (name : List ℕ) (d : Design) (r : Record) (text : List ℕ) → HasRecord (Some all) name d r → HasNoRecord (Some all) name d text → ⊥
+  no_record name d r text h n = n.none r (subst (λ (bytes : List ℕ). Encodes r bytes) (same_file all name h.bytes n.bytes h.file n.file) h.encodes) h.fits
 
   module _ (name : List ℕ) (d : Design) where
     record IsUnfit (s : Status) (text : List ℕ) : Type 0 where
-      none : HasNoRecord (Some all) name d
+      none : HasNoRecord (Some all) name d text
       is_status : s ≡ status.RecordRefused
-      is_text : text ≡ record_refused_text
 
     record IsCounted (s : Status) (text : List ℕ) : Type 0 where
       r : Record
@@ -126,8 +118,12 @@ module _ (spells : SpellsOne) (all : Told) where
     had : (s : Status) (text : List ℕ) (r : Record) → HasRecord (Some all) name d r → IsRefused all name record_most s text → ⊥
     had s text r h = not_refused all name record_most s text h.bytes h.file h.short
 
-    had_none : (s : Status) (text : List ℕ) → HasNoRecord (Some all) name d → IsRefused all name record_most s text → ⊥
-    had_none s text h = not_refused all name record_most s text h.bytes h.file h.short
+    had_none : (s : Status) (text line : List ℕ) → HasNoRecord (Some all) name d line → IsRefused all name record_most s text → ⊥
+    had_none s text line h = not_refused all name record_most s text h.bytes h.file h.short
+
+    unfit_one : (s s' : Status) (text text' : List ℕ) → IsUnfit s text → IsUnfit s' text' → (s ≡ s') × (text ≡ text')
+    unfit_one s s' text text' a b =
+        (a.is_status ∙ sym b.is_status, refused_text_one spells d b.none.bytes text text' (subst (λ (bytes : List ℕ). IsRefusedText d bytes text) (same_file all name a.none.bytes b.none.bytes a.none.file b.none.file) a.none.line) b.none.line)
 
     counted_one : (s s' : Status) (text text' : List ℕ) → IsCounted s text → IsCounted s' text' → (s ≡ s') × (text ≡ text')
     counted_one s s' text text' a b =
@@ -137,16 +133,16 @@ module _ (spells : SpellsOne) (all : Told) where
     ends_one s s' text text' h k = elim h [
       | inl a ↦ elim k [
         | inl b ↦ refused_one all name record_most s s' text text' a b
-        | inr y ↦ elim y [ inl b ↦ absurd (had_none s text b.none a) | inr b ↦ absurd (had s text b.r b.has a) ]
+        | inr y ↦ elim y [ inl b ↦ absurd (had_none s text text' b.none a) | inr b ↦ absurd (had s text b.r b.has a) ]
       ]
       | inr x ↦ elim x [
         | inl a ↦ elim k [
-          | inl b ↦ absurd (had_none s' text' a.none b)
-          | inr y ↦ elim y [ inl b ↦ (a.is_status ∙ sym b.is_status, a.is_text ∙ sym b.is_text) | inr b ↦ absurd (no_record name d b.r b.has a.none) ]
+          | inl b ↦ absurd (had_none s' text' text a.none b)
+          | inr y ↦ elim y [ inl b ↦ unfit_one s s' text text' a b | inr b ↦ absurd (no_record name d b.r text b.has a.none) ]
         ]
         | inr a ↦ elim k [
           | inl b ↦ absurd (had s' text' a.r a.has b)
-          | inr y ↦ elim y [ inl b ↦ absurd (no_record name d a.r a.has b.none) | inr b ↦ counted_one s s' text text' a b ]
+          | inr y ↦ elim y [ inl b ↦ absurd (no_record name d a.r text' a.has b.none) | inr b ↦ counted_one s s' text text' a b ]
         ]
       ]
     ]
@@ -170,7 +166,7 @@ module _ (spells : SpellsOne) (all : Told) where
       case_of : (s : Status) (text : List ℕ) → Counts (Some all) before now design rec s text → Case s text
       case_of status.Done text h = inr (inr (record { d = h.0; has = h.1; ends = inr (inr (record { r = h.2; has = h.3; is_status = refl; counted = h.4 })) }))
       case_of status.DesignRefused text h = inr (inl (record { none = h.0; is_status = refl; is_text = h.1 }))
-      case_of status.RecordRefused text h = inr (inr (record { d = h.0; has = h.1; ends = inr (inl (record { none = h.2; is_status = refl; is_text = h.3 })) }))
+      case_of status.RecordRefused text h = inr (inr (record { d = h.0; has = h.1; ends = inr (inl (record { none = h.2; is_status = refl })) }))
       case_of status.ShelfFault text h = elim h [
         | inl a ↦ inl (refused all design before now calm design_most status.ShelfFault text a)
         | inr a ↦ inr (inr (record { d = a.0; has = a.1; ends = inl (refused all rec before now calm record_most status.ShelfFault text a.2) }))
@@ -210,7 +206,7 @@ module _ (spells : SpellsOne) (all : Told) where
 
 -- ---- the words
 
-module _ (spells : SpellsOne) (words : List (List ℕ)) (all : Told) (before now : ℕ) (calm : Rose before now → ⊥) (s s' : Status) (text text' : List ℕ) where
+module _ (spells : IsReading) (words : List (List ℕ)) (all : Told) (before now : ℕ) (calm : Rose before now → ⊥) (s s' : Status) (text text' : List ℕ) where
   same_words : (design rec : List ℕ) → IsCountCommand words design rec → Counts (Some all) before now design rec s text → (other more : List ℕ) → IsCountCommand words other more → Counts (Some all) before now other more s' text'
       → (s ≡ s') × (text ≡ text')
   same_words design rec e h other more f k =
@@ -225,7 +221,7 @@ module _ (spells : SpellsOne) (words : List (List ℕ)) (all : Told) (before now
     | inr a ↦ elim k [ inl b ↦ absurd (b.0 a.0 a.1 a.2) | inr b ↦ same_words a.0 a.1 a.2 a.3 b.0 b.1 b.2 b.3 ]
   ]
 
-pub has_one_answer : SpellsOne → (words : List (List ℕ)) (files : Files) (before now : ℕ) → HasOneAnswer words files before now
+pub has_one_answer : IsReading → (words : List (List ℕ)) (files : Files) (before now : ℕ) → HasOneAnswer words files before now
 has_one_answer spells words files before now all told calm s s' text text' h k =
     answer_one spells words all before now calm s s' text text'
     (subst (λ (f : Files). Answers words f before now s text) told h)

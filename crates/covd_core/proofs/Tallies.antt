@@ -13,11 +13,11 @@ use Rattle.record_codec.specs.declared.record.Event.{Event}
 use Rattle.record_codec.specs.declared.record.Event.TheVariants.{Set, Sample}
 use Rattle.record_codec.specs.declared.record.Record.{Record}
 use Rattle.record_codec.specs.declared.record.SignalRow.{SignalRow}
-use Rattle.record_codec.specs.Limits.{IsEvent, IsWithinLimits}
+use Rattle.record_codec.specs.Limits.{IsEvent}
 use Rattle.record_codec.specs.Samples.{number_of, latest, samples_after, samples_of}
 use Rattle.covd_core.specs.declared.design.Bin.{Bin}
 use Rattle.covd_core.specs.declared.design.Design.{Design}
-use Rattle.covd_core.specs.Command.{Fits, signal_of}
+use Rattle.covd_core.specs.Shape.{Fits, signal_of}
 use Rattle.covd_core.specs.Histogram.{values_from, SetsByte, is_listed}
 use Rattle.covd_core.specs.Tally.{point, rule_of, AreCounts, IsTally}
 
@@ -129,9 +129,9 @@ are_counts (bin ∷ bins) values = (is_count bin values, are_counts bins values)
 
 -- ---- the counts of a record
 
-module _ (d : Design) (r : Record) (within : IsWithinLimits r) (fits : Fits d r) where
+module _ (d : Design) (r : Record) (fits : Fits d r) where
   events_within : AllByRecursion (IsEvent (signal_of d ∷ []) 1) r.events
-  events_within = subst (λ (n : ℕ). AllByRecursion (IsEvent (signal_of d ∷ []) n) r.events) (ap length fits.instances) (subst (λ (rows : List SignalRow). AllByRecursion (IsEvent rows (length r.instances)) r.events) fits.signals within.events)
+  events_within = subst (λ (n : ℕ). AllByRecursion (IsEvent (signal_of d ∷ []) n) r.events) (ap length fits.instances) (subst (λ (rows : List SignalRow). AllByRecursion (IsEvent rows (length r.instances)) r.events) fits.signals r.within.events)
 
   pub record_bytes : AllByRecursion SetsByte r.events
   record_bytes = bytes_set (signal_of d) refl r.events events_within

@@ -1,19 +1,20 @@
 -- What a command answers: a status and a text, from its words and the files of a shelf. The steps are: words, load of
 -- the design, compiling, load of the record, decoding and shape, printing; the first step that refuses decides.
-use Rattle.std.specs.Prelude.{◌≡◌, ◌⊎◌, false, ℕ, ◌≤◌, List, [], ◌∷◌, length, Option, Some, codes}
+use Rattle.std.specs.Prelude.{◌≡◌, ◌⊎◌, ℕ, ◌≤◌, List, [], ◌∷◌, length, Option, Some, codes}
 use Rattle.cov_spec.specs.Causes.{Rose}
 use Rattle.cov_spec.specs.Told.{Grows, GrowsByFront, Stays}
 use Rattle.cov_base.specs.Loads.{HasFile, LacksFile, HasLongFile}
 use Rattle.record_codec.specs.declared.record.Record.{Record}
-use Rattle.record_codec.specs.declared.record.SignalRow.{SignalRow}
-use Rattle.record_codec.specs.declared.record.InstRow.{InstRow}
+use Rattle.record_codec.specs.declared.fault.RecordFault.{RecordFault}
 use Rattle.record_codec.specs.Spelling.{Encodes}
+use Rattle.record_codec.specs.Reading.{HasFault}
 use Rattle.covd_core.specs.declared.design.Design.{Design}
 use Rattle.covd_core.specs.declared.status.Status.{Status}
 use Rattle.covd_core.specs.declared.status.Status.TheVariants as status
 use Rattle.covd_core.specs.Form.{IsDesign}
+use Rattle.covd_core.specs.Shape.{Fits, IsWrongAt}
 use Rattle.covd_core.specs.Tally.{IsTally}
-use Rattle.covd_core.specs.Lines.{count_text, bad_words_text, design_refused_text, record_refused_text, cannot_read_text, too_long_text}
+use Rattle.covd_core.specs.Lines.{count_text, bad_words_text, design_refused_text, IsFaultText, wrong_shape_text, cannot_read_text, too_long_text}
 
 -- the files of a shelf, where it tells them
 abbrev pub Files : Type 0
@@ -61,17 +62,6 @@ pub record HasNoDesign (files : Files) (name : List ℕ) : Type 0 where
   pub short : length text ≤ design_most
   pub none : (d : Design) → IsDesign d text → ⊥
 
--- the record's tables are the design's: its one signal, of width 8 and unsigned, and its one instance
-abbrev pub signal_of : Design → SignalRow
-signal_of d = record { name = d.variable; width = 8; signed = false }
-
-abbrev pub instance_of : Design → InstRow
-instance_of d = record { name = d.instance; group = d.group }
-
-pub record Fits (d : Design) (r : Record) : Type 0 where
-  pub signals : r.signals ≡ signal_of d ∷ []
-  pub instances : r.instances ≡ instance_of d ∷ []
-
 -- the file of that name has the record, and it fits the design
 pub record HasRecord (files : Files) (name : List ℕ) (d : Design) (r : Record) : Type 0 where
   pub bytes : List ℕ
@@ -80,12 +70,20 @@ pub record HasRecord (files : Files) (name : List ℕ) (d : Design) (r : Record)
   pub encodes : Encodes r bytes
   pub fits : Fits d r
 
--- the file of that name has no record that fits the design
-pub record HasNoRecord (files : Files) (name : List ℕ) (d : Design) : Type 0 where
+-- Why bytes are no record that fits the design, and the line that says so: the first fault at which the bytes are no
+-- record, or the first place at which the tables of the record that they are differ from the design's.
+abbrev pub IsRefusedText : Design → List ℕ → List ℕ → Type 0
+IsRefusedText d bytes text =
+    ((fault : RecordFault) × HasFault bytes fault × IsFaultText fault text)
+    ⊎ ((r : Record) × Encodes r bytes × (at : ℕ) × IsWrongAt d r at × (text ≡ wrong_shape_text at))
+
+-- the file of that name has no record that fits the design, and the line says why
+pub record HasNoRecord (files : Files) (name : List ℕ) (d : Design) (text : List ℕ) : Type 0 where
   pub bytes : List ℕ
   pub file : HasFile files name bytes
   pub short : length bytes ≤ record_most
   pub none : (r : Record) → Encodes r bytes → Fits d r → ⊥
+  pub line : IsRefusedText d bytes text
 
 -- ---- answers
 
@@ -97,7 +95,7 @@ IsCountText d r text = (counts : List ℕ) × IsTally d r counts × (text ≡ co
 abbrev pub Counts : Files → ℕ → ℕ → List ℕ → List ℕ → Status → List ℕ → Type 0
 Counts files before now design rec status.Done text = (d : Design) × HasDesign files design d × (r : Record) × HasRecord files rec d r × IsCountText d r text
 Counts files before now design rec status.DesignRefused text = HasNoDesign files design × (text ≡ design_refused_text)
-Counts files before now design rec status.RecordRefused text = (d : Design) × HasDesign files design d × HasNoRecord files rec d × (text ≡ record_refused_text)
+Counts files before now design rec status.RecordRefused text = (d : Design) × HasDesign files design d × HasNoRecord files rec d text
 Counts files before now design rec status.ShelfFault text = NotLoaded files before now design design_most status.ShelfFault text ⊎ ((d : Design) × HasDesign files design d × NotLoaded files before now rec record_most status.ShelfFault text)
 Counts files before now design rec status.FileTooLong text = NotLoaded files before now design design_most status.FileTooLong text ⊎ ((d : Design) × HasDesign files design d × NotLoaded files before now rec record_most status.FileTooLong text)
 Counts files before now design rec other text = ⊥

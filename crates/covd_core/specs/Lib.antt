@@ -4,6 +4,7 @@ pub mod Grammar
 pub mod Histogram
 pub mod Lines
 pub mod Parsed
+pub mod Shape
 pub mod Steps
 pub mod Tally
 pub mod Words
@@ -14,5 +15,6 @@ pub use Rattle.cov_spec.specs.Files
 pub use Rattle.cov_spec.specs.Number
 pub use Rattle.cov_spec.specs.Told
 pub use Rattle.record_codec.specs.Limits
+pub use Rattle.record_codec.specs.Reading
 pub use Rattle.record_codec.specs.Samples
 pub use Rattle.record_codec.specs.Spelling

@@ -1,5 +1,7 @@
 -- The lines that are printed. Each ends with a newline, and numbers are decimal.
-use Rattle.std.specs.Prelude.{ℕ, ◌+◌, List, [], ◌∷◌, ◌++◌, codes, decimal}
+use Rattle.std.specs.Prelude.{◌≡◌, ℕ, ◌+◌, List, [], ◌∷◌, ◌++◌, codes, decimal}
+use Rattle.record_codec.specs.declared.fault.RecordFault.{RecordFault}
+use Rattle.record_codec.specs.declared.fault.RecordFault.TheVariants.{Short, BadMagic, BadVersion, BadField, TooManyEvents, Trailing, Memory}
 use Rattle.covd_core.specs.declared.design.Bin.{Bin}
 use Rattle.covd_core.specs.declared.design.Design.{Design}
 
@@ -31,8 +33,22 @@ bad_words_text = codes "bad words" ++ newline
 abbrev pub design_refused_text : List ℕ
 design_refused_text = codes "design refused NotBuiltYet at 0" ++ newline
 
-abbrev pub record_refused_text : List ℕ
-record_refused_text = codes "record 1 refused Unread 0" ++ newline
+-- the first record, which is the only one, is refused: the kind of the refusal and its number
+abbrev pub record_refused_text : List ℕ → ℕ → List ℕ
+record_refused_text kind number = codes "record 1 refused " ++ (kind ++ 32 ∷ (decimal number ++ newline))
+
+-- The line of a fault of a record's bytes. BadMagic has the number 0, and want of memory has no line.
+abbrev pub IsFaultText : RecordFault → List ℕ → Type 0
+IsFaultText (Short at) text = text ≡ record_refused_text (codes "Short") at
+IsFaultText BadMagic text = text ≡ record_refused_text (codes "BadMagic") 0
+IsFaultText (BadVersion version) text = text ≡ record_refused_text (codes "BadVersion") version
+IsFaultText (BadField at) text = text ≡ record_refused_text (codes "BadField") at
+IsFaultText (TooManyEvents count) text = text ≡ record_refused_text (codes "TooManyEvents") count
+IsFaultText (Trailing at) text = text ≡ record_refused_text (codes "Trailing") at
+IsFaultText Memory text = ⊥
+
+abbrev pub wrong_shape_text : ℕ → List ℕ
+wrong_shape_text at = record_refused_text (codes "WrongShape") at
 
 abbrev pub cannot_read_text : List ℕ → List ℕ
 cannot_read_text name = codes "cannot read " ++ (name ++ newline)

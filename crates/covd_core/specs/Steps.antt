@@ -1,5 +1,5 @@
 -- The parts of an answer.
-use Rattle.std.specs.Prelude.{◌≡◌, ℕ, ◌≤◌, List, length}
+use Rattle.std.specs.Prelude.{ℕ, ◌≤◌, List, length}
 use Rattle.cov_base.specs.Loads.{HasFile}
 use Rattle.record_codec.specs.declared.record.Record.{Record}
 use Rattle.record_codec.specs.Spelling.{Encodes}
@@ -8,8 +8,8 @@ use Rattle.covd_core.specs.declared.count.Loaded.TheVariants.{Bytes, Refused}
 use Rattle.covd_core.specs.declared.design.Design.{Design}
 use Rattle.covd_core.specs.declared.status.Status.{Status}
 use Rattle.covd_core.specs.declared.status.Status.TheVariants as status
-use Rattle.covd_core.specs.Command.{Files, Fits, NotLoaded, IsCountText}
-use Rattle.covd_core.specs.Lines.{record_refused_text}
+use Rattle.covd_core.specs.Command.{Files, NotLoaded, IsCountText, IsRefusedText}
+use Rattle.covd_core.specs.Shape.{Fits}
 
 -- a file's bytes, or the answer that it can't be had
 abbrev pub IsLoaded : Files → ℕ → ℕ → List ℕ → ℕ → Loaded → Type 0
@@ -19,5 +19,5 @@ IsLoaded files before now name most (Refused a) = NotLoaded files before now nam
 -- the answer to a record's bytes
 abbrev pub CountsRecord : Design → List ℕ → Status → List ℕ → Type 0
 CountsRecord d bytes status.Done text = (r : Record) × Encodes r bytes × Fits d r × IsCountText d r text
-CountsRecord d bytes status.RecordRefused text = ((r : Record) → Encodes r bytes → Fits d r → ⊥) × (text ≡ record_refused_text)
+CountsRecord d bytes status.RecordRefused text = ((r : Record) → Encodes r bytes → Fits d r → ⊥) × IsRefusedText d bytes text
 CountsRecord d bytes other text = ⊥

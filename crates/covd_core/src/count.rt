@@ -1,18 +1,19 @@
 //! The command `count`.
-ghost use Rattle.std.specs.Prelude.{◌≡◌, ◌↔◌, ◌∷◌, [], ◌≤◌, length, IsTrue, IfOk};
-ghost use Rattle.record_codec.specs.Spelling.{Encodes};
-ghost use Rattle.covd_core.specs.Command.{Fits, Counts, signal_of, instance_of, IsCountText};
-ghost use Rattle.covd_core.specs.Lines.{record_refused_text};
-ghost use Rattle.covd_core.specs.declared.status.Status.TheVariants.{RecordRefused};
+ghost use Rattle.std.specs.Prelude.{◌≡◌, ◌≤◌, length, IfOk};
+ghost use Rattle.covd_core.specs.Command.{Counts, IsCountText};
+ghost use Rattle.covd_core.specs.Shape.{Fits};
+ghost use Rattle.covd_core.specs.Lines.{record_refused_text, IsFaultText};
+ghost use Rattle.covd_core.specs.declared.status.Status.TheVariants.{Done, RecordRefused};
 ghost use Rattle.covd_core.specs.Steps.{IsLoaded, CountsRecord};
 
 use crate::Status;
 use crate::compile::design_of;
 use crate::design::{CompileFault, Design};
 use crate::lines::{cannot_read, count_lines, design_refused, record_refused, too_long};
+use crate::shape::shape_fits;
 use crate::tally::tally;
 use cov_base::{Memory, Shelf, ShelfRefusal};
-use record_codec::{InstRow, Record, RecordFault, SignalRow, decode};
+use record_codec::{Record, RecordFault, decode};
 use std::alloc::Global;
 
 /// The most bytes of a design text.
@@ -59,73 +60,56 @@ fn load<F: Shelf>(alloc: Global, name: &str, most: u64, shelf: &mut F) -> Result
     }
 }
 
-fn is_signal(design: &Design, row: &SignalRow) -> bool
-    ensures { IsTrue result ↔ (row.now ≡ signal_of design.now) }
+fn refused(alloc: Global, kind: &str, number: u64) -> Result<Answer, Memory>
+    ensures { IfOk result (λ a. (a.status ≡ RecordRefused) × (a.text.items ≡ record_refused_text kind.now number)) }
 {
-    row.name == design.variable && row.width == 8 && !row.signed
-}
-
-fn is_instance(design: &Design, row: &InstRow) -> bool
-    ensures { IsTrue result ↔ (row.now ≡ instance_of design.now) }
-{
-    row.name == design.instance && row.group == design.group
-}
-
-fn is_sole_signal(design: &Design, rows: &[SignalRow]) -> bool
-    ensures { IsTrue result ↔ (rows.now ≡ signal_of design.now ∷ []) }
-{
-    match rows {
-        [row] => is_signal(design, row),
-        _ => false,
-    }
-}
-
-fn is_sole_instance(design: &Design, rows: &[InstRow]) -> bool
-    ensures { IsTrue result ↔ (rows.now ≡ instance_of design.now ∷ []) }
-{
-    match rows {
-        [row] => is_instance(design, row),
-        _ => false,
-    }
-}
-
-// Whether the record has the design's signal and its instance, and no others.
-fn fits(design: &Design, rec: &Record) -> bool
-    ensures { IsTrue result ↔ Fits design.now rec.now }
-{
-    is_sole_signal(design, rec.signals.as_slice())
-        && is_sole_instance(design, rec.instances.as_slice())
-}
-
-fn refused(alloc: Global) -> Result<Answer, Memory>
-    ensures { IfOk result (λ a. (a.status ≡ RecordRefused) × (a.text.items ≡ record_refused_text)) }
-{
-    let text = record_refused(alloc)?;
+    let text = record_refused(alloc, kind, number)?;
     Ok(Answer {
         status: Status::RecordRefused,
         text,
     })
 }
 
-// The counts of the record of these bytes.
-fn count_record(alloc: Global, design: &Design, bytes: &[u8]) -> Result<Answer, Memory>
-    requires { length bytes.now ≤ 8388608 }
-    ensures { IfOk result (λ a. CountsRecord design.now bytes.now a.status a.text.items) }
+// The answer to bytes that are no record.
+fn undecoded(alloc: Global, fault: RecordFault) -> Result<Answer, Memory>
+    ensures { IfOk result (λ a. (a.status ≡ RecordRefused) × IsFaultText fault a.text.items) }
 {
-    let decoded = match decode(alloc, bytes) {
-        Ok(rec) => rec,
-        Err(RecordFault::Unread) => return refused(alloc),
-        Err(RecordFault::Memory) => return Err(Memory),
-    };
-    if !fits(design, &decoded) {
-        return refused(alloc);
+    match fault {
+        RecordFault::Short { at } => refused(alloc, "Short", at as u64),
+        RecordFault::BadMagic => refused(alloc, "BadMagic", 0),
+        RecordFault::BadVersion { v } => refused(alloc, "BadVersion", v as u64),
+        RecordFault::BadField { at } => refused(alloc, "BadField", at as u64),
+        RecordFault::TooManyEvents { n } => refused(alloc, "TooManyEvents", n),
+        RecordFault::Trailing { at } => refused(alloc, "Trailing", at as u64),
+        RecordFault::Memory => Err(Memory),
     }
-    let counts = tally(alloc, design, &decoded)?;
-    let text = count_lines(alloc, design, decoded.id.as_slice(), &counts)?;
+}
+
+// The counts of a record that fits.
+fn counted(alloc: Global, design: &Design, rec: &Record) -> Result<Answer, Memory>
+    requires { Fits design.now rec.now }
+    ensures { IfOk result (λ a. (a.status ≡ Done) × IsCountText design.now rec.now a.text.items) }
+{
+    let counts = tally(alloc, design, rec)?;
+    let text = count_lines(alloc, design, rec.id.as_slice(), &counts)?;
     Ok(Answer {
         status: Status::Done,
         text,
     })
+}
+
+// The answer to the record of these bytes.
+fn count_record(alloc: Global, design: &Design, bytes: &[u8]) -> Result<Answer, Memory>
+    requires { length bytes.now ≤ 8388608 }
+    ensures { IfOk result (λ a. CountsRecord design.now bytes.now a.status a.text.items) }
+{
+    match decode(alloc, bytes) {
+        Ok(decoded) => match shape_fits(design, &decoded) {
+            Ok(()) => counted(alloc, design, &decoded),
+            Err(wrong) => refused(alloc, "WrongShape", wrong.at as u64),
+        },
+        Err(fault) => undecoded(alloc, fault),
+    }
 }
 
 /// Loads, compiles, decodes and counts.

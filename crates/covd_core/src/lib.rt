@@ -7,6 +7,7 @@ mod design;
 mod lines;
 mod names;
 mod running;
+mod shape;
 mod status;
 mod tally;
 mod words;

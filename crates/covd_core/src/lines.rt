@@ -97,10 +97,16 @@ pub(crate) fn design_refused(alloc: Global) -> Result<Vec<u8>, Memory>
     Ok(Vec::from_slice(alloc, b"design refused NotBuiltYet at 0\n")?)
 }
 
-pub(crate) fn record_refused(alloc: Global) -> Result<Vec<u8>, Memory>
-    ensures { IfOk result (λ text. text.items ≡ record_refused_text) }
+pub(crate) fn record_refused(alloc: Global, kind: &str, number: u64) -> Result<Vec<u8>, Memory>
+    ensures { IfOk result (λ text. text.items ≡ record_refused_text kind.now number) }
 {
-    Ok(Vec::from_slice(alloc, b"record 1 refused Unread 0\n")?)
+    let mut text = Vec::new(alloc);
+    append(&mut text, b"record 1 refused ")?;
+    append(&mut text, kind.as_bytes())?;
+    append(&mut text, b" ")?;
+    append_number(&mut text, number)?;
+    append(&mut text, b"\n")?;
+    Ok(text)
 }
 
 pub(crate) fn cannot_read(alloc: Global, name: &str) -> Result<Vec<u8>, Memory>

@@ -3,8 +3,7 @@ ghost use Rattle.std.specs.Prelude.{◌≡◌, ℕ, ◌+◌, ◌-◌, ◌<◌, �
 ghost use Rattle.std.specs.List.{AllByRecursion};
 ghost use Rattle.covd_core.specs.Histogram.{IsByte, SetsByte, IsHistogram, values_from, with_value, is_listed};
 ghost use Rattle.covd_core.specs.Tally.{IsTally};
-ghost use Rattle.covd_core.specs.Command.{Fits};
-ghost use Rattle.record_codec.specs.Limits.{IsWithinLimits};
+ghost use Rattle.covd_core.specs.Shape.{Fits};
 
 use crate::design::{Bin, Design};
 use cov_base::Memory;
@@ -68,8 +67,7 @@ fn counts_of(alloc: Global, bins: &[Bin], histogram: &[u64]) -> Result<Vec<u64>,
 
 /// How often each bin of the design is hit in the record.
 pub(crate) fn tally(alloc: Global, design: &Design, rec: &Record) -> Result<Vec<u64>, Memory>
-    requires within { IsWithinLimits rec.now }
-    requires fits { Fits design.now rec.now }
+    requires { Fits design.now rec.now }
     ensures counts { IfOk result (λ counts. IsTally design.now rec.now counts.items) }
     ensures long { IfOk result (λ counts. length counts.items ≡ length design.now.bins) }
 {

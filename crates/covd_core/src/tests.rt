@@ -1,4 +1,6 @@
 //! Whole commands: worked examples, the printed text, and each refusal.
+ghost use Rattle.std.specs.Prelude.{◌≤◌};
+
 use super::*;
 use cov_base::{MemShelf, MemSink, MemSource, SureShelf, SureSink, SureSource};
 use std::alloc::Global;
@@ -143,18 +145,96 @@ fn refuses_designs(rt: HostRuntime) -> Result<(), Fail> {
     Ok(())
 }
 
+// Another design's text, with this name for the variable and this for the instance.
+fn design_of(alloc: Global, variable: &str, instance: &str) -> Result<String, Fail> {
+    Ok(format!(in alloc;
+        "bit [7:0] {variable}; covergroup g; p: coverpoint {variable} {{ bins a = {{0}}; }} endgroup g {instance} = new;"
+    )?)
+}
+
+// The record t1 with these bytes in place of those from `from` to `to`.
+fn with_middle(alloc: Global, from: usize, to: usize, middle: &[u8]) -> Result<Vec<u8>, Fail>
+    requires first { from ≤ 81 }
+    requires last { to ≤ 81 }
+{
+    let mut bytes = Vec::from_slice(alloc, &RECORD[..from])?;
+    bytes.extend_from_slice(middle)?;
+    bytes.extend_from_slice(&RECORD[to..])?;
+    Ok(bytes)
+}
+
+fn check_record(rt: &(impl Abort + AllocGlobal), rec: &[u8], text: &[u8]) -> Result<(), Fail> {
+    let words = ["count", "d", "r"];
+    check(rt, DESIGN, rec, &words, Status::RecordRefused, text)
+}
+
+// What stands in place of which bytes of t1, and the line.
+static REFUSED: [(usize, usize, &'static [u8], &'static [u8]); 9] = [
+    (81, 81, &[0], b"record 1 refused Trailing 81\n"),
+    (4, 6, &[0, 2], b"record 1 refused BadVersion 2\n"),
+    (10, 11, &[4], b"record 1 refused BadField 10\n"),
+    (
+        44,
+        48,
+        &[0, 16, 0, 1],
+        b"record 1 refused TooManyEvents 1048577\n",
+    ),
+    // No signal, and one of another width or sign.
+    (
+        29,
+        81,
+        &[0, 0, 0, 0, 0, 0, 0, 0],
+        b"record 1 refused WrongShape 0\n",
+    ),
+    (34, 35, &[9], b"record 1 refused WrongShape 0\n"),
+    (35, 36, &[1], b"record 1 refused WrongShape 0\n"),
+    // A second signal; no instance.
+    (
+        29,
+        31,
+        &[0, 2, 0, 1, 118, 8, 0],
+        b"record 1 refused WrongShape 1\n",
+    ),
+    (
+        36,
+        81,
+        &[0, 0, 0, 0, 0, 0],
+        b"record 1 refused WrongShape 1\n",
+    ),
+];
+
 #[test]
 fn refuses_records(rt: HostRuntime) -> Result<(), Fail> {
-    let other = b"bit [7:0] w; covergroup g; p: coverpoint w { bins a = {0}; } endgroup g i = new;";
-    let cases: [(&[u8], &[u8]); 3] = [(DESIGN, &RECORD[..80]), (DESIGN, &[]), (other, &RECORD)];
-    for (design, rec) in cases.as_slice() {
+    let alloc = rt.alloc();
+    check_record(&rt, &[], b"record 1 refused Short 0\n")?;
+    check_record(&rt, &RECORD[..80], b"record 1 refused Short 79\n")?;
+    check_record(&rt, DESIGN, b"record 1 refused BadMagic 0\n")?;
+    for (from, to, middle, text) in REFUSED.iter() {
+        assert!(rt; *from < 82 && *to < 82);
+        check_record(&rt, &with_middle(alloc, *from, *to, middle)?, text)?;
+    }
+    Ok(())
+}
+
+#[test]
+fn refuses_other_shapes(rt: HostRuntime) -> Result<(), Fail> {
+    let alloc = rt.alloc();
+    // A record with a second instance, and designs with another signal and another instance.
+    let twice = with_middle(alloc, 36, 38, &[0, 2, 0, 1, 105, 0, 1, 103])?;
+    check_record(&rt, &twice, b"record 1 refused WrongShape 2\n")?;
+    let cases = [
+        ("w", "i", b"record 1 refused WrongShape 0\n"),
+        ("v", "j", b"record 1 refused WrongShape 1\n"),
+    ];
+    for (variable, instance, text) in cases.as_slice() {
+        let design = design_of(alloc, variable, instance)?;
         check(
             &rt,
-            design,
-            rec,
+            design.as_bytes(),
+            &RECORD,
             &["count", "d", "r"],
             Status::RecordRefused,
-            b"record 1 refused Unread 0\n",
+            text.as_slice(),
         )?;
     }
     Ok(())

@@ -14,7 +14,7 @@ use Rattle.record_codec.specs.declared.record.Event.TheVariants.{Set, Sample}
 use Rattle.record_codec.specs.Limits.{IsSignalRow, IsEvent}
 use Rattle.record_codec.specs.Spelling.{set_value, event, event_list}
 use Rattle.record_codec.specs.Reading.{number_at, number_within, counted, known_at, value_at, set_at, sample_at, event_at, events_at}
-use Rattle.record_codec.proofs.Laws.{IsBytes, bind_ok, not_refused, ok_is, Takes, Takes-then, Read, IsField, step, last}
+use Rattle.record_codec.proofs.Readers.{IsBytes, bind_ok, not_refused, ok_is, Takes, Takes-then, Read, IsField, step, last}
 use Rattle.record_codec.proofs.Numbers.{one_byte, wide8, wide16, wide32, wide64, number_field, within_field}
 use Rattle.record_codec.proofs.Counts.{counted_takes, counted_again}
 use Rattle.record_codec.proofs.Tables.{AreRows}

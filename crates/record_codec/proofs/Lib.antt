@@ -1,10 +1,11 @@
+pub mod Appended
 pub mod Counts
+pub mod Decoded
 pub mod EventLaws
-pub mod Laws
 pub mod Loops
 pub mod Numbers
+pub mod Readers
 pub mod RecordLaws
-pub mod Singles
 pub mod Tables
 pub mod Texts
 pub mod Widths

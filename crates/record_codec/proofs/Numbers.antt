@@ -7,7 +7,7 @@ use Rattle.std.proofs.lemmas.List.{take_at, drop_at, take-append-drop, length-ap
 use Rattle.std.proofs.lemmas.Nat.{be_bytes_2, be_bytes_4, be_bytes_8, from_be_bytes-to_be_bytes_2, from_be_bytes-to_be_bytes_4, from_be_bytes-to_be_bytes_8}
 use Rattle.record_codec.specs.declared.fault.Fault.TheVariants.{Short, BadField}
 use Rattle.record_codec.specs.Reading.{number_at, number_within}
-use Rattle.record_codec.proofs.Laws.{IsBytes, IsBytes-drop, IsBytes-take, bind_ok, not_refused, let_pass, ok_is, Read, IsField}
+use Rattle.record_codec.proofs.Readers.{IsBytes, IsBytes-drop, IsBytes-take, bind_ok, not_refused, let_pass, ok_is, Read, IsField}
 
 -- numbers of this width, each below the limit, are spelled so
 pub record IsWide (w : Width) (spelled : ℕ → List ℕ) (limit : ℕ) : Type 0 where

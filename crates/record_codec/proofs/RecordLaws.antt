@@ -1,18 +1,22 @@
 -- The whole record: what is read is spelled so and within its limits, and what is spelled so is read.
-use Rattle.std.proofs.Common.{◌≡◌, ℕ, ◌^◌, ◌<◌, eqb, List, [], ◌++◌, length, Ok, refl, sym, ap, subst, ◌∙◌, append_assoc, arith}
+use Rattle.std.proofs.Common.{◌≡◌, ℕ, ◌^◌, ◌<◌, eqb, List, [], ◌++◌, length, Result, Ok, refl, sym, ap, subst, ◌∙◌, append_assoc, arith}
 use Rattle.std.specs.Int.{w8, w16, w32, w64, to_be_bytes}
 use Rattle.std.proofs.lemmas.Bool.{eqb-true}
 use Rattle.std.proofs.lemmas.List.{append-nil, nil_from_length}
+use mathlib.Core.HLevel.{is_prop→PathP}
+use Rattle.record_codec.specs.declared.fault.Fault.{Fault}
 use Rattle.record_codec.specs.declared.fault.Fault.TheVariants.{BadMagic, BadVersion, Trailing}
+use Rattle.record_codec.specs.declared.fault.RecordFault.{RecordFault}
 use Rattle.record_codec.specs.declared.record.Record.{Record}
+use Rattle.record_codec.specs.declared.record.Fields.{Fields}
 use Rattle.record_codec.specs.declared.record.TestRow.{TestRow}
 use Rattle.record_codec.specs.declared.record.SignalRow.{SignalRow}
 use Rattle.record_codec.specs.declared.record.InstRow.{InstRow}
 use Rattle.record_codec.specs.declared.record.Event.{Event}
-use Rattle.record_codec.specs.Limits.{IsText, IsSignalRow, IsInstRow, IsEvent, IsWithinLimits}
-use Rattle.record_codec.specs.Spelling.{text, head, signal_table, instance_table, event_list, spelling, Encodes}
-use Rattle.record_codec.specs.Reading.{number_at, number_within, text_at, version_at, head_at, test_at, signals_at, instances_at, events_at, record_at, reading}
-use Rattle.record_codec.proofs.Laws.{IsBytes, bind_ok, let_pass, ok_is, Takes, Takes-then, Read, last}
+use Rattle.record_codec.specs.Limits.{IsText, IsSignalRow, IsInstRow, IsEvent, IsWithinLimits, IsWithinLimits-prop}
+use Rattle.record_codec.specs.Spelling.{text, head, signal_table, instance_table, event_list, spelling, fields_of, Encodes}
+use Rattle.record_codec.specs.Reading.{number_at, number_within, text_at, version_at, head_at, test_at, signals_at, instances_at, events_at, record_at, whole, from_front, reading, HasFault}
+use Rattle.record_codec.proofs.Readers.{IsBytes, bind_ok, let_pass, ok_is, Takes, Takes-then, Read, last}
 use Rattle.record_codec.proofs.Numbers.{IsWithin, one_byte, wide8, wide16, wide32, wide64, number_field, within_field}
 use Rattle.record_codec.proofs.Texts.{text_field}
 use Rattle.record_codec.proofs.Tables.{AreRows, signals_field, instances_field}
@@ -100,18 +104,14 @@ test_again t rest fits =
 
 -- ---- the record
 
-abbrev test_of : Record → TestRow
+abbrev test_of : Fields → TestRow
 test_of r = record { id = r.id; status = r.status; seed = r.seed; time = r.time; user = r.user }
 
 -- the spelling of a record, with what follows
-abbrev record_and : Record → List ℕ → List ℕ
+abbrev pub record_and : Fields → List ℕ → List ℕ
 record_and r rest = head ++ test_and (test_of r) (signal_table r.signals ++ (instance_table r.instances ++ (event_list r.events ++ rest)))
 
-alone : (r : Record) → record_and r [] ≡ spelling r
-unfolding spelling
-alone r = ap (λ (events : List ℕ). head ++ test_and (test_of r) (signal_table r.signals ++ (instance_table r.instances ++ events))) (append-nil (event_list r.events))
-
-pub record Found (bytes : List ℕ) (x : Record × List ℕ) : Type 0 where
+pub record Found (bytes : List ℕ) (x : Fields × List ℕ) : Type 0 where
   pub parts : bytes ≡ record_and x.0 x.1
   pub within : IsWithinLimits x.0
 
@@ -140,7 +140,7 @@ record_made bytes a b c d e t signals instances events letters test s i v =
       };
     }
 
-record_takes : (bytes : List ℕ) (x : Record × List ℕ) → IsBytes bytes → record_at bytes ≡ Ok x → Found bytes x
+record_takes : (bytes : List ℕ) (x : Fields × List ℕ) → IsBytes bytes → record_at bytes ≡ Ok x → Found bytes x
 unfolding record_at
 record_takes bytes x fits e =
     let a = bind_ok (head_at bytes) _ x e in
@@ -153,11 +153,11 @@ record_takes bytes x fits e =
     let signals = signals_field.takes b.0.1 c.0 test.takes.rest_fits c.1 in
     let instances = instances_field.takes c.0.1 d.0 signals.takes.rest_fits d.1 in
     let events = (events_field c.0.0 (length d.0.0) signals.fits instances.fits.count).takes d.0.1 f.0 instances.takes.rest_fits f.1 in
-    let r : Record = record { id = b.0.0.id; status = b.0.0.status; seed = b.0.0.seed; time = b.0.0.time; user = b.0.0.user; signals = c.0.0; instances = d.0.0; events = f.0.0 } in
-    subst (λ (y : Record × List ℕ). Found bytes y) {x = (r, f.0.1)} (ok_is (r, f.0.1) x f.2)
+    let r : Fields = record { id = b.0.0.id; status = b.0.0.status; seed = b.0.0.seed; time = b.0.0.time; user = b.0.0.user; signals = c.0.0; instances = d.0.0; events = f.0.0 } in
+    subst (λ (y : Fields × List ℕ). Found bytes y) {x = (r, f.0.1)} (ok_is (r, f.0.1) x f.2)
     (record_made bytes a.0 b.0.1 c.0.1 d.0.1 f.0.1 b.0.0 c.0.0 d.0.0 f.0.0 letters test signals instances events)
 
-record_again : (r : Record) (rest : List ℕ) → IsWithinLimits r → record_at (record_and r rest) ≡ Ok (r, rest)
+record_again : (r : Fields) (rest : List ℕ) → IsWithinLimits r → record_at (record_and r rest) ≡ Ok (r, rest)
 unfolding record_at
 record_again r rest within =
     let signals : AreRows IsSignalRow 4096 r.signals = record { count = within.signal_count; all = within.signals } in
@@ -173,18 +173,76 @@ record_again r rest within =
 
 -- ---- all of the bytes
 
-pub is_encoded : (bytes : List ℕ) (r : Record) → IsBytes bytes → reading bytes ≡ Ok r → Encodes r bytes
-unfolding reading
-is_encoded bytes r fits e =
+-- the fields spelled, and nothing behind them
+pub alone : (r : Record) → record_and (fields_of r) [] ≡ spelling r
+unfolding spelling
+alone r = ap (λ (events : List ℕ). head ++ test_and (test_of (fields_of r)) (signal_table r.signals ++ (instance_table r.instances ++ events))) (append-nil (event_list r.events))
+
+nine : (a b c d e f g h i more : List ℕ) → (a ++ (b ++ (c ++ (d ++ (e ++ (f ++ (g ++ (h ++ i)))))))) ++ more ≡ a ++ (b ++ (c ++ (d ++ (e ++ (f ++ (g ++ (h ++ (i ++ more))))))))
+nine a b c d e f g h i more = simp append_assoc
+
+-- with what follows
+pub followed : (r : Record) (more : List ℕ) → spelling r ++ more ≡ record_and (fields_of r) more
+unfolding spelling
+followed r more = nine head (text r.id) (one_byte r.status) (to_be_bytes w64 r.seed) (to_be_bytes w64 r.time) (text r.user) (signal_table r.signals) (instance_table r.instances) (event_list r.events) more
+
+pub record HasFields (bytes : List ℕ) (r : Fields) : Type 0 where
+  pub parts : bytes ≡ record_and r []
+  pub within : IsWithinLimits r
+
+pub whole_takes : (bytes : List ℕ) (r : Fields) → IsBytes bytes → whole bytes ≡ Ok r → HasFields bytes r
+unfolding whole
+whole_takes bytes r fits e =
     let a = bind_ok (record_at bytes) _ r e in
     let g = let_pass (eqb (length a.0.1) 0) (Trailing (length a.0.1)) (Ok a.0.0) r a.2 in
     let nothing : a.0.1 ≡ [] = nil_from_length a.0.1 (eqb-true _ _ g.0) in
     let found = record_takes bytes a.0 fits a.1 in
-    let all : bytes ≡ spelling a.0.0 = found.parts ∙ ap (record_and a.0.0) nothing ∙ alone a.0.0 in
-    subst (λ (x : Record). Encodes x bytes) {x = a.0.0} (ok_is a.0.0 r g.1) (record { within = found.within; spelled = all })
+    subst (λ (x : Fields). HasFields bytes x) {x = a.0.0} (ok_is a.0.0 r g.1) (record { parts = found.parts ∙ ap (record_and a.0.0) nothing; within = found.within })
 
-pub is_read : (bytes : List ℕ) (r : Record) → Encodes r bytes → reading bytes ≡ Ok r
+pub whole_again : (r : Record) → whole (spelling r) ≡ Ok (fields_of r)
+unfolding whole
+whole_again r = rw (← alone r, record_again (fields_of r) [] r.within) refl
+
+-- two records of the same fields are equal
+pub same_record : (r q : Record) → fields_of r ≡ fields_of q → r ≡ q
+same_record r q e = λ i. record {
+  id = (e i).id;
+  status = (e i).status;
+  seed = (e i).seed;
+  time = (e i).time;
+  user = (e i).user;
+  signals = (e i).signals;
+  instances = (e i).instances;
+  events = (e i).events;
+  within = is_prop→PathP (λ j. IsWithinLimits (e j)) (λ j. IsWithinLimits-prop (e j)) r.within q.within i;
+}
+
+pub read_again : (r : Record) → reading (spelling r) ≡ Ok (fields_of r)
 unfolding reading
-is_read bytes r h =
-    let one : bytes ≡ record_and r [] = h.spelled ∙ sym (alone r) in
-    rw (one, record_again r [] h.within) refl
+read_again r = ap (from_front (length (spelling r))) (whole_again r)
+
+ok_fields : (x y : Fields) → ◌≡◌ {A = Result Fields RecordFault} (Ok x) (Ok y) → x ≡ y
+ok_fields x y e = cc
+
+-- bytes spell one record at most
+pub one_record : (bytes : List ℕ) (r q : Record) → Encodes r bytes → Encodes q bytes → r ≡ q
+one_record bytes r q h k = same_record r q (ok_fields _ _ (sym (read_again r) ∙ ap reading (sym h.spelled ∙ k.spelled) ∙ read_again q))
+
+-- and none where there is a fault
+pub no_fault : (bytes : List ℕ) (r : Record) (fault : RecordFault) → Encodes r bytes → HasFault bytes fault → ⊥
+no_fault bytes r fault h e = let f : reading bytes ≡ Ok (fields_of r) = ap reading h.spelled ∙ read_again r in cc
+
+pub one_fault : (bytes : List ℕ) (fault other : RecordFault) → HasFault bytes fault → HasFault bytes other → fault ≡ other
+one_fault bytes fault other e f = cc
+
+-- ---- fronts
+
+ok_pair : (x y : Fields × List ℕ) → ◌≡◌ {A = Result (Fields × List ℕ) Fault} (Ok x) (Ok y) → x ≡ y
+ok_pair x y e = cc
+
+-- no record's bytes are the front of another's
+pub no_front : (r q : Record) (more : List ℕ) → spelling r ++ more ≡ spelling q → (r ≡ q) × (more ≡ [])
+no_front r q more e =
+    let behind : record_and (fields_of r) more ≡ record_and (fields_of q) [] = sym (followed r more) ∙ e ∙ sym (alone q) in
+    let same = ok_pair (fields_of r, more) (fields_of q, []) (sym (record_again (fields_of r) more r.within) ∙ ap record_at behind ∙ record_again (fields_of q) [] q.within) in
+    (same_record r q (ap (λ (x : Fields × List ℕ). x.0) same), ap (λ (x : Fields × List ℕ). x.1) same)

@@ -7,7 +7,7 @@ use Rattle.record_codec.specs.declared.record.InstRow.{InstRow}
 use Rattle.record_codec.specs.Limits.{IsSignalRow, IsInstRow}
 use Rattle.record_codec.specs.Spelling.{text, flag, signal_row, inst_row, signal_table, instance_table}
 use Rattle.record_codec.specs.Reading.{◌>>=◌, number_within, text_at, counted, signal_at, signals_at, instance_at, instances_at}
-use Rattle.record_codec.proofs.Laws.{Reader, IsBytes, bind_ok, ok_is, Takes, Takes-then, Read, IsField, step, last}
+use Rattle.record_codec.proofs.Readers.{Reader, IsBytes, bind_ok, ok_is, Takes, Takes-then, Read, IsField, step, last}
 use Rattle.record_codec.proofs.Numbers.{IsWithin, wide8, wide16, within_field}
 use Rattle.record_codec.proofs.Texts.{text_field}
 use Rattle.record_codec.proofs.Counts.{counted_takes, counted_again}

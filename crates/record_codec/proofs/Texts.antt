@@ -9,7 +9,7 @@ use Rattle.record_codec.specs.declared.fault.Fault.TheVariants.{Short}
 use Rattle.record_codec.specs.Limits.{IsText}
 use Rattle.record_codec.specs.Spelling.{text}
 use Rattle.record_codec.specs.Reading.{number_within, is_bad, unless_bad, text_at}
-use Rattle.record_codec.proofs.Laws.{IsBytes, IsBytes-drop, bind_ok, not_refused, ok_is, Takes, Takes-then, Read, IsField}
+use Rattle.record_codec.proofs.Readers.{IsBytes, IsBytes-drop, bind_ok, not_refused, ok_is, Takes, Takes-then, Read, IsField}
 use Rattle.record_codec.proofs.Numbers.{wide16, within_field}
 
 abbrev IsGood : ℕ → ℕ → Type 0

@@ -1,7 +1,8 @@
--- The limits of a record's fields.
-use Rattle.std.specs.Prelude.{◌≡◌, ℕ, ◌<◌, ◌≤◌, ◌^◌, List, [], ◌∷◌, length, slice_get, IfSome, IsSomeAnd, false}
+-- What a record's fields may hold.
+use Rattle.std.specs.Prelude.{ℕ, ◌<◌, ◌≤◌, ◌^◌, List, length, slice_get, IfSome, IsSomeAnd}
 use Rattle.std.specs.List.{AllByRecursion}
-use Rattle.record_codec.specs.declared.record.Record.{Record}
+use Rattle.std.proofs.Props.{props}
+use Rattle.record_codec.specs.declared.record.Fields.{Fields}
 use Rattle.record_codec.specs.declared.record.SignalRow.{SignalRow}
 use Rattle.record_codec.specs.declared.record.InstRow.{InstRow}
 use Rattle.record_codec.specs.declared.record.Event.{Event}
@@ -27,7 +28,7 @@ abbrev pub IsEvent : List SignalRow → ℕ → Event → Type 0
 IsEvent signals instances (Set signal value) = IsSomeAnd (slice_get signals signal) (λ row. IfSome value (λ bits. bits < 2 ^ row.width))
 IsEvent signals instances (Sample instance) = instance < instances
 
-pub record IsWithinLimits (r : Record) : Type 0 where
+pub record IsWithinLimits (r : Fields) : Type 0 where
   pub id : IsText 1 255 33 r.id
   pub status : r.status < 4
   pub seed : r.seed < 2 ^ 64
@@ -40,7 +41,20 @@ pub record IsWithinLimits (r : Record) : Type 0 where
   pub event_count : length r.events ≤ 1048576
   pub events : AllByRecursion (IsEvent r.signals (length r.instances)) r.events
 
--- The records that are read so far: one signal, of width 8 and unsigned, and one instance.
-pub record IsSingle (r : Record) : Type 0 where
-  pub signal : (name : List ℕ) × (r.signals ≡ record { name = name; width = 8; signed = false } ∷ [])
-  pub instance : (row : InstRow) × (r.instances ≡ row ∷ [])
+-- ---- each of these is known in one way at most, as a field of a type must be
+
+pub IsText-prop : (least most low : ℕ) (text : List ℕ) → IsProp (IsText least most low text)
+IsText-prop least most low text = hlevel props
+
+pub IsSignalRow-prop : (row : SignalRow) → IsProp (IsSignalRow row)
+IsSignalRow-prop row = hlevel (props, IsText-prop)
+
+pub IsInstRow-prop : (row : InstRow) → IsProp (IsInstRow row)
+IsInstRow-prop row = hlevel (props, IsText-prop)
+
+pub IsEvent-prop : (signals : List SignalRow) (instances : ℕ) (e : Event) → IsProp (IsEvent signals instances e)
+IsEvent-prop signals instances (Set signal value) = hlevel props
+IsEvent-prop signals instances (Sample instance) = hlevel props
+
+pub IsWithinLimits-prop : (r : Fields) → IsProp (IsWithinLimits r)
+IsWithinLimits-prop r = hlevel (props, IsText-prop, IsSignalRow-prop, IsInstRow-prop, IsEvent-prop)

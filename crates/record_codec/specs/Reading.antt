@@ -1,5 +1,17 @@
--- Reading the record that bytes begin with, from left to right, with the first fault that is met. The place of a
--- fault is told by the number of bytes that are left there, its own among them.
+-- Reading a record, version 1, from its bytes, with the first fault that is met.
+--
+-- The bytes are read from left to right, field by field, in the order: letters, version, id, status, seed, time, user,
+-- signals, instances, events. The first field that refuses decides, and what stands behind it isn't looked at. A number
+-- is a field; a text begins with its length, and the length and the bytes are one field. For a number these are tried
+-- in this order: it runs past the end of the bytes (Short), it is out of its range (BadField; of the version BadVersion,
+-- of the letters BadMagic, of the number of events TooManyEvents). For a text: its length runs past the end (Short), the
+-- length is out of its range (BadField), the bytes run past the end (Short), a byte is out of its range (BadField, of
+-- the first such byte). The number of a signal or an instance is out of its range where no row has it. Behind the last
+-- event the bytes end (else Trailing).
+--
+-- The place of a fault is the number of bytes before the first byte of the field: before the byte itself where a byte of
+-- a text is out of its range, before the length where the text runs past the end. In the parts below it is told
+-- by the number of bytes that are left at that place, its own among them; `reading` counts it from the front.
 use Rattle.std.specs.Prelude.{◌≡◌, ℕ, zero, suc, ◌+◌, ◌-◌, ◌^◌, List, [], ◌∷◌, length, take, drop, slice_get, Option, Some, None, Result, Ok, Err, Bool, nat_lt, nat_le, ◌==◌, ◌||◌, if◌then◌else◌, ok_or}
 use mathlib.Core.Bool.{◌&&◌}
 use Rattle.std.specs.List.{position}
@@ -9,11 +21,13 @@ use Rattle.record_codec.specs.declared.fault.Fault.TheVariants.{Short, BadMagic,
 use Rattle.record_codec.specs.declared.fault.RecordFault.{RecordFault}
 use Rattle.record_codec.specs.declared.fault.RecordFault.TheVariants as refusals
 use Rattle.record_codec.specs.declared.record.Record.{Record}
+use Rattle.record_codec.specs.declared.record.Fields.{Fields}
 use Rattle.record_codec.specs.declared.record.TestRow.{TestRow}
 use Rattle.record_codec.specs.declared.record.SignalRow.{SignalRow}
 use Rattle.record_codec.specs.declared.record.InstRow.{InstRow}
 use Rattle.record_codec.specs.declared.record.Event.{Event}
 use Rattle.record_codec.specs.declared.record.Event.TheVariants.{Set, Sample}
+use Rattle.record_codec.specs.Spelling.{fields_of}
 
 infixl 10 ◌>>=◌
 abbrev pub ◌>>=◌ : {A B : Type 0} → Result A Fault → (A → Result B Fault) → Result B Fault
@@ -143,7 +157,7 @@ events_at signals instances bytes = do
   n ← number_at w32 bytes
   if nat_lt 1048576 n.0 then Err (TooManyEvents n.0) else counted (event_at signals instances) n.0 n.1
 
-unfoldable pub record_at : List ℕ → Result (Record × List ℕ) Fault
+unfoldable pub record_at : List ℕ → Result (Fields × List ℕ) Fault
 record_at bytes = do
   rest ← head_at bytes
   test ← test_at rest
@@ -153,17 +167,42 @@ record_at bytes = do
   Ok (record { id = test.0.id; status = test.0.status; seed = test.0.seed; time = test.0.time; user = test.0.user; signals = signals.0; instances = instances.0; events = events.0 }, events.1)
 
 -- the record that is all of the bytes
-unfoldable pub reading : List ℕ → Result Record Fault
-reading bytes = do
+unfoldable pub whole : List ℕ → Result Fields Fault
+whole bytes = do
   r ← record_at bytes
   if length r.1 == 0 then Ok r.0 else Err (Trailing (length r.1))
 
--- how a fault is told for now
-abbrev pub refusal : Fault → RecordFault
-refusal Memory = refusals.Memory
-refusal (Short left) = refusals.Unread
-refusal BadMagic = refusals.Unread
-refusal (BadVersion version) = refusals.Unread
-refusal (BadField left) = refusals.Unread
-refusal (TooManyEvents count) = refusals.Unread
-refusal (Trailing left) = refusals.Unread
+-- ---- places from the front
+
+-- the fault in so many bytes
+abbrev pub told : ℕ → Fault → RecordFault
+told total (Short left) = refusals.Short (total - left)
+told total BadMagic = refusals.BadMagic
+told total (BadVersion version) = refusals.BadVersion version
+told total (BadField left) = refusals.BadField (total - left)
+told total (TooManyEvents count) = refusals.TooManyEvents count
+told total (Trailing left) = refusals.Trailing (total - left)
+told total Memory = refusals.Memory
+
+abbrev pub from_front : {A : Type 0} → ℕ → Result A Fault → Result A RecordFault
+from_front total (Ok x) = Ok x
+from_front total (Err fault) = Err (told total fault)
+
+-- the fields of the record that is all of the bytes, or the first fault
+unfoldable pub reading : List ℕ → Result Fields RecordFault
+reading bytes = from_front (length bytes) (whole bytes)
+
+-- the first fault of bytes that are no record
+abbrev pub HasFault : List ℕ → RecordFault → Type 0
+HasFault bytes fault = reading bytes ≡ Err fault
+
+-- A call read this: its record has these fields, or its fault is this one; want of memory alone is free.
+abbrev pub HasRead : Result Record RecordFault → Result Fields RecordFault → Type 0
+HasRead (Ok r) read = read ≡ Ok (fields_of r)
+HasRead (Err (refusals.Short at)) read = read ≡ Err (refusals.Short at)
+HasRead (Err refusals.BadMagic) read = read ≡ Err refusals.BadMagic
+HasRead (Err (refusals.BadVersion version)) read = read ≡ Err (refusals.BadVersion version)
+HasRead (Err (refusals.BadField at)) read = read ≡ Err (refusals.BadField at)
+HasRead (Err (refusals.TooManyEvents count)) read = read ≡ Err (refusals.TooManyEvents count)
+HasRead (Err (refusals.Trailing at)) read = read ≡ Err (refusals.Trailing at)
+HasRead (Err refusals.Memory) read = Unit {0}

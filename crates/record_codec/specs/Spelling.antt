@@ -7,7 +7,7 @@ use Rattle.record_codec.specs.declared.record.SignalRow.{SignalRow}
 use Rattle.record_codec.specs.declared.record.InstRow.{InstRow}
 use Rattle.record_codec.specs.declared.record.Event.{Event}
 use Rattle.record_codec.specs.declared.record.Event.TheVariants.{Set, Sample}
-use Rattle.record_codec.specs.Limits.{IsWithinLimits}
+use Rattle.record_codec.specs.declared.record.Fields.{Fields}
 
 -- its length in two bytes, and the text
 abbrev pub text : List ℕ → List ℕ
@@ -47,12 +47,19 @@ instance_table rows = to_be_bytes w16 (length rows) ++ flat_map inst_row rows
 abbrev pub event_list : List Event → List ℕ
 event_list events = to_be_bytes w32 (length events) ++ flat_map event events
 
+-- what stands before the tables
+abbrev pub front : Record → List ℕ
+front r = head ++ (text r.id ++ (r.status ∷ (to_be_bytes w64 r.seed ++ (to_be_bytes w64 r.time ++ text r.user))))
+
 unfoldable pub spelling : Record → List ℕ
 spelling r =
     head ++ (text r.id ++ (r.status ∷ (to_be_bytes w64 r.seed ++ (to_be_bytes w64 r.time ++ (text r.user
     ++ (signal_table r.signals ++ (instance_table r.instances ++ event_list r.events)))))))
 
--- the bytes are those of the record, all of them, and it is within its limits
+-- the bytes are those of the record, all of them
 pub record Encodes (r : Record) (bytes : List ℕ) : Type 0 where
-  pub within : IsWithinLimits r
   pub spelled : bytes ≡ spelling r
+
+-- the fields of a record; two records that have the same are equal
+abbrev pub fields_of : Record → Fields
+fields_of r = record { id = r.id; status = r.status; seed = r.seed; time = r.time; user = r.user; signals = r.signals; instances = r.instances; events = r.events }

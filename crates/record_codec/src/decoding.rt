@@ -1,42 +1,75 @@
 //! A record from its bytes.
-ghost use Rattle.std.specs.Prelude.{◌≡◌, ◌↔◌, ◌≤◌, length, IsTrue, IfOk, Err};
+ghost use Rattle.std.specs.Prelude.{◌≡◌, ◌-◌, ◌≤◌, length, IfOk, IfErr, Err};
 ghost use Rattle.record_codec.specs.declared.record.Record.{Record};
-ghost use Rattle.record_codec.specs.Limits.{IsSingle};
-ghost use Rattle.record_codec.specs.Spelling.{Encodes};
+ghost use Rattle.record_codec.specs.Limits.{IsWithinLimits};
+ghost use Rattle.record_codec.specs.Reading.{told, reading, HasRead};
+ghost use Rattle.record_codec.specs.Spelling.{fields_of, Encodes};
 
+use crate::fault::Fault;
 use crate::reading::whole_record;
+use crate::record::Fields;
 use crate::{Record, RecordFault};
 use std::alloc::Global;
 
-// Whether it has one signal, of width 8 and unsigned, and one instance.
-fn is_single(found: &Record) -> bool
-    ensures { IsTrue result ↔ IsSingle found.now }
+// The place where so many bytes are left, counted from the front.
+fn place(total: usize, left: usize) -> u32
+    requires { total ≤ 8388608 }
+    ensures { result ≡ total - left }
 {
-    let [row] = found.signals.as_slice() else {
-        return false;
-    };
-    if row.width != 8 {
-        return false;
-    }
-    if row.signed {
-        return false;
-    }
-    found.instances.as_slice().len() == 1
+    total.saturating_sub(left) as u32
 }
 
-/// The record that the bytes spell, all of them.
-///
-/// So far records of one signal, of width 8 and unsigned, and of one instance are read; `Unread` is answered exactly
-/// where the bytes spell no such record.
+// The fault with its place counted from the front.
+fn fault_told(total: usize, fault: Fault) -> RecordFault
+    requires { total ≤ 8388608 }
+    ensures { result ≡ told total fault }
+{
+    match fault {
+        Fault::Short { left } => RecordFault::Short {
+            at: place(total, left),
+        },
+        Fault::BadMagic => RecordFault::BadMagic,
+        Fault::BadVersion { version } => RecordFault::BadVersion { v: version },
+        Fault::BadField { left } => RecordFault::BadField {
+            at: place(total, left),
+        },
+        Fault::TooManyEvents { count } => RecordFault::TooManyEvents { n: count as u64 },
+        Fault::Trailing { left } => RecordFault::Trailing {
+            at: place(total, left),
+        },
+        Fault::Memory => RecordFault::Memory,
+    }
+}
+
+// The record that has these fields.
+fn record_of(fields: Fields) -> Record
+    requires { IsWithinLimits fields }
+    ensures { fields_of result ≡ fields }
+{
+    Record {
+        id: fields.id,
+        status: fields.status,
+        seed: fields.seed,
+        time: fields.time,
+        user: fields.user,
+        signals: fields.signals,
+        instances: fields.instances,
+        events: fields.events,
+    }
+}
+
+/// The record that the bytes spell, all of them; or the first fault in reading order, with its place. The bytes are at
+/// most 8,388,608.
 pub fn decode(alloc: Global, bytes: &[u8]) -> Result<Record, RecordFault>
     requires { length bytes.now ≤ 8388608 }
-    ensures read { IfOk result (λ r. Encodes r bytes.now × IsSingle r) }
+    // The result is that of reading the bytes.
+    ensures told { HasRead result (reading bytes.now) }
+    ensures read { IfOk result (λ r. Encodes r bytes.now) }
     ensures only { IfOk result (λ r. (other : Record) → Encodes other bytes.now → other ≡ r) }
-    ensures unread { result ≡ Err RecordFault.Unread → (r : Record) → Encodes r bytes.now → IsSingle r → ⊥ }
+    ensures none { IfErr result (λ fault. (fault ≡ RecordFault.Memory → ⊥) → (r : Record) → Encodes r bytes.now → ⊥) }
 {
-    let record = whole_record(alloc, bytes)?;
-    if !is_single(&record) {
-        return Err(RecordFault::Unread);
+    match whole_record(alloc, bytes) {
+        Ok(fields) => Ok(record_of(fields)),
+        Err(fault) => Err(fault_told(bytes.len(), fault)),
     }
-    Ok(record)
 }

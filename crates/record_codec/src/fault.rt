@@ -1,17 +1,32 @@
 //! Why bytes are no record.
 ghost use Rattle.std.specs.Prelude.{◌≡◌};
-ghost use Rattle.record_codec.specs.declared.fault.RecordFault.TheVariants.{Memory};
 ghost use Rattle.record_codec.specs.declared.fault.Fault.TheVariants as faults;
 
-use std::alloc::{AllocError, AllocFailed};
+use std::alloc::AllocFailed;
 use thiserror::Error;
 
-/// Why bytes are not read as a record.
+/// Why bytes are not read as a record: the first fault in reading order, or want of memory. A place is the number of
+/// bytes before it.
 #[derive(Clone, Copy, Debug, PartialEq, Eq, Error)]
 pub enum RecordFault {
-    /// They are no record, or one of a kind that isn't read yet.
-    #[error("the bytes are no record that is read")]
-    Unread,
+    /// A field that begins at `at` runs past the end.
+    #[error("the field at byte {at} runs past the end")]
+    Short { at: u32 },
+    /// The bytes don't begin with CVRC.
+    #[error("the bytes don't begin with CVRC")]
+    BadMagic,
+    /// The version is not 1.
+    #[error("the version {v} is not read")]
+    BadVersion { v: u16 },
+    /// The field at `at`, or the byte of a text there, is out of its range.
+    #[error("the field at byte {at} is out of its range")]
+    BadField { at: u32 },
+    /// `n` events are announced, more than 1,048,576.
+    #[error("{n} events are too many")]
+    TooManyEvents { n: u64 },
+    /// Bytes stand behind the last event, from `at` on.
+    #[error("bytes follow the last event from byte {at} on")]
+    Trailing { at: u32 },
     /// Memory ran out.
     #[error("out of memory")]
     Memory,
@@ -34,43 +49,6 @@ pub(crate) enum Fault {
     Trailing { left: usize },
     /// Memory ran out.
     Memory,
-}
-
-impl From<AllocError> for RecordFault {
-    ghost from_gives = { λ _ e. e ≡ Memory };
-
-    fn from(_: AllocError) -> Self {
-        RecordFault::Memory
-    }
-}
-
-impl<T: Drop> From<AllocFailed<T>> for RecordFault {
-    ghost from_gives = { λ _ e. e ≡ Memory };
-
-    fn from(_: AllocFailed<T>) -> Self {
-        RecordFault::Memory
-    }
-}
-
-impl From<cov_tree::Memory> for RecordFault {
-    ghost from_gives = { λ _ e. e ≡ Memory };
-
-    fn from(_: cov_tree::Memory) -> Self {
-        RecordFault::Memory
-    }
-}
-
-impl From<Fault> for RecordFault {
-    ghost use Rattle.record_codec.specs.Reading.{refusal};
-
-    ghost from_gives = { λ fault e. e ≡ refusal fault };
-
-    fn from(fault: Fault) -> Self {
-        match fault {
-            Fault::Memory => RecordFault::Memory,
-            _ => RecordFault::Unread,
-        }
-    }
 }
 
 impl From<cov_tree::Memory> for Fault {

@@ -2,14 +2,17 @@
 #![tactic(auto)]
 
 mod decoding;
+mod encoding;
 mod events;
 mod fault;
 mod fields;
+pub mod laws;
 mod reading;
 mod record;
 mod rows;
 
 pub use decoding::decode;
+pub use encoding::encode;
 pub use fault::RecordFault;
 pub use record::{Event, InstRow, Record, SignalRow};
 

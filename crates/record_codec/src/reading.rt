@@ -1,12 +1,11 @@
 //! A whole record, read from left to right up to its first fault.
 ghost use Rattle.std.specs.Prelude.{◌≡◌};
-ghost use Rattle.record_codec.specs.Reading.{Gives, version_at, head_at, test_at, record_at, reading};
+ghost use Rattle.record_codec.specs.Reading.{Gives, version_at, head_at, test_at, record_at, whole};
 
-use crate::Record;
 use crate::events::event_list;
 use crate::fault::Fault;
 use crate::fields::{text_within, u8_within, u16_at, u32_at, u64_at};
-use crate::record::TestRow;
+use crate::record::{Fields, TestRow};
 use crate::rows::{instance_table, signal_table};
 use std::alloc::Global;
 
@@ -56,7 +55,7 @@ fn test_row(alloc: Global, bytes: &[u8]) -> Result<(TestRow, &[u8]), Fault>
 
 // The record at the front of the bytes.
 #[tactic(auto, unfolding(crate::specs::Reading::record_at))]
-fn front_record(alloc: Global, bytes: &[u8]) -> Result<(Record, &[u8]), Fault>
+fn front_record(alloc: Global, bytes: &[u8]) -> Result<(Fields, &[u8]), Fault>
     ensures { Gives (λ x. (x.0, x.1.now)) result (record_at bytes.now) }
 {
     let rest = head(bytes)?;
@@ -65,7 +64,7 @@ fn front_record(alloc: Global, bytes: &[u8]) -> Result<(Record, &[u8]), Fault>
     let (instances, rest) = instance_table(alloc, rest)?;
     let count = instances.as_slice().len();
     let (events, rest) = event_list(alloc, signals.as_slice(), count, rest)?;
-    let record = Record {
+    let fields = Fields {
         id: test.id,
         status: test.status,
         seed: test.seed,
@@ -75,17 +74,17 @@ fn front_record(alloc: Global, bytes: &[u8]) -> Result<(Record, &[u8]), Fault>
         instances,
         events,
     };
-    Ok((record, rest))
+    Ok((fields, rest))
 }
 
 /// The record that is all of the bytes, or their first fault.
-#[tactic(auto, unfolding(crate::specs::Reading::reading))]
-pub(crate) fn whole_record(alloc: Global, bytes: &[u8]) -> Result<Record, Fault>
-    ensures { Gives (λ r. r) result (reading bytes.now) }
+#[tactic(auto, unfolding(crate::specs::Reading::whole))]
+pub(crate) fn whole_record(alloc: Global, bytes: &[u8]) -> Result<Fields, Fault>
+    ensures { Gives (λ r. r) result (whole bytes.now) }
 {
-    let (record, rest) = front_record(alloc, bytes)?;
+    let (fields, rest) = front_record(alloc, bytes)?;
     if !rest.is_empty() {
         return Err(Fault::Trailing { left: rest.len() });
     }
-    Ok(record)
+    Ok(fields)
 }

@@ -1,7 +1,9 @@
 //! What a record holds.
+ghost use Rattle.record_codec.specs.Limits.{IsWithinLimits, IsWithinLimits-prop};
+
 use cov_tree::{List, Name};
 
-/// One test of a simulation.
+/// One test of a simulation. It is always within its limits: whoever makes one shows them.
 #[derive(Drop, Debug)]
 pub struct Record {
     /// The test's name: 1 to 255 printable bytes, no spaces.
@@ -18,8 +20,23 @@ pub struct Record {
     pub signals: List<SignalRow>,
     /// The sampled instances, at most 1,024.
     pub instances: List<InstRow>,
-    /// What happened, in order, at most 1,048,576 events.
+    /// What happened, in order, at most 1,048,576 events. Their signals and instances are numbers of rows, and a value
+    /// has no more bits than its signal.
     pub events: List<Event>,
+    pub ghost within: { IsWithinLimits (record { id = id; status = status; seed = seed; time = time; user = user; signals = signals; instances = instances; events = events }) } by { IsWithinLimits-prop (record { id = id; status = status; seed = seed; time = time; user = user; signals = signals; instances = instances; events = events }) },
+}
+
+/// The fields of a record, before they are known to be within its limits.
+#[derive(Drop, Debug)]
+pub(crate) struct Fields {
+    pub(crate) id: Name,
+    pub(crate) status: u8,
+    pub(crate) seed: u64,
+    pub(crate) time: u64,
+    pub(crate) user: Name,
+    pub(crate) signals: List<SignalRow>,
+    pub(crate) instances: List<InstRow>,
+    pub(crate) events: List<Event>,
 }
 
 /// A signal: its name of 1 to 1,024 printable bytes without spaces, its width of 1 to 64 bits, and whether it is signed.

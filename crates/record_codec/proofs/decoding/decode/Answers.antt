@@ -1,23 +1,24 @@
-use Rattle.std.proofs.Common.{arith, subst}
-use Rattle.std.proofs.lemmas.Result.{err_from_is_err_and}
-use Rattle.record_codec.specs.Limits.{IsSingle}
-use Rattle.record_codec.proofs.RecordLaws.{is_encoded}
-use Rattle.record_codec.proofs.Singles.{same, refused}
+use Rattle.std.proofs.Common.{arith, sym, subst, ◌∙◌, Err}
+use Rattle.record_codec.specs.Reading.{HasRead, reading}
+use Rattle.record_codec.specs.declared.fault.RecordFault.{RecordFault}
+use Rattle.record_codec.proofs.RecordLaws.{whole_takes, one_record}
+use Rattle.record_codec.proofs.Decoded.{read_is, encodes, fault_read, none_has}
 use Rattle.record_codec.proofs.decoding.decode.Goals as goal
 
-pub returns-in_err-record-clause-unread : goal.returns-in_err-record-clause-unread
-returns-in_err-record-clause-unread c =
-    let p = err_from_is_err_and c.from_residual.result c.from_residual.ensures.1 in
-    let f = c.in_err-record.field-0.0 in
-    λ u r h one. refused c.args.bytes.now f c.in_err-record.ensures (let first = p.1 in let second = p.2 in cc) r h
+pub record_of-requires : goal.record_of-requires
+record_of-requires c = (whole_takes c.args.bytes.now c.in-Ok.fields (λ i. omega (arith, c.type_inv.bytes i)) c.in-Ok.ensures).within
 
-pub returns-then-not-is_single-clause-unread : goal.returns-then-not-is_single-clause-unread
-returns-then-not-is_single-clause-unread c = λ e r h one.
-    let s : IsSingle c.in_ok-record.record = subst IsSingle (same c.args.bytes.now c.in_ok-record.record r c.in_ok-record.ensures h) one in
-    let t = c.is_single.ensures.1 s in let u = c.if-not-is_single.true in cc
+pub returns-in-Ok-clause-told : goal.returns-in-Ok-clause-told
+returns-in-Ok-clause-told c = read_is c.args.bytes.now c.in-Ok.fields c.record_of.result c.in-Ok.ensures c.record_of.ensures
 
-pub returns-clause-read : goal.returns-clause-read
-returns-clause-read c = (is_encoded c.args.bytes.now c.in_ok-record.record (λ i. omega (arith, c.type_inv.bytes i)) c.in_ok-record.ensures, c.is_single.ensures.0 c.if-not-is_single.false)
+pub returns-in-Ok-clause-read : goal.returns-in-Ok-clause-read
+returns-in-Ok-clause-read c = encodes c.args.bytes.now c.in-Ok.fields c.record_of.result (λ i. omega (arith, c.type_inv.bytes i)) c.in-Ok.ensures c.record_of.ensures
 
-pub returns-clause-only : goal.returns-clause-only
-returns-clause-only c = λ other h. same c.args.bytes.now c.in_ok-record.record other c.in_ok-record.ensures h
+pub returns-in-Ok-clause-only : goal.returns-in-Ok-clause-only
+returns-in-Ok-clause-only c = λ other h. one_record c.args.bytes.now other c.record_of.result h (encodes c.args.bytes.now c.in-Ok.fields c.record_of.result (λ i. omega (arith, c.type_inv.bytes i)) c.in-Ok.ensures c.record_of.ensures)
+
+pub returns-in-Err-clause-told : goal.returns-in-Err-clause-told
+returns-in-Err-clause-told c = subst (λ (f : RecordFault). HasRead (Err f) (reading c.args.bytes.now)) (sym c.fault_told.ensures) (fault_read c.args.bytes.now c.in-Err.fault c.in-Err.ensures)
+
+pub returns-in-Err-clause-none : goal.returns-in-Err-clause-none
+returns-in-Err-clause-none c = λ other r h. none_has c.args.bytes.now c.in-Err.fault c.in-Err.ensures (λ e. other (c.fault_told.ensures ∙ e)) r h

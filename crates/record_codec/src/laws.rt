@@ -1,0 +1,26 @@
+//! What holds of the form itself. Each function does nothing: it stands for the law that it ensures.
+ghost use Rattle.std.specs.Prelude.{◌≡◌, ℕ, ◌<◌, List, [], ◌++◌, slice_index, Ok};
+ghost use Rattle.record_codec.specs.declared.record.Fields.{Fields};
+ghost use Rattle.record_codec.specs.declared.record.Record.{Record};
+ghost use Rattle.record_codec.specs.Spelling.{spelling, fields_of, Encodes};
+ghost use Rattle.record_codec.specs.Reading.{reading};
+
+/// Bytes spell one record at most: a record is known from its bytes.
+pub fn bytes_have_one_record()
+    ensures { (bytes : List ℕ) (r q : Record) → Encodes r bytes → Encodes q bytes → r ≡ q }
+{}
+
+/// No record's bytes are the front of another's, so that records may follow one another.
+pub fn records_are_no_fronts()
+    ensures { (r q : Record) (more : List ℕ) → spelling r ++ more ≡ spelling q → (r ≡ q) × (more ≡ []) }
+{}
+
+/// The bytes of each record are read as that record, however many they are.
+pub fn spelled_is_read()
+    ensures { (r : Record) → reading (spelling r) ≡ Ok (fields_of r) }
+{}
+
+/// What is read is the one record that the bytes spell.
+pub fn read_is_spelled()
+    ensures { (bytes : List ℕ) (f : Fields) → ((at : ℕ) → slice_index bytes at < 256) → reading bytes ≡ Ok f → (r : Record) × (fields_of r ≡ f) × Encodes r bytes }
+{}
