@@ -216,6 +216,66 @@ fn refuses_records(rt: HostRuntime) -> Result<(), Fail> {
     Ok(())
 }
 
+// One byte of t1 with another value, and the line: first bytes out of their range, then the other faults.
+static SPOILED: [(usize, u8, &'static [u8]); 46] = [
+    (7, 0, b"record 1 refused BadField 6\n"),
+    (6, 1, b"record 1 refused BadField 6\n"),
+    (8, 0x20, b"record 1 refused BadField 8\n"),
+    (9, 0x7F, b"record 1 refused BadField 9\n"),
+    (9, 0x80, b"record 1 refused BadField 9\n"),
+    (10, 4, b"record 1 refused BadField 10\n"),
+    (27, 1, b"record 1 refused BadField 27\n"),
+    (28, 1, b"record 1 refused BadField 29\n"),
+    (29, 0x10, b"record 1 refused BadField 29\n"),
+    (32, 0, b"record 1 refused BadField 31\n"),
+    (31, 4, b"record 1 refused BadField 31\n"),
+    (33, 0x20, b"record 1 refused BadField 33\n"),
+    (33, 0x7F, b"record 1 refused BadField 33\n"),
+    (34, 0, b"record 1 refused BadField 34\n"),
+    (34, 65, b"record 1 refused BadField 34\n"),
+    (35, 2, b"record 1 refused BadField 35\n"),
+    (36, 4, b"record 1 refused BadField 36\n"),
+    (39, 0, b"record 1 refused BadField 38\n"),
+    (38, 4, b"record 1 refused BadField 38\n"),
+    (40, 0x20, b"record 1 refused BadField 40\n"),
+    (42, 0, b"record 1 refused BadField 41\n"),
+    (41, 4, b"record 1 refused BadField 41\n"),
+    (43, 0x7F, b"record 1 refused BadField 43\n"),
+    (48, 0, b"record 1 refused BadField 48\n"),
+    (48, 3, b"record 1 refused BadField 48\n"),
+    (48, 2, b"record 1 refused BadField 55\n"),
+    (49, 1, b"record 1 refused BadField 49\n"),
+    (50, 1, b"record 1 refused BadField 49\n"),
+    (51, 2, b"record 1 refused BadField 51\n"),
+    (58, 1, b"record 1 refused BadField 52\n"),
+    (52, 128, b"record 1 refused BadField 52\n"),
+    (62, 1, b"record 1 refused BadField 61\n"),
+    (60, 0, b"record 1 refused BadField 60\n"),
+    (0, 0x44, b"record 1 refused BadMagic 0\n"),
+    (3, 0x44, b"record 1 refused BadMagic 0\n"),
+    (5, 0, b"record 1 refused BadVersion 0\n"),
+    (5, 2, b"record 1 refused BadVersion 2\n"),
+    (4, 1, b"record 1 refused BadVersion 257\n"),
+    (7, 74, b"record 1 refused Short 6\n"),
+    (28, 255, b"record 1 refused Short 27\n"),
+    (32, 49, b"record 1 refused Short 31\n"),
+    (47, 6, b"record 1 refused Short 81\n"),
+    (47, 4, b"record 1 refused Trailing 78\n"),
+    (47, 0, b"record 1 refused Trailing 48\n"),
+    (45, 16, b"record 1 refused TooManyEvents 1048581\n"),
+    (44, 255, b"record 1 refused TooManyEvents 4278190085\n"),
+];
+
+#[test]
+fn refuses_spoiled_records(rt: HostRuntime) -> Result<(), Fail> {
+    let alloc = rt.alloc();
+    for (at, value, text) in SPOILED.iter() {
+        assert!(rt; *at < 81);
+        check_record(&rt, &with_middle(alloc, *at, *at + 1, &[*value])?, text)?;
+    }
+    Ok(())
+}
+
 #[test]
 fn refuses_other_shapes(rt: HostRuntime) -> Result<(), Fail> {
     let alloc = rt.alloc();
