@@ -1,11 +1,22 @@
-//! Names, lists and literals, as the other crates keep them: contracts see a `Name` as a list of bytes and a `List` as a list.
+//! Names, lists, literals and the syntax tree of a design text, as the other crates keep them:
+//! contracts see a `Name` as a list of bytes, a `List` as a list and a `Boxed` as the value in it, so that a tree is plain data.
 #![tactic(auto)]
 
+mod bins;
+mod boxed;
+mod declarations;
+mod expr;
+mod groups;
 mod list;
 mod literal;
 mod memory;
 mod name;
 
+pub use bins::{BinsDecl, Elem, End, OptDecl, OptText, Right, Size, Step, Times, Word};
+pub use boxed::Boxed;
+pub use declarations::{Decl, DesignText, TypeText};
+pub use expr::{BinOp, Expr, UnOp};
+pub use groups::{CrossBins, CrossDecl, EdgeKind, EdgeText, Formal, Member, PointDecl, Sel};
 pub use list::List;
 pub use literal::Literal;
 pub use memory::Memory;

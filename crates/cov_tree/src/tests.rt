@@ -12,5 +12,8 @@ fn keeps_what_it_is_given(rt: HostRuntime) -> Result<(), Fail> {
     let list = List::of(Vec::from_slice(alloc, &[3u64, 1])?);
     assert_eq!(rt; list.as_slice(), [3u64, 1].as_slice());
     assert_eq!(rt; list.into_vec().as_slice(), [3u64, 1].as_slice());
+    let boxed = Boxed::of(alloc, 7u64)?;
+    assert_eq!(rt; *boxed.get(), 7);
+    assert_eq!(rt; boxed.into_inner(), 7);
     Ok(())
 }

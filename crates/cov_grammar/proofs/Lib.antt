@@ -1,0 +1,12 @@
+pub mod Sets
+pub mod Facts
+pub mod Many
+pub mod Sound
+pub mod Lawful
+pub mod Compose
+pub mod Steps
+pub mod ExprLaws
+pub mod BinsLaws
+pub mod GroupLaws
+pub mod DesignLaws
+pub mod Whole

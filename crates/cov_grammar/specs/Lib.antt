@@ -1,0 +1,10 @@
+pub mod Kinds
+pub mod Rule
+pub mod Parses
+pub mod Operators
+pub mod Expressions
+pub mod Bins
+pub mod Groups
+pub mod Designs
+pub mod Marking
+pub mod Fault

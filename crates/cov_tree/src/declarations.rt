@@ -1,0 +1,63 @@
+//! Declarations of a design text. Each `at` is a byte offset in the text.
+use crate::{EdgeText, Expr, Formal, List, Member, Name};
+
+/// A type as it is written (IEEE 1800-2017, 6.11).
+#[derive(Drop, Debug)]
+pub enum TypeText {
+    /// `bit`, `logic` or `reg`, with the ends of its span, high and low, where it has one; at its word.
+    Vector {
+        signed: bool,
+        span: Option<(Expr, Expr)>,
+        at: u32,
+    },
+    /// `byte`, `shortint`, `int`, `longint` or `integer`, by its width in bits.
+    Fixed {
+        width: u8,
+        signed: bool,
+    },
+    /// The name of an enumeration.
+    Named {
+        name: Name,
+        at: u32,
+    },
+}
+
+/// A declaration.
+#[derive(Drop, Debug)]
+pub enum Decl {
+    /// An enumeration with its constants in order and the values that they are given (IEEE 1800-2017, 6.19), at the word `typedef`.
+    Enum {
+        name: Name,
+        base: Option<TypeText>,
+        names: List<(Name, Option<Expr>)>,
+        at: u32,
+    },
+    /// A variable, at its name. A declaration of several variables gives one for each.
+    Var {
+        typ: TypeText,
+        name: Name,
+        at: u32,
+    },
+    /// A covergroup, at its word.
+    Group {
+        name: Name,
+        formals: List<Formal>,
+        event: List<EdgeText>,
+        members: List<Member>,
+        at: u32,
+    },
+    /// An instance of a covergroup, at the group's name.
+    Instance {
+        group: Name,
+        name: Name,
+        args: List<Expr>,
+        at: u32,
+    },
+}
+
+/// The syntax tree of a design text: its declarations in order.
+#[derive(Drop, Debug)]
+pub struct DesignText {
+    /// The declarations.
+    pub decls: List<Decl>,
+}
