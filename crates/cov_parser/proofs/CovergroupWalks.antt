@@ -1,0 +1,496 @@
+-- Where a reader of covergroups stands, from one part of a rule to the next.
+use Rattle.std.proofs.Common.{◌≡◌, ℕ, ◌+◌, List, [], ◌∷◌, ◌++◌, Option, Some, None, Bool, true, false, not, ◌&&◌, ◌||◌, ◌⊎◌, eqb, append-nil, Result, Ok, Err, inl, inr, refl, sym, ◌∙◌, ap, subst, arith}
+use Rattle.cov_tree.specs.declared.expr.Expr.{Expr}
+use Rattle.cov_tree.specs.declared.groups.Member.{Member}
+use Rattle.cov_tree.specs.declared.groups.Formal.{Formal}
+use Rattle.cov_tree.specs.declared.groups.EdgeText.{EdgeText}
+use Rattle.cov_tree.specs.declared.declarations.TypeText.{TypeText}
+use Rattle.cov_grammar.specs.declared.kind.Kind.{Kind}
+use Rattle.cov_grammar.specs.declared.kind.Kind.TheVariants.{Ident, CovergroupWord, EndgroupWord, CoverpointWord, CrossWord, OrWord, OpenParen, CloseParen, Comma, Semi, Colon, AtSign, Assign}
+use Rattle.cov_grammar.specs.declared.kind.Marked.{Marked}
+use Rattle.cov_grammar.specs.declared.place.Place.{Place}
+use Rattle.cov_grammar.specs.declared.place.Room.{Room}
+use Rattle.cov_grammar.specs.declared.place.Stop.{Stop}
+use Rattle.cov_grammar.specs.declared.place.Stop.TheVariants.{Memory, Syntax, TooDeep}
+use Rattle.cov_grammar.specs.Kinds.{code, has, has_code}
+use Rattle.cov_grammar.specs.Rule.{Rule, In, one, word, same_word, here, offset, both, bind, either, give, many, map_to, fold, ahead, behind, maybe}
+use Rattle.cov_grammar.specs.Parses.{Reads, Stops, Fails, Parses}
+use Rattle.std.specs.Prelude.{IfOk, IfErr}
+use Rattle.std.specs.Result.{IsErrAnd}
+use lib.Pointwise.{pointwise}
+use Rattle.std.proofs.lemmas.Bool.{eqb-true}
+use Rattle.std.proofs.lemmas.Grind.{common_steps}
+use Rattle.std.proofs.lemmas.Result.{err_from_is_err_and}
+use Rattle.cov_grammar.specs.Expressions.{pair, snoc, expr}
+use Rattle.cov_grammar.specs.Bins.{ident, optset}
+use Rattle.cov_grammar.specs.Groups.{point, cross, label, item, member}
+use Rattle.cov_grammar.specs.Designs.{list_or, Written, written, with_formal, last_is_ref, is_ref_or, group_of, type_text, formal, formal_list, formals, edge, event, members, group_end, group}
+use Rattle.cov_grammar.proofs.Sets.{disjoint, and_true, split, In_apart}
+use Rattle.cov_grammar.proofs.Lawful.{Lawful, Lawfuls, facts_of, lawful_word, lawful_one, lawful_here, lawful_same_word, lawful_map, lawful_maybe, lawful_both, lawful_fold}
+use Rattle.cov_grammar.proofs.Compose.{Past, map_reads, map_fails, both_reads, both_fails, both_then_fails, maybe_none, maybe_some, maybe_fails}
+use Rattle.cov_grammar.proofs.Steps.{Leads, leads_self, here_reads, one_fails, one_next, both_opens, step, ends, bind_step, bind_ends, map_leads, without, maybe_step, many_breaks, fold_starts, fold_fails, item_read, item_fails, no_item}
+use Rattle.cov_grammar.proofs.BinsLaws.{ident_lawful}
+use Rattle.cov_grammar.proofs.GroupLaws.{option_words, item_firsts, label_lawful, member_lawful}
+use Rattle.cov_grammar.proofs.DesignLaws.{append, directions, type_text_lawful, value_lawful, formal_rest_lawful, formal_lawful, formal_list_lawful, formal_parens_lawful, formals_lawful, edge_lawful, event_lawful, members_lawful, group_end_lawful, group_head_lawful, group_body_lawful, group_rest_lawful}
+use Rattle.cov_parser.proofs.DesignWalks.{Members}
+
+-- a list of kinds without its first
+or_rest : (a b : Bool) → (a || b) ≡ true → ((a || false) ≡ true → ⊥) → b ≡ true
+or_rest true b h n = absurd (n refl)
+or_rest false b h n = h
+
+pub other_kind : (ts : List Marked) (i : ℕ) (k : Kind) (ks : List Kind) → In ts i (k ∷ ks) → (In ts i (k ∷ []) → ⊥) → In ts i ks
+other_kind ts i k ks h n = record {
+  token = h.token;
+  stands = h.stands;
+  of = or_rest (eqb (code h.token.kind) (code k)) (has h.token.kind ks) h.of (λ e. n (record { token = h.token; stands = h.stands; of = e }));
+}
+
+or_cases : (a b : Bool) → (a || b) ≡ true → (a ≡ true) ⊎ (b ≡ true)
+or_cases true b h = inl refl
+or_cases false b h = inr h
+
+or_more : (a b : Bool) → a ≡ true → (a || b) ≡ true
+or_more true b h = refl
+or_more false b h = cc
+
+or_other : (a b : Bool) → b ≡ true → (a || b) ≡ true
+or_other true b h = refl
+or_other false b h = h
+
+has_split : (n : ℕ) (xs ys : List Kind) → has_code n (xs ++ ys) ≡ true → (has_code n xs ≡ true) ⊎ (has_code n ys ≡ true)
+has_split n [] ys h = inr h
+has_split n (x ∷ xs) ys h = elim (or_cases (eqb n (code x)) (has_code n (xs ++ ys)) h) [
+  | inl e ↦ inl (or_more (eqb n (code x)) _ e)
+  | inr e ↦ elim (has_split n xs ys e) [ inl l ↦ inl (or_other (eqb n (code x)) _ l) | inr r ↦ inr r ]
+]
+
+-- a token of these kinds or those
+In_split : (ts : List Marked) (i : ℕ) (xs ys : List Kind) → In ts i (xs ++ ys) → In ts i xs ⊎ In ts i ys
+In_split ts i xs ys h = elim (has_split (code h.token.kind) xs ys h.of) [
+  | inl e ↦ inl (record { token = h.token; stands = h.stands; of = e })
+  | inr e ↦ inr (record { token = h.token; stands = h.stands; of = e })
+]
+
+-- pieces of a text that are compared byte by byte
+and_parts : (a b : Bool) → (a && b) ≡ true → (a ≡ true) × (b ≡ true)
+and_parts true b h = (refl, h)
+and_parts false b h = (h, absurd (cc))
+
+pointwise_equal : (xs ys : List ℕ) → pointwise eqb xs ys ≡ true → xs ≡ ys
+pointwise_equal [] [] h = refl
+pointwise_equal [] (y ∷ ys) h = absurd (cc)
+pointwise_equal (x ∷ xs) [] h = absurd (cc)
+pointwise_equal (x ∷ xs) (y ∷ ys) h =
+    let p = and_parts (eqb x y) (pointwise eqb xs ys) h in
+    let a = eqb-true x y p.0 in
+    let b = pointwise_equal xs ys p.1 in
+    cc
+
+pointwise_self : (xs : List ℕ) → pointwise eqb xs xs ≡ true
+pointwise_self [] = refl
+pointwise_self (x ∷ xs) = and_true (eqb x x) (pointwise eqb xs xs) (grind (arith, common_steps)) (pointwise_self xs)
+
+not_false : (b : Bool) → not b ≡ false → b ≡ true
+not_false true h = refl
+not_false false h = sym h
+
+pub pieces_equal : (b : Bool) (xs ys : List ℕ) → b ≡ not (pointwise eqb xs ys) → b ≡ false → xs ≡ ys
+pieces_equal b xs ys h e = pointwise_equal xs ys (not_false (pointwise eqb xs ys) (sym h ∙ e))
+
+pub pieces_differ : (b : Bool) (xs ys : List ℕ) → b ≡ not (pointwise eqb xs ys) → b ≡ true → xs ≡ ys → ⊥
+pieces_differ b xs ys h e same =
+    let all : pointwise eqb xs ys ≡ true = subst (λ zs. pointwise eqb xs zs ≡ true) same (pointwise_self xs) in
+    let n : not (pointwise eqb xs ys) ≡ true = sym h ∙ e in
+    let m : not true ≡ true = subst (λ z. not z ≡ true) all n in
+    cc
+
+-- the token that was read, as one of this kind
+pub word_of : (ts : List Marked) (ks : List Kind) (k : Kind) {d : Room} {p : Place} {t : Marked} {q : Place} → In ts p.at (k ∷ []) → Reads (λ _. one ts ks) d p t q → Reads (λ _. word ts k) d p t q
+unfolding one
+word_of ts ks k {t = t} h r =
+    let same : Some h.token ≡ Some t = sym h.stands ∙ r.derives.0 in
+    let eq : h.token ≡ t = cc in
+    let of : has t.kind (k ∷ []) ≡ true = subst (λ (u : Marked). has u.kind (k ∷ []) ≡ true) eq h.of in record {
+      derives = (r.derives.0, of, r.derives.2);
+      reach = λ e n x. let at = ap (λ (z : Place). z.at) r.derives.2 in elim x [ inl y ↦ omega (arith, y, at) | inr y ↦ omega (arith, y.3, at) ];
+    }
+
+-- the exit of a `?`, for an answer's fault
+pub fault_of : {A T : Type 0} {F : Room → Rule T} {d : Room} {p : Place} {s : Stop} (r : Result A Stop) → IsErrAnd r (λ e. e ≡ s) → Fails F d p s → IfErr r (Fails F d p)
+fault_of r h f =
+    let x = err_from_is_err_and r h in
+    rw (x.1, x.2) f
+
+-- where not even the first token of A stands
+pub maybe_stuck : {T : Type 0} {ts : List Marked} {A : Room → Rule T} (la : Lawful ts A) {d : Room} {p : Place} → Stops A d p p.at → Reads (λ e. maybe (A e)) d p None p
+unfolding maybe either give map_to bind
+maybe_stuck la {p = p} c = record {
+  derives = inl (refl, refl);
+  reach = λ e n h. elim h [
+    | inl g ↦ omega (arith, g)
+    | inr g ↦ elim g [
+      | inl b ↦ c.reach e n b
+      | inr x ↦ (let l = c.reach e x.1.at ((facts_of la e).whole p x.0 x.1 x.2) in let same = x.3 in omega arith)
+    ]
+  ];
+}
+
+-- A or nothing before a closing token that doesn't stand there
+pub unclosed : {T : Type 0} {ts : List Marked} {A : Room → Rule T} (la : Lawful ts A) (filled : la.null ≡ false) (k : Kind) (apart : disjoint (la.cont ++ la.first) (k ∷ []) ≡ true) {d : Room} {p : Place} (e : Stop) →
+    (In ts p.at (k ∷ []) → ⊥) → Fails A d p e → Fails (λ r. behind (maybe (A r)) (word ts k)) d p e
+unclosed la filled k apart Memory n f = record { cause = tt }
+unclosed {ts = ts} {A = A} la filled k apart {d = d} {p = p} (Syntax m) n f =
+    elim (split m p.at ((facts_of la d).order p m f.cause.begins)) [
+      | inl e ↦ (let stuck : Stops A d p p.at = subst (λ m. Stops A d p m) e f.cause in
+          subst (λ m. Fails (λ r. behind (maybe (A r)) (word ts k)) d p (Syntax m)) (sym e)
+          (both_then_fails _ (lawful_maybe la filled) (lawful_word ts k) apart (maybe_stuck la stuck) (one_fails ts (k ∷ []) d p n)))
+      | inr past ↦ both_fails _ (lawful_maybe la filled) (lawful_word ts k) apart (maybe_fails la filled past f)
+    ]
+unclosed {ts = ts} la filled k apart (TooDeep m) n f = both_fails _ (lawful_maybe la filled) (lawful_word ts k) apart (maybe_fails la filled tt f)
+
+-- the last formal of a longer list
+pub last_put : (fs : List Formal) (f : Formal) → last_is_ref (fs ++ f ∷ []) ≡ f.by_ref
+last_put [] f = refl
+last_put (g ∷ []) f = refl
+last_put (g ∷ h ∷ fs) f = last_put (h ∷ fs) f
+
+-- a formal as it is written, with the direction of the one before it
+abbrev pub formal_at : Bool → Written → Formal
+formal_at last w = record { by_ref = is_ref_or last w.direction; typ = w.type; name = w.name; default = w.default; at = w.start }
+
+pub formal_put : (last : Bool) (w : Written) (fs : List Formal) → last_is_ref fs ≡ last → fs ++ formal_at last w ∷ [] ≡ with_formal fs w
+formal_put last w fs e = ap (λ b. fs ++ formal_at b w ∷ []) (sym e)
+
+module _ (text : List ℕ) (ts : List Marked) where
+  abbrev w : (k : Kind) → Lawful ts (λ _. one ts (k ∷ []))
+  w k = lawful_word ts k
+
+  -- "endgroup" [ ":" ident ]
+  abbrev same_lawful : (name : List ℕ) → Lawful ts (λ _. ahead (word ts Colon) (same_word text ts Ident name))
+  same_lawful name = lawful_both _ (w Colon) (lawful_same_word text ts Ident name) refl
+
+  abbrev maybe_same_lawful : (name : List ℕ) → Lawful ts (λ _. maybe (ahead (word ts Colon) (same_word text ts Ident name)))
+  maybe_same_lawful name = lawful_maybe (same_lawful name) refl
+
+  pub no_end : (name : List ℕ) {d : Room} {p : Place} {e : Stop} → Fails (λ _. word ts EndgroupWord) d p e → Fails (λ _. group_end text ts name) d p e
+  unfolding group_end
+  no_end name f = both_fails _ (w EndgroupWord) (maybe_same_lawful name) refl f
+
+  abbrev end_rest : (name : List ℕ) {d : Room} {p : Place} {t : Marked} {q : Place} → Reads (λ _. word ts EndgroupWord) d p t q →
+      Leads (λ _. maybe (ahead (word ts Colon) (same_word text ts Ident name))) d q (λ _. group_end text ts name) d p (λ x. x)
+  unfolding group_end
+  end_rest name {d = d} {p = p} r = step _ (w EndgroupWord) (maybe_same_lawful name) refl (leads_self (λ _. group_end text ts name) d p) r
+
+  pub unnamed_end : (name : List ℕ) {d : Room} {p : Place} {t : Marked} {q : Place} → Reads (λ _. word ts EndgroupWord) d p t q → (In ts q.at (Colon ∷ []) → ⊥) → Reads (λ _. group_end text ts name) d p None q
+  unnamed_end name r n = without (same_lawful name) refl (end_rest name r) n
+
+  pub named_end : (name : List ℕ) {d : Room} {p : Place} {t : Marked} {q : Place} {c : Marked} {m : Place} → Reads (λ _. word ts EndgroupWord) d p t q → Reads (λ _. word ts Colon) d q c m →
+      Leads (λ _. same_word text ts Ident name) d m (λ _. group_end text ts name) d p (λ x. Some x)
+  named_end name {d = d} {q = q} r s = maybe_step (same_lawful name) refl (lawful_same_word text ts Ident name) (end_rest name r)
+      (step _ (w Colon) (lawful_same_word text ts Ident name) refl (leads_self (λ _. ahead (word ts Colon) (same_word text ts Ident name)) d q) s)
+      (let n = (one_next ts (Colon ∷ []) s).0 in omega arith)
+
+  -- a formal
+  abbrev typed_lawful : Lawful ts (λ e. both pair (type_text text ts e) (ident text ts))
+  typed_lawful = lawful_both pair (type_text_lawful text ts) (ident_lawful text ts) refl
+
+  abbrev pub maybe_value_rule : Room → Rule (Option Expr)
+  maybe_value_rule e = maybe (ahead (word ts Assign) (expr text ts e))
+
+  abbrev typed_value_lawful : Lawful ts (λ e. both pair (both pair (type_text text ts e) (ident text ts)) (maybe_value_rule e))
+  typed_value_lawful = lawful_both pair typed_lawful (value_lawful text ts) refl
+
+  abbrev formal_lawfuls : Lawfuls ts (λ e (start : ℕ). both (written start) (maybe (one ts directions)) (both pair (both pair (type_text text ts e) (ident text ts)) (maybe_value_rule e)))
+  formal_lawfuls = record { first = (formal_rest_lawful text ts 0).first; cont = (formal_rest_lawful text ts 0).cont; null = false; sound = λ start. (formal_rest_lawful text ts start).sound }
+
+  pub directed : {d : Room} {p : Place} {t : Option Marked} {q : Place} → Reads (λ _. maybe (one ts directions)) d p t q →
+      Leads (λ e. both pair (both pair (type_text text ts e) (ident text ts)) (maybe_value_rule e)) d q (formal text ts) d p (written (offset ts p.at) t)
+  unfolding formal
+  directed {d = d} {p = p} r = step (written (offset ts p.at)) (lawful_maybe (lawful_one ts directions) refl) typed_value_lawful refl
+      (bind_step (lawful_here ts) formal_lawfuls refl (leads_self (formal text ts) d p) (here_reads ts d p)) r
+
+  pub untyped : {d : Room} {p : Place} {t : Option Marked} {q : Place} {e : Stop} → Reads (λ _. maybe (one ts directions)) d p t q → Fails (type_text text ts) d q e → Fails (formal text ts) d p e
+  untyped r f = ends pair typed_lawful (value_lawful text ts) refl (directed r) (both_fails pair (type_text_lawful text ts) (ident_lawful text ts) refl f)
+
+  pub formal_unnamed : {d : Room} {p : Place} {t : Option Marked} {q : Place} {x : TypeText} {m : Place} {e : Stop} → Reads (λ _. maybe (one ts directions)) d p t q → Reads (type_text text ts) d q x m → Fails (λ _. ident text ts) d m e → Fails (formal text ts) d p e
+  formal_unnamed r s f = ends pair typed_lawful (value_lawful text ts) refl (directed r) (both_then_fails pair (type_text_lawful text ts) (ident_lawful text ts) refl s f)
+
+  pub formal_valued : {d : Room} {p : Place} {t : Option Marked} {q : Place} {x : TypeText} {m : Place} {y : List ℕ} {k : Place} → Reads (λ _. maybe (one ts directions)) d p t q → Reads (type_text text ts) d q x m → Reads (λ _. ident text ts) d m y k →
+      Leads maybe_value_rule d k (formal text ts) d p (λ v. written (offset ts p.at) t ((x, y), v))
+  formal_valued r s u = step pair typed_lawful (value_lawful text ts) refl (directed r) (both_reads pair (type_text_lawful text ts) (ident_lawful text ts) refl s u)
+
+  pub direction_read : {d : Room} {p : Place} {t : Marked} {q : Place} → Reads (λ _. one ts directions) d p t q → Reads (λ _. maybe (one ts directions)) d p (Some t) q
+  direction_read r = maybe_some (lawful_one ts directions) refl r
+
+  pub no_direction : {d : Room} {p : Place} → (In ts p.at directions → ⊥) → Reads (λ _. maybe (one ts directions)) d p None p
+  no_direction n = maybe_none (lawful_one ts directions) refl n
+
+  -- formal { "," formal }
+  abbrev more_formal_lawful : Lawful ts (λ e. ahead (word ts Comma) (formal text ts e))
+  more_formal_lawful = lawful_both _ (w Comma) (formal_lawful text ts) refl
+
+  abbrev pub Formals : Room → Place → List Formal → Place → Type 0
+  Formals d o fs p = Leads (λ e. many with_formal (ahead (word ts Comma) (formal text ts e)) fs) d p (formal_list text ts) d o (λ x. x)
+
+  pub no_formal : {d : Room} {p : Place} {e : Stop} → Fails (formal text ts) d p e → Fails (formal_list text ts) d p e
+  unfolding formal_list
+  no_formal f = fold_fails with_formal (lawful_map (formal_lawful text ts) (with_formal [])) more_formal_lawful refl refl refl (map_fails (with_formal []) (formal_lawful text ts) f)
+
+  pub first_formal : {d : Room} {p : Place} {v : Written} {q : Place} → Reads (formal text ts) d p v q → Formals d p (with_formal [] v) q
+  unfolding formal_list
+  first_formal r = fold_starts with_formal (lawful_map (formal_lawful text ts) (with_formal [])) more_formal_lawful refl refl refl (map_reads (with_formal []) (formal_lawful text ts) r)
+
+  pub formal_fails : {d : Room} {o : Place} (fs : List Formal) {p : Place} {t : Marked} {q : Place} {e : Stop} → Formals d o fs p → Reads (λ _. word ts Comma) d p t q → Fails (formal text ts) d q e → Fails (formal_list text ts) d o e
+  formal_fails fs l r f = item_fails with_formal (λ _ b. b) (w Comma) (formal_lawful text ts) refl refl refl fs l r (let n = (one_next ts (Comma ∷ []) r).0 in omega arith) f
+
+  pub formal_read : {d : Room} {o : Place} (fs : List Formal) {p : Place} {t : Marked} {q : Place} {v : Written} {k : Place} → Formals d o fs p → Reads (λ _. word ts Comma) d p t q → Reads (formal text ts) d q v k → Formals d o (with_formal fs v) k
+  formal_read fs l r s = item_read with_formal (λ _ b. b) (w Comma) (formal_lawful text ts) refl refl refl fs l r s
+
+  -- a formal x that was read behind one of this direction
+  abbrev pub FormalRead : Room → Place → Bool → Formal → Place → Type 0
+  FormalRead d p last x q = (v : Written) × Reads (formal text ts) d p v q × ((before : List Formal) → last_is_ref before ≡ last → before ++ x ∷ [] ≡ with_formal before v)
+
+  pub first_put : {d : Room} {p : Place} {x : Formal} {q : Place} → FormalRead d p false x q → Formals d p (x ∷ []) q × (last_is_ref (x ∷ []) ≡ x.by_ref)
+  first_put {d = d} {p = p} {x = x} {q = q} r = (subst (λ fs. Formals d p fs q) (sym (r.2 [] refl)) (first_formal r.1), refl)
+
+  pub next_put : {d : Room} {o : Place} (fs : List Formal) {last : Bool} {p : Place} {t : Marked} {q : Place} {x : Formal} {k : Place} → Formals d o fs p × (last_is_ref fs ≡ last) → Reads (λ _. word ts Comma) d p t q → FormalRead d q last x k →
+      Formals d o (fs ++ x ∷ []) k × (last_is_ref (fs ++ x ∷ []) ≡ x.by_ref)
+  next_put {d = d} {o = o} fs {x = x} {k = k} l r s = (subst (λ fs. Formals d o fs k) (sym (s.2 fs l.1)) (formal_read fs l.0 r s.1), last_put fs x)
+
+  pub formals_end : {d : Room} {o : Place} (fs : List Formal) {p : Place} → Formals d o fs p → (In ts p.at (Comma ∷ []) → ⊥) → Reads (formal_list text ts) d o fs p
+  formals_end fs l n = no_item with_formal (λ _ b. b) (w Comma) (formal_lawful text ts) refl refl refl fs l n
+
+  -- [ "(" [ formal { "," formal } ] ")" ]
+  abbrev pub parens : Room → Rule (Option (List Formal))
+  parens e = behind (maybe (formal_list text ts e)) (word ts CloseParen)
+
+  abbrev maybe_list_lawful : Lawful ts (λ e. maybe (formal_list text ts e))
+  maybe_list_lawful = lawful_maybe (formal_list_lawful text ts) refl
+
+  abbrev parens_lawful : Lawful ts parens
+  parens_lawful = lawful_both _ maybe_list_lawful (w CloseParen) refl
+
+  abbrev opened_lawful : Lawful ts (λ e. ahead (word ts OpenParen) (parens e))
+  opened_lawful = lawful_both _ (w OpenParen) parens_lawful refl
+
+  pub no_formals : {d : Room} {p : Place} → (In ts p.at (OpenParen ∷ []) → ⊥) → Reads (formals text ts) d p [] p
+  unfolding formals
+  no_formals n = map_reads list_or (lawful_maybe (formal_parens_lawful text ts) refl) (maybe_none (formal_parens_lawful text ts) refl n)
+
+  pub formals_open : {d : Room} {p : Place} {t : Marked} {q : Place} → Reads (λ _. word ts OpenParen) d p t q → Leads parens d q (formals text ts) d p list_or
+  unfolding formals
+  formals_open {d = d} {p = p} r = maybe_step (formal_parens_lawful text ts) refl parens_lawful
+      (map_leads list_or (lawful_maybe (formal_parens_lawful text ts) refl) (leads_self (formals text ts) d p))
+      (step _ (w OpenParen) parens_lawful refl (map_leads list_or opened_lawful (leads_self (λ e. map_to list_or (ahead (word ts OpenParen) (parens e))) d p)) r)
+      (let n = (one_next ts (OpenParen ∷ []) r).0 in omega arith)
+
+  pub no_list : {d : Room} {p : Place} {t : Marked} {q : Place} → In ts p.at (CloseParen ∷ []) → Reads (λ _. word ts CloseParen) d p t q → Reads parens d p None q
+  no_list {p = p} h r = both_reads _ maybe_list_lawful (w CloseParen) refl (maybe_none (formal_list_lawful text ts) refl (λ v. In_apart ts p.at (formal_list_lawful text ts).first (CloseParen ∷ []) refl v h)) r
+
+  pub list_fails : {d : Room} {p : Place} {e : Stop} → (In ts p.at (CloseParen ∷ []) → ⊥) → Fails (formal_list text ts) d p e → Fails parens d p e
+  list_fails {e = e} n f = unclosed (formal_list_lawful text ts) refl CloseParen refl e n f
+
+  pub list_closes : {d : Room} {p : Place} {fs : List Formal} {q : Place} → Reads (formal_list text ts) d p fs q → Leads (λ _. word ts CloseParen) d q parens d p (λ _. Some fs)
+  list_closes {d = d} {p = p} r = step _ maybe_list_lawful (w CloseParen) refl (leads_self parens d p) (maybe_some (formal_list_lawful text ts) refl r)
+
+  -- edge { ( "or" | "," ) edge }
+  abbrev pub between : List Kind
+  between = OrWord ∷ Comma ∷ []
+
+  abbrev pub single : EdgeText → List EdgeText
+  single x = x ∷ []
+
+  abbrev pub edge_list : Room → Rule (List EdgeText)
+  edge_list e = fold snoc (map_to single (edge text ts e)) (ahead (one ts between) (edge text ts e))
+
+  abbrev more_edge_lawful : Lawful ts (λ e. ahead (one ts between) (edge text ts e))
+  more_edge_lawful = lawful_both _ (lawful_one ts between) (edge_lawful text ts) refl
+
+  abbrev edge_list_lawful : Lawful ts edge_list
+  edge_list_lawful = lawful_fold snoc (lawful_map (edge_lawful text ts) single) more_edge_lawful refl refl refl
+
+  abbrev pub Edges : Room → Place → List EdgeText → Place → Type 0
+  Edges d o es p = Leads (λ e. many snoc (ahead (one ts between) (edge text ts e)) es) d p edge_list d o (λ x. x)
+
+  pub no_edge : {d : Room} {p : Place} {e : Stop} → Fails (edge text ts) d p e → Fails edge_list d p e
+  no_edge f = fold_fails snoc (lawful_map (edge_lawful text ts) single) more_edge_lawful refl refl refl (map_fails single (edge_lawful text ts) f)
+
+  pub first_edge : {d : Room} {p : Place} {x : EdgeText} {q : Place} → Reads (edge text ts) d p x q → Edges d p (x ∷ []) q
+  first_edge r = fold_starts snoc (lawful_map (edge_lawful text ts) single) more_edge_lawful refl refl refl (map_reads single (edge_lawful text ts) r)
+
+  pub edge_fails : {d : Room} {o : Place} (es : List EdgeText) {p : Place} {t : Marked} {q : Place} {e : Stop} → Edges d o es p → Reads (λ _. one ts between) d p t q → Fails (edge text ts) d q e → Fails edge_list d o e
+  edge_fails es l r f = item_fails snoc (λ _ b. b) (lawful_one ts between) (edge_lawful text ts) refl refl refl es l r (let n = (one_next ts between r).0 in omega arith) f
+
+  pub edge_read : {d : Room} {o : Place} (es : List EdgeText) {p : Place} {t : Marked} {q : Place} {x : EdgeText} {k : Place} → Edges d o es p → Reads (λ _. one ts between) d p t q → Reads (edge text ts) d q x k → Edges d o (es ++ x ∷ []) k
+  edge_read es l r s = item_read snoc (λ _ b. b) (lawful_one ts between) (edge_lawful text ts) refl refl refl es l r s
+
+  pub edges_end : {d : Room} {o : Place} (es : List EdgeText) {p : Place} → Edges d o es p → (In ts p.at between → ⊥) → Reads edge_list d o es p
+  edges_end es l n = no_item snoc (λ _ b. b) (lawful_one ts between) (edge_lawful text ts) refl refl refl es l n
+
+  -- [ event ]
+  abbrev pub event_or : Room → Rule (List EdgeText)
+  event_or e = map_to list_or (maybe (event text ts e))
+
+  abbrev event_or_lawful : Lawful ts event_or
+  event_or_lawful = lawful_map (lawful_maybe (event_lawful text ts) refl) list_or
+
+  abbrev closed_lawful : Lawful ts (λ e. behind (edge_list e) (word ts CloseParen))
+  closed_lawful = lawful_both _ edge_list_lawful (w CloseParen) refl
+
+  abbrev in_parens_lawful : Lawful ts (λ e. ahead (word ts OpenParen) (behind (edge_list e) (word ts CloseParen)))
+  in_parens_lawful = lawful_both _ (w OpenParen) closed_lawful refl
+
+  pub no_event : {d : Room} {p : Place} → (In ts p.at (AtSign ∷ []) → ⊥) → Reads event_or d p [] p
+  no_event n = map_reads list_or (lawful_maybe (event_lawful text ts) refl) (maybe_none (event_lawful text ts) refl n)
+
+  at_sign : {d : Room} {p : Place} {t : Marked} {q : Place} → Reads (λ _. word ts AtSign) d p t q → Leads (λ e. ahead (word ts OpenParen) (behind (edge_list e) (word ts CloseParen))) d q (event text ts) d p (λ x. x)
+  unfolding event
+  at_sign {d = d} {p = p} r = step _ (w AtSign) in_parens_lawful refl (leads_self (event text ts) d p) r
+
+  pub event_begins : {d : Room} {p : Place} {t : Marked} {q : Place} → Reads (λ _. word ts AtSign) d p t q →
+      Leads (λ e. ahead (word ts OpenParen) (behind (edge_list e) (word ts CloseParen))) d q event_or d p (λ x. x)
+  event_begins {d = d} {p = p} r = maybe_step (event_lawful text ts) refl in_parens_lawful
+      (map_leads list_or (lawful_maybe (event_lawful text ts) refl) (leads_self event_or d p)) (at_sign r)
+      (let n = (one_next ts (AtSign ∷ []) r).0 in omega arith)
+
+  pub event_unopened : {d : Room} {p : Place} {t : Marked} {q : Place} {e : Stop} → Reads (λ _. word ts AtSign) d p t q → Fails (λ _. word ts OpenParen) d q e → Fails event_or d p e
+  event_unopened r f = ends _ (w OpenParen) closed_lawful refl (event_begins r) f
+
+  pub event_edges : {d : Room} {p : Place} {t : Marked} {q : Place} {u : Marked} {m : Place} → Reads (λ _. word ts AtSign) d p t q → Reads (λ _. word ts OpenParen) d q u m →
+      Leads (λ e. behind (edge_list e) (word ts CloseParen)) d m event_or d p (λ x. x)
+  event_edges r s = step _ (w OpenParen) closed_lawful refl (event_begins r) s
+
+  pub event_stops : {d : Room} {p : Place} {t : Marked} {q : Place} {u : Marked} {m : Place} {e : Stop} → Reads (λ _. word ts AtSign) d p t q → Reads (λ _. word ts OpenParen) d q u m → Fails edge_list d m e → Fails event_or d p e
+  event_stops r s f = ends _ edge_list_lawful (w CloseParen) refl (event_edges r s) f
+
+  pub event_closes : {d : Room} {p : Place} {t : Marked} {q : Place} {u : Marked} {m : Place} {es : List EdgeText} {k : Place} → Reads (λ _. word ts AtSign) d p t q → Reads (λ _. word ts OpenParen) d q u m → Reads edge_list d m es k →
+      Leads (λ _. word ts CloseParen) d k event_or d p (λ _. es)
+  event_closes r s x = step _ edge_list_lawful (w CloseParen) refl (event_edges r s) x
+
+  -- a member whose first token stands there fails behind it
+  ident_begins : (p : Place) → In ts p.at (Ident ∷ []) → (ident text ts).begins p (p.at + 1)
+  unfolding ident map_to bind one
+  ident_begins p h = inl (inr (h.token, h.stands, h.of, refl))
+
+  label_begins : (p : Place) → In ts p.at (Ident ∷ []) → (maybe (label text ts)).begins p (p.at + 1)
+  unfolding maybe either label both map_to bind
+  label_begins p h = inr (inl (inl (ident_begins p h)))
+
+  optset_begins : (p : Place) (d : Room) → In ts p.at option_words → (optset text ts d).begins p (p.at + 1)
+  unfolding optset
+  optset_begins p d h = both_opens _ ts option_words _ p h
+
+  point_begins : (p : Place) (start : ℕ) (l : Option (List ℕ)) (d : Room) → In ts p.at (CoverpointWord ∷ []) → (point text ts start l d).begins p (p.at + 1)
+  unfolding point both bind one
+  point_begins p start l d h = inl (inl (inr (h.token, h.stands, h.of, refl)))
+
+  cross_begins : (p : Place) (start : ℕ) (l : Option (List ℕ)) (d : Room) → In ts p.at (CrossWord ∷ []) → (cross text ts start l d).begins p (p.at + 1)
+  unfolding cross both bind one
+  cross_begins p start l d h = inl (inl (inr (h.token, h.stands, h.of, refl)))
+
+  item_behind : (p : Place) (d : Room) → (In ts p.at (Ident ∷ []) → ⊥) → (n : ℕ) → (either (point text ts (offset ts p.at) None d) (cross text ts (offset ts p.at) None d)).begins p n → (item text ts d).begins p n
+  unfolding item bind
+  item_behind p d n m b = inr ((offset ts p.at, None), p, (both_reads pair (lawful_here ts) (lawful_maybe (label_lawful text ts) refl) refl (here_reads ts d p) (maybe_none (label_lawful text ts) refl {d = d} {p = p} n)).derives, b)
+
+  item_named : (p : Place) (d : Room) → In ts p.at (Ident ∷ []) → (item text ts d).begins p (p.at + 1)
+  unfolding item both map_to bind here
+  item_named p d h = inl (inr (offset ts p.at, p, (refl, refl), inl (label_begins p h)))
+
+  item_tests : (p : Place) (d : Room) → In ts p.at (CoverpointWord ∷ []) → (item text ts d).begins p (p.at + 1)
+  unfolding either
+  item_tests p d h = item_behind p d (λ v. In_apart ts p.at (Ident ∷ []) (CoverpointWord ∷ []) refl v h) _ (inl (point_begins p (offset ts p.at) None d h))
+
+  item_crosses : (p : Place) (d : Room) → In ts p.at (CrossWord ∷ []) → (item text ts d).begins p (p.at + 1)
+  unfolding either
+  item_crosses p d h = item_behind p d (λ v. In_apart ts p.at (Ident ∷ []) (CrossWord ∷ []) refl v h) _ (inr (cross_begins p (offset ts p.at) None d h))
+
+  item_begins : (p : Place) (d : Room) → In ts p.at item_firsts → (item text ts d).begins p (p.at + 1)
+  item_begins p d h = elim (In_split ts p.at (Ident ∷ []) (CoverpointWord ∷ CrossWord ∷ []) h) [
+    | inl i ↦ item_named p d i
+    | inr o ↦ elim (In_split ts p.at (CoverpointWord ∷ []) (CrossWord ∷ []) o) [ inl i ↦ item_tests p d i | inr i ↦ item_crosses p d i ]
+  ]
+
+  member_begins : (p : Place) (d : Room) → In ts p.at (option_words ++ item_firsts) → (member text ts d).begins p (p.at + 1)
+  unfolding member either map_to bind
+  member_begins p d h = elim (In_split ts p.at option_words item_firsts h) [
+    | inl o ↦ inl (inl (optset_begins p d o))
+    | inr i ↦ inr (inl (inl (item_begins p d i)))
+  ]
+
+  pub member_past : {d : Room} {p : Place} (e : Stop) → In ts p.at (option_words ++ item_firsts) → Fails (member text ts) d p e → Past p e
+  member_past Memory h f = tt
+  member_past {d = d} {p = p} (Syntax k) h f = let l = f.cause.reach d (p.at + 1) (member_begins p d h) in omega arith
+  member_past (TooDeep k) h f = tt
+
+  pub member_breaks : {d : Room} {o : Place} (ms : List Member) {p : Place} (e : Stop) → Members text ts d o ms p → In ts p.at (option_words ++ item_firsts) → Fails (member text ts) d p e → Fails (members text ts) d o e
+  member_breaks ms e l h f = many_breaks append (member_lawful text ts) refl refl ms l (member_past e h f) f
+
+  pub nothing_more : {d : Room} {o : Place} (ms : List Member) {p : Place} → Members text ts d o (ms ++ []) p → Members text ts d o ms p
+  nothing_more {d = d} {o = o} ms {p = p} l = subst (λ ms. Members text ts d o ms p) (append-nil ms) l
+
+  pub items_left : (p : Place) → In ts p.at (option_words ++ item_firsts) → (In ts p.at option_words → ⊥) → In ts p.at item_firsts
+  items_left p h n = elim (In_split ts p.at option_words item_firsts h) [ inl o ↦ absurd (n o) | inr i ↦ i ]
+
+  -- what a reader of an item and of an option answered
+  pub item_read_as : {d : Room} {p : Place} (r : Result (Member × Place) Stop) → Leads (item text ts) d p (member text ts) d p (λ m. m ∷ []) → Parses (item text ts) d p r → IfOk r (λ x. Reads (member text ts) d p (x.0 ∷ []) x.1)
+  item_read_as (Ok x) l h = l.reads h
+  item_read_as (Err e) l h = tt
+
+  pub item_fails_as : {d : Room} {p : Place} (r : Result (Member × Place) Stop) → Leads (item text ts) d p (member text ts) d p (λ m. m ∷ []) → Parses (item text ts) d p r → IfErr r (Fails (member text ts) d p)
+  item_fails_as (Ok x) l h = tt
+  item_fails_as (Err e) l h = l.fails h
+
+  -- group
+  abbrev pub signed_head : Room → Rule (List Formal × List EdgeText)
+  signed_head e = both pair (formals text ts e) (event_or e)
+
+  abbrev signed_lawful : Lawful ts signed_head
+  signed_lawful = lawful_both pair (formals_lawful text ts) event_or_lawful refl
+
+  abbrev inside_lawful : Lawful ts (λ e. ahead (word ts Semi) (members text ts e))
+  inside_lawful = lawful_both _ (w Semi) (members_lawful text ts) refl
+
+  abbrev group_lawfuls : Lawfuls ts (λ e (h : Marked × List ℕ). both (group_of h) (both pair (signed_head e) (ahead (word ts Semi) (members text ts e))) (group_end text ts h.1))
+  group_lawfuls = record { first = OpenParen ∷ AtSign ∷ Semi ∷ []; cont = Colon ∷ []; null = false; sound = λ h. (group_rest_lawful text ts h).sound }
+
+  pub no_group : {d : Room} {p : Place} {e : Stop} → Fails (λ _. word ts CovergroupWord) d p e → Fails (group text ts) d p e
+  unfolding group
+  no_group {d = d} {p = p} f = bind_ends (group_head_lawful text ts) group_lawfuls refl (leads_self (group text ts) d p) (both_fails pair (w CovergroupWord) (ident_lawful text ts) refl f)
+
+  pub group_unnamed : {d : Room} {p : Place} {t : Marked} {q : Place} {e : Stop} → Reads (λ _. word ts CovergroupWord) d p t q → Fails (λ _. ident text ts) d q e → Fails (group text ts) d p e
+  unfolding group
+  group_unnamed {d = d} {p = p} r f = bind_ends (group_head_lawful text ts) group_lawfuls refl (leads_self (group text ts) d p) (both_then_fails pair (w CovergroupWord) (ident_lawful text ts) refl r f)
+
+  -- behind the word and the name of a group
+  pub record Named (d : Room) (o : Place) (t : Marked) (x : List ℕ) (p : Place) : Type 0 where
+    pub rest : Leads (λ e. both (group_of (t, x)) (both pair (signed_head e) (ahead (word ts Semi) (members text ts e))) (group_end text ts x)) d p (group text ts) d o (λ y. y)
+
+  pub group_named : {d : Room} {p : Place} {t : Marked} {q : Place} {x : List ℕ} {m : Place} → Reads (λ _. word ts CovergroupWord) d p t q → Reads (λ _. ident text ts) d q x m → Named d p t x m
+  unfolding group
+  group_named {d = d} {p = p} r s = record { rest = bind_step (group_head_lawful text ts) group_lawfuls refl (leads_self (group text ts) d p) (both_reads pair (w CovergroupWord) (ident_lawful text ts) refl r s) }
+
+  body_fails : {d : Room} {o : Place} {t : Marked} {x : List ℕ} {p : Place} {e : Stop} → Named d o t x p → Fails (λ e. both pair (signed_head e) (ahead (word ts Semi) (members text ts e))) d p e → Fails (group text ts) d o e
+  body_fails {t = t} {x = x} l f = ends (group_of (t, x)) (group_body_lawful text ts) (group_end_lawful text ts x) refl l.rest f
+
+  pub group_unformal : {d : Room} {o : Place} {t : Marked} {x : List ℕ} {p : Place} {e : Stop} → Named d o t x p → Fails (formals text ts) d p e → Fails (group text ts) d o e
+  group_unformal l f = body_fails l (both_fails pair signed_lawful inside_lawful refl (both_fails pair (formals_lawful text ts) event_or_lawful refl f))
+
+  pub group_eventless : {d : Room} {o : Place} {t : Marked} {x : List ℕ} {p : Place} {fs : List Formal} {q : Place} {e : Stop} → Named d o t x p → Reads (formals text ts) d p fs q → Fails event_or d q e → Fails (group text ts) d o e
+  group_eventless l r f = body_fails l (both_fails pair signed_lawful inside_lawful refl (both_then_fails pair (formals_lawful text ts) event_or_lawful refl r f))
+
+  -- behind the formals and the event
+  pub head_read : {d : Room} {p : Place} {fs : List Formal} {q : Place} {es : List EdgeText} {m : Place} → Reads (formals text ts) d p fs q → Reads event_or d q es m → Reads signed_head d p (fs, es) m
+  head_read r s = both_reads pair (formals_lawful text ts) event_or_lawful refl r s
+
+  pub group_open : {d : Room} {o : Place} {t : Marked} {x : List ℕ} {p : Place} {h : List Formal × List EdgeText} {q : Place} {e : Stop} → Named d o t x p → Reads signed_head d p h q → Fails (λ _. word ts Semi) d q e → Fails (group text ts) d o e
+  group_open l r f = body_fails l (both_then_fails pair signed_lawful inside_lawful refl r (both_fails _ (w Semi) (members_lawful text ts) refl f))
+
+  pub group_stops : {d : Room} {o : Place} {t : Marked} {x : List ℕ} {p : Place} {h : List Formal × List EdgeText} {q : Place} {u : Marked} {m : Place} {e : Stop} → Named d o t x p → Reads signed_head d p h q → Reads (λ _. word ts Semi) d q u m →
+      Fails (members text ts) d m e → Fails (group text ts) d o e
+  group_stops l r s f = body_fails l (both_then_fails pair signed_lawful inside_lawful refl r (both_then_fails _ (w Semi) (members_lawful text ts) refl s f))
+
+  pub group_ends : {d : Room} {o : Place} {t : Marked} {x : List ℕ} {p : Place} {h : List Formal × List EdgeText} {q : Place} {u : Marked} {m : Place} {ms : List Member} {k : Place} → Named d o t x p → Reads signed_head d p h q →
+      Reads (λ _. word ts Semi) d q u m → Reads (members text ts) d m ms k → Leads (λ _. group_end text ts x) d k (group text ts) d o (λ e. group_of (t, x) (h, ms) e)
+  group_ends {t = t} {x = x} l r s y = step (group_of (t, x)) (group_body_lawful text ts) (group_end_lawful text ts x) refl l.rest
+      (both_reads pair signed_lawful inside_lawful refl r (both_reads _ (w Semi) (members_lawful text ts) refl s y))

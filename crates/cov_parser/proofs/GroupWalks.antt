@@ -1,0 +1,302 @@
+-- Where a reader of coverpoints and crosses stands, from one part of a rule to the next.
+use Rattle.std.proofs.Common.{◌≡◌, ℕ, ◌+◌, ◌-◌, ◌<◌, List, [], ◌∷◌, ◌++◌, Option, Some, None, true, false, length, inl, inr, refl, sym, ◌∙◌, subst, arith}
+use Rattle.cov_tree.specs.declared.expr.Expr.{Expr}
+use Rattle.cov_tree.specs.declared.bins.OptDecl.{OptDecl}
+use Rattle.cov_tree.specs.declared.bins.BinsDecl.{BinsDecl}
+use Rattle.cov_tree.specs.declared.groups.Sel.{Sel}
+use Rattle.cov_tree.specs.declared.groups.CrossBins.{CrossBins}
+use Rattle.cov_tree.specs.declared.groups.Member.{Member}
+use Rattle.cov_grammar.specs.declared.kind.Kind.{Kind}
+use Rattle.cov_grammar.specs.declared.kind.Kind.TheVariants.{Ident, BinsWord, IllegalBinsWord, IgnoreBinsWord, WildcardWord, OptionWord, TypeOptionWord, CoverpointWord, CrossWord, OpenBrace, CloseBrace, Comma, Semi, Assign}
+use Rattle.cov_grammar.specs.declared.kind.Marked.{Marked}
+use Rattle.cov_grammar.specs.declared.place.Place.{Place}
+use Rattle.cov_grammar.specs.declared.place.Room.{Room}
+use Rattle.cov_grammar.specs.declared.place.Stop.{Stop}
+use Rattle.cov_grammar.specs.declared.place.Stop.TheVariants.{Memory, Syntax, TooDeep}
+use Rattle.cov_grammar.specs.Kinds.{has}
+use Rattle.cov_grammar.specs.Rule.{Rule, In, one, word, both, bind, either, many, map_to, ahead, behind, maybe}
+use Rattle.cov_grammar.specs.Parses.{Reads, Stops, Fails}
+use Rattle.cov_grammar.specs.Expressions.{pair, snoc, expr}
+use Rattle.cov_grammar.specs.Bins.{bins_words, ident, guard, bins, optset}
+use Rattle.cov_grammar.specs.Groups.{Entry, Setting, Counting, put, nothing_put, cross_bins_of, point_of, cross_of, sel, cross_bins, body, point, crossed, cross}
+use Rattle.cov_grammar.proofs.Sets.{disjoint, split, In_apart}
+use Rattle.cov_grammar.proofs.Lawful.{Lawful, facts_of, lawful_word, lawful_one, lawful_map, lawful_maybe, lawful_many, lawful_both, lawful_either}
+use Rattle.cov_grammar.proofs.Compose.{Past, many_stuck, map_reads, map_fails, both_reads, both_fails, both_then_fails, left_reads, left_fails, right_reads, right_fails}
+use Rattle.cov_grammar.proofs.Steps.{Leads, leads_self, then, no_start, step, ends, map_leads, left, right, many_next, many_ends, many_breaks, one_fails, fold_starts, fold_fails, item_read, item_fails, no_item, one_next, reads_more, reads_inside, item_falls}
+use Rattle.cov_grammar.proofs.ExprLaws.{expr_lawful}
+use Rattle.cov_grammar.proofs.BinsLaws.{head_firsts, ident_lawful, guard_lawful, bins_lawful, optset_lawful}
+use Rattle.cov_grammar.proofs.GroupLaws.{option_words, sel_lawful, cross_bins_lawful, point_entry_lawful, cross_entry_lawful, point_body_lawful, cross_body_lawful, crossed_lawful}
+
+abbrev Setting' : (A : Type 0) → OptDecl → Entry A
+Setting' A o = Setting o
+
+-- the token that was read is of these kinds, or of none of them
+pub is_of : (ts : List Marked) (ks ls : List Kind) {d : Room} {p : Place} {t : Marked} {q : Place} → Reads (λ _. one ts ks) d p t q → has t.kind ls ≡ true → In ts p.at ls
+unfolding one
+is_of ts ks ls {t = t} r h = record { token = t; stands = r.derives.0; of = h }
+
+pub is_not_of : (ts : List Marked) (ks ls : List Kind) {d : Room} {p : Place} {t : Marked} {q : Place} → Reads (λ _. one ts ks) d p t q → has t.kind ls ≡ false → In ts p.at ls → ⊥
+unfolding one
+is_not_of ts ks ls {t = t} r h x =
+    let same : Some x.token ≡ Some t = sym x.stands ∙ r.derives.0 in
+    let eq : x.token ≡ t = cc in
+    let of : has t.kind ls ≡ true = subst (λ (u : Marked). has u.kind ls ≡ true) eq x.of in
+    cc
+
+module _ (text : List ℕ) (ts : List Marked) where
+  abbrev w : (k : Kind) → Lawful ts (λ _. one ts (k ∷ []))
+  w k = lawful_word ts k
+
+  abbrev pub maybe_guard : Room → Rule (Option Expr)
+  maybe_guard r = maybe (guard text ts r)
+
+  abbrev maybe_guard_lawful : Lawful ts maybe_guard
+  maybe_guard_lawful = lawful_maybe (guard_lawful text ts) refl
+
+  -- "coverpoint" expr [ guard ], and behind it
+  abbrev tested_lawful : Lawful ts (λ r. both pair (expr text ts r) (maybe_guard r))
+  tested_lawful = lawful_both pair (expr_lawful text ts) maybe_guard_lawful refl
+
+  abbrev pub point_head : Room → Rule (Expr × Option Expr)
+  point_head r = ahead (word ts CoverpointWord) (both pair (expr text ts r) (maybe_guard r))
+
+  abbrev point_head_lawful : Lawful ts point_head
+  point_head_lawful = lawful_both _ (w CoverpointWord) tested_lawful refl
+
+  pub point_unnamed : {d : Room} {p : Place} {e : Stop} → Fails (λ _. word ts CoverpointWord) d p e → Fails point_head d p e
+  point_unnamed {d = d} {p = p} f = ends _ (w CoverpointWord) tested_lawful refl (leads_self point_head d p) f
+
+  pub point_tests : {d : Room} {p : Place} {t : Marked} {q : Place} → Reads (λ _. word ts CoverpointWord) d p t q → Leads (λ r. both pair (expr text ts r) (maybe_guard r)) d q point_head d p (λ x. x)
+  point_tests {d = d} {p = p} r = step _ (w CoverpointWord) tested_lawful refl (leads_self point_head d p) r
+
+  pub point_untested : {d : Room} {p : Place} {t : Marked} {q : Place} {e : Stop} → Reads (λ _. word ts CoverpointWord) d p t q → Fails (expr text ts) d q e → Fails point_head d p e
+  point_untested r f = ends pair (expr_lawful text ts) maybe_guard_lawful refl (point_tests r) f
+
+  pub point_guards : {d : Room} {p : Place} {t : Marked} {q : Place} {x : Expr} {m : Place} → Reads (λ _. word ts CoverpointWord) d p t q → Reads (expr text ts) d q x m → Leads maybe_guard d m point_head d p (λ y. (x, y))
+  point_guards r s = step pair (expr_lawful text ts) maybe_guard_lawful refl (point_tests r) s
+
+  pub point_ends : {d : Room} {p : Place} {e : Stop} (start : ℕ) (label : Option (List ℕ)) → Fails point_head d p e → Fails (point text ts start label) d p e
+  unfolding point
+  point_ends {d = d} {p = p} start label f = ends (point_of start label) point_head_lawful (point_body_lawful text ts) refl (leads_self (point text ts start label) d p) f
+
+  pub point_steps : {d : Room} {p : Place} {x : Expr × Option Expr} {q : Place} (start : ℕ) (label : Option (List ℕ)) → Reads point_head d p x q →
+      Leads (λ r. body text ts (bins text ts r) r) d q (point text ts start label) d p (point_of start label x)
+  unfolding point
+  point_steps {d = d} {p = p} start label r = step (point_of start label) point_head_lawful (point_body_lawful text ts) refl (leads_self (point text ts start label) d p) r
+
+  -- "cross" ident "," ident { "," ident } [ guard ], and behind it
+  abbrev names_lawful : Lawful ts (λ r. both pair (crossed text ts) (maybe_guard r))
+  names_lawful = lawful_both pair (crossed_lawful text ts) maybe_guard_lawful refl
+
+  abbrev pub cross_head : Room → Rule (List (List ℕ) × Option Expr)
+  cross_head r = ahead (word ts CrossWord) (both pair (crossed text ts) (maybe_guard r))
+
+  abbrev cross_head_lawful : Lawful ts cross_head
+  cross_head_lawful = lawful_both _ (w CrossWord) names_lawful refl
+
+  pub cross_unnamed : {d : Room} {p : Place} {e : Stop} → Fails (λ _. word ts CrossWord) d p e → Fails cross_head d p e
+  cross_unnamed {d = d} {p = p} f = ends _ (w CrossWord) names_lawful refl (leads_self cross_head d p) f
+
+  cross_names : {d : Room} {p : Place} {t : Marked} {q : Place} → Reads (λ _. word ts CrossWord) d p t q → Leads (λ r. both pair (crossed text ts) (maybe_guard r)) d q cross_head d p (λ x. x)
+  cross_names {d = d} {p = p} r = step _ (w CrossWord) names_lawful refl (leads_self cross_head d p) r
+
+  pub cross_nameless : {d : Room} {p : Place} {t : Marked} {q : Place} {e : Stop} → Reads (λ _. word ts CrossWord) d p t q → Fails (λ _. crossed text ts) d q e → Fails cross_head d p e
+  cross_nameless r f = ends pair (crossed_lawful text ts) maybe_guard_lawful refl (cross_names r) f
+
+  pub cross_guards : {d : Room} {p : Place} {t : Marked} {q : Place} {x : List (List ℕ)} {m : Place} → Reads (λ _. word ts CrossWord) d p t q → Reads (λ _. crossed text ts) d q x m → Leads maybe_guard d m cross_head d p (λ y. (x, y))
+  cross_guards r s = step pair (crossed_lawful text ts) maybe_guard_lawful refl (cross_names r) s
+
+  pub cross_ends : {d : Room} {p : Place} {e : Stop} (start : ℕ) (label : Option (List ℕ)) → Fails cross_head d p e → Fails (cross text ts start label) d p e
+  unfolding cross
+  cross_ends {d = d} {p = p} start label f = ends (cross_of start label) cross_head_lawful (cross_body_lawful text ts) refl (leads_self (cross text ts start label) d p) f
+
+  pub cross_steps : {d : Room} {p : Place} {x : List (List ℕ) × Option Expr} {q : Place} (start : ℕ) (label : Option (List ℕ)) → Reads cross_head d p x q →
+      Leads (λ r. body text ts (cross_bins text ts r) r) d q (cross text ts start label) d p (cross_of start label x)
+  unfolding cross
+  cross_steps {d = d} {p = p} start label r = step (cross_of start label) cross_head_lawful (cross_body_lawful text ts) refl (leads_self (cross text ts start label) d p) r
+
+  -- ident "," ident { "," ident }
+  abbrev more_lawful : Lawful ts (λ _. ahead (word ts Comma) (ident text ts))
+  more_lawful = lawful_both _ (w Comma) (ident_lawful text ts) refl
+
+  abbrev two_of : List ℕ → List ℕ → List (List ℕ)
+  two_of a b = a ∷ b ∷ []
+
+  abbrev two : Rule (List (List ℕ))
+  two = both two_of (ident text ts) (ahead (word ts Comma) (ident text ts))
+
+  abbrev two_lawful : Lawful ts (λ _. two)
+  two_lawful = lawful_both two_of (ident_lawful text ts) more_lawful refl
+
+  abbrev pub Names : Room → Place → List (List ℕ) → Place → Type 0
+  Names d o names p = Leads (λ _. many snoc (ahead (word ts Comma) (ident text ts)) names) d p (λ _. crossed text ts) d o (λ x. x)
+
+  pub no_first : {d : Room} {p : Place} {e : Stop} → Fails (λ _. ident text ts) d p e → Fails (λ _. crossed text ts) d p e
+  unfolding crossed
+  no_first f = fold_fails snoc two_lawful more_lawful refl refl refl (both_fails two_of (ident_lawful text ts) more_lawful refl f)
+
+  pub no_comma_behind : {d : Room} {p : Place} {x : List ℕ} {q : Place} {e : Stop} → Reads (λ _. ident text ts) d p x q → Fails (λ _. word ts Comma) d q e → Fails (λ _. crossed text ts) d p e
+  unfolding crossed
+  no_comma_behind r f = fold_fails snoc two_lawful more_lawful refl refl refl (both_then_fails two_of (ident_lawful text ts) more_lawful refl r
+      (both_fails _ (w Comma) (ident_lawful text ts) refl f))
+
+  pub no_second : {d : Room} {p : Place} {x : List ℕ} {q : Place} {t : Marked} {m : Place} {e : Stop} → Reads (λ _. ident text ts) d p x q → Reads (λ _. word ts Comma) d q t m → Fails (λ _. ident text ts) d m e → Fails (λ _. crossed text ts) d p e
+  unfolding crossed
+  no_second r s f = fold_fails snoc two_lawful more_lawful refl refl refl (both_then_fails two_of (ident_lawful text ts) more_lawful refl r
+      (both_then_fails _ (w Comma) (ident_lawful text ts) refl s f))
+
+  pub two_names : {d : Room} {p : Place} {x : List ℕ} {q : Place} {t : Marked} {m : Place} {y : List ℕ} {k : Place} → Reads (λ _. ident text ts) d p x q → Reads (λ _. word ts Comma) d q t m → Reads (λ _. ident text ts) d m y k → Names d p (x ∷ y ∷ []) k
+  unfolding crossed
+  two_names r s u = fold_starts snoc two_lawful more_lawful refl refl refl (both_reads two_of (ident_lawful text ts) more_lawful refl r (both_reads _ (w Comma) (ident_lawful text ts) refl s u))
+
+  pub name_read : {d : Room} {o : Place} (names : List (List ℕ)) {p : Place} {t : Marked} {q : Place} {x : List ℕ} {k : Place} → Names d o names p → Reads (λ _. word ts Comma) d p t q → Reads (λ _. ident text ts) d q x k → Names d o (names ++ x ∷ []) k
+  name_read names l r s = item_read snoc (λ _ b. b) (w Comma) (ident_lawful text ts) refl refl refl names l r s
+
+  pub name_fails : {d : Room} {o : Place} (names : List (List ℕ)) {p : Place} {t : Marked} {q : Place} {e : Stop} → Names d o names p → Reads (λ _. word ts Comma) d p t q → Fails (λ _. ident text ts) d q e → Fails (λ _. crossed text ts) d o e
+  name_fails names l r f = item_fails snoc (λ _ b. b) (w Comma) (ident_lawful text ts) refl refl refl names l r (let n = (one_next ts (Comma ∷ []) r).0 in omega arith) f
+
+  pub names_end : {d : Room} {o : Place} (names : List (List ℕ)) {p : Place} → Names d o names p → (In ts p.at (Comma ∷ []) → ⊥) → Reads (λ _. crossed text ts) d o names p
+  names_end names l n = no_item snoc (λ _ b. b) (w Comma) (ident_lawful text ts) refl refl refl names l n
+
+  -- cbins = word ident "=" sel [ guard ] ";"
+  abbrev pub cross_rest : Room → Rule ((List ℕ × Sel) × Option Expr)
+  cross_rest r = behind (both pair (both pair (ident text ts) (ahead (word ts Assign) (sel text ts r))) (maybe_guard r)) (word ts Semi)
+
+  abbrev assigned_lawful : Lawful ts (λ r. ahead (word ts Assign) (sel text ts r))
+  assigned_lawful = lawful_both _ (w Assign) (sel_lawful text ts) refl
+
+  abbrev pub named_sel : Room → Rule (List ℕ × Sel)
+  named_sel r = both pair (ident text ts) (ahead (word ts Assign) (sel text ts r))
+
+  abbrev named_sel_lawful : Lawful ts named_sel
+  named_sel_lawful = lawful_both pair (ident_lawful text ts) assigned_lawful refl
+
+  abbrev pub guarded_sel : Room → Rule ((List ℕ × Sel) × Option Expr)
+  guarded_sel r = both pair (named_sel r) (maybe_guard r)
+
+  abbrev guarded_sel_lawful : Lawful ts guarded_sel
+  guarded_sel_lawful = lawful_both pair named_sel_lawful maybe_guard_lawful refl
+
+  abbrev cross_rest_lawful : Lawful ts cross_rest
+  cross_rest_lawful = lawful_both _ guarded_sel_lawful (w Semi) refl
+
+  pub no_bins_word : {d : Room} {p : Place} → (In ts p.at bins_words → ⊥) → Fails (cross_bins text ts) d p (Syntax p.at)
+  no_bins_word n = no_start (cross_bins_lawful text ts) refl n
+
+  pub cross_rests : {d : Room} {p : Place} {t : Marked} {q : Place} → Reads (λ _. one ts bins_words) d p t q → Leads cross_rest d q (cross_bins text ts) d p (cross_bins_of text t)
+  unfolding cross_bins
+  cross_rests {d = d} {p = p} r = step (cross_bins_of text) (lawful_one ts bins_words) cross_rest_lawful refl (leads_self (cross_bins text ts) d p) r
+
+  pub named_unnamed : {d : Room} {p : Place} {e : Stop} → Fails (λ _. ident text ts) d p e → Fails cross_rest d p e
+  named_unnamed f = both_fails _ guarded_sel_lawful (w Semi) refl (both_fails pair named_sel_lawful maybe_guard_lawful refl (both_fails pair (ident_lawful text ts) assigned_lawful refl f))
+
+  pub named_unassigned : {d : Room} {p : Place} {x : List ℕ} {q : Place} {e : Stop} → Reads (λ _. ident text ts) d p x q → Fails (λ _. word ts Assign) d q e → Fails cross_rest d p e
+  named_unassigned r f = both_fails _ guarded_sel_lawful (w Semi) refl (both_fails pair named_sel_lawful maybe_guard_lawful refl (both_then_fails pair (ident_lawful text ts) assigned_lawful refl r (both_fails _ (w Assign) (sel_lawful text ts) refl f)))
+
+  pub named_unselected : {d : Room} {p : Place} {x : List ℕ} {q : Place} {t : Marked} {m : Place} {e : Stop} → Reads (λ _. ident text ts) d p x q → Reads (λ _. word ts Assign) d q t m → Fails (sel text ts) d m e → Fails cross_rest d p e
+  named_unselected r s f = both_fails _ guarded_sel_lawful (w Semi) refl (both_fails pair named_sel_lawful maybe_guard_lawful refl (both_then_fails pair (ident_lawful text ts) assigned_lawful refl r (both_then_fails _ (w Assign) (sel_lawful text ts) refl s f)))
+
+  pub named_selects : {d : Room} {p : Place} {x : List ℕ} {q : Place} {t : Marked} {m : Place} {y : Sel} {k : Place} → Reads (λ _. ident text ts) d p x q → Reads (λ _. word ts Assign) d q t m → Reads (sel text ts) d m y k → Reads named_sel d p (x, y) k
+  named_selects r s u = both_reads pair (ident_lawful text ts) assigned_lawful refl r (both_reads _ (w Assign) (sel_lawful text ts) refl s u)
+
+  pub named_unguarded : {d : Room} {p : Place} {x : List ℕ × Sel} {q : Place} {e : Stop} → Reads named_sel d p x q → Fails maybe_guard d q e → Fails cross_rest d p e
+  named_unguarded r f = both_fails _ guarded_sel_lawful (w Semi) refl (both_then_fails pair named_sel_lawful maybe_guard_lawful refl r f)
+
+  pub named_ends : {d : Room} {p : Place} {x : List ℕ × Sel} {q : Place} {y : Option Expr} {m : Place} → Reads named_sel d p x q → Reads maybe_guard d q y m → Leads (λ _. word ts Semi) d m cross_rest d p (λ _. (x, y))
+  named_ends {d = d} {p = p} r s = step _ guarded_sel_lawful (w Semi) refl (leads_self cross_rest d p) (both_reads pair named_sel_lawful maybe_guard_lawful refl r s)
+
+  -- optset | X
+  abbrev pub entry : {A : Type 0} → (Room → Rule A) → Room → Rule (Entry A)
+  entry X r = either (map_to Setting (optset text ts r)) (map_to Counting (X r))
+
+  -- ";" | "{" { optset | X } "}"
+  module _ {A : Type 0} (X : Room → Rule A) (lx : Lawful ts X) (le : Lawful ts (entry X)) (filled : le.null ≡ false) (again : disjoint le.cont le.first ≡ true)
+      (shut : disjoint (le.cont ++ le.first) (CloseBrace ∷ []) ≡ true) where
+    abbrev pub whole_body : Room → Rule (List OptDecl × List A)
+    whole_body r = body text ts (X r) r
+
+    abbrev entries_lawful : Lawful ts (λ r. many put (entry X r) nothing_put)
+    entries_lawful = lawful_many le put filled again nothing_put
+
+    abbrev pub braces : Room → Rule (List OptDecl × List A)
+    braces r = behind (many put (entry X r) nothing_put) (word ts CloseBrace)
+
+    abbrev braces_lawful : Lawful ts braces
+    braces_lawful = lawful_both _ entries_lawful (w CloseBrace) shut
+
+    abbrev braced_lawful : Lawful ts (λ r. ahead (word ts OpenBrace) (braces r))
+    braced_lawful = lawful_both _ (w OpenBrace) braces_lawful refl
+
+    pub body_semi : {d : Room} {p : Place} {t : Marked} {q : Place} → In ts p.at (Semi ∷ []) → Reads (λ _. word ts Semi) d p t q → Reads whole_body d p ([], []) q
+    unfolding body
+    body_semi {d = d} {p = p} h r = (left (lawful_map (w Semi) _) braced_lawful refl refl (leads_self whole_body d p) h).reads (map_reads _ (w Semi) r)
+
+    no_semi : {d : Room} {p : Place} → (In ts p.at (Semi ∷ []) → ⊥) → Leads (λ r. ahead (word ts OpenBrace) (braces r)) d p whole_body d p (λ x. x)
+    unfolding body
+    no_semi {d = d} {p = p} n = right (lawful_map (w Semi) (λ _. nothing_put)) braced_lawful refl refl (leads_self whole_body d p) refl n
+
+    pub no_body : {d : Room} {p : Place} {e : Stop} → (In ts p.at (Semi ∷ []) → ⊥) → Fails (λ _. word ts OpenBrace) d p e → Fails whole_body d p e
+    no_body n f = ends _ (w OpenBrace) braces_lawful refl (no_semi n) f
+
+    -- in the braces, with these entries read
+    pub record InBody (d : Room) (o : Place) (lists : List OptDecl × List A) (p : Place) : Type 0 where
+      pub opened : Place
+      pub outer : Leads braces d opened whole_body d o (λ x. x)
+      pub entries : Leads (λ r. many put (entry X r) lists) d p (λ r. many put (entry X r) nothing_put) d opened (λ x. x)
+
+    pub body_opens : {d : Room} {p : Place} {t : Marked} {q : Place} → (In ts p.at (Semi ∷ []) → ⊥) → Reads (λ _. word ts OpenBrace) d p t q → InBody d p ([], []) q
+    body_opens {d = d} {q = q} n r = record {
+      opened = q;
+      outer = step _ (w OpenBrace) braces_lawful refl (no_semi n) r;
+      entries = leads_self (λ r. many put (entry X r) nothing_put) d q;
+    }
+
+    entry_read : {d : Room} {o : Place} (lists : List OptDecl × List A) {p : Place} {x : Entry A} {q : Place} → InBody d o lists p → Reads (entry X) d p x q → InBody d o (put lists x) q
+    entry_read lists b r = record { opened = b.opened; outer = b.outer; entries = many_next put le filled again lists b.entries r }
+
+    entry_stops : {d : Room} {o : Place} (lists : List OptDecl × List A) {p : Place} (e : Stop) → InBody d o lists p → (In ts p.at (CloseBrace ∷ []) → ⊥) → Fails (entry X) d p e → Fails whole_body d o e
+    entry_stops lists Memory b n f = record { cause = tt }
+    entry_stops {d = d} {o = o} lists {p = p} (Syntax k) b n f =
+        elim (split k p.at ((facts_of le d).order p k f.cause.begins)) [
+          | inl e ↦ (let stuck : Stops (entry X) d p p.at = subst (λ m. Stops (entry X) d p m) e f.cause in
+              subst (λ m. Fails whole_body d o (Syntax m)) (sym e)
+              ((step _ entries_lawful (w CloseBrace) shut b.outer (b.entries.reads (many_stuck put le filled again lists stuck))).fails (one_fails ts (CloseBrace ∷ []) d p n)))
+          | inr past ↦ ends _ entries_lawful (w CloseBrace) shut b.outer (many_breaks put le filled again lists b.entries past f)
+        ]
+    entry_stops lists (TooDeep k) b n f = ends _ entries_lawful (w CloseBrace) shut b.outer (many_breaks put le filled again lists b.entries tt f)
+
+    abbrev setting_lawful : Lawful ts (λ r. map_to (Setting' A) (optset text ts r))
+    setting_lawful = lawful_map (optset_lawful text ts) (Setting' A)
+
+    abbrev counting_lawful : Lawful ts (λ r. map_to Counting (X r))
+    counting_lawful = lawful_map lx Counting
+
+    module _ (full_x : lx.null ≡ false) (other : disjoint option_words lx.first ≡ true) where
+      pub option_read : {d : Room} {o : Place} (os : List OptDecl) (bs : List A) {p : Place} {x : OptDecl} {q : Place} → InBody d o (os, bs) p → In ts p.at option_words → Reads (optset text ts) d p x q → InBody d o (os ++ x ∷ [], bs) q
+      option_read {d = d} os bs {p = p} b h r = entry_read (os, bs) b
+          ((left setting_lawful counting_lawful full_x other (leads_self (entry X) d p) h).reads (map_reads (Setting' A) (optset_lawful text ts) r))
+
+      pub option_fails : {d : Room} {o : Place} (os : List OptDecl) (bs : List A) {p : Place} {e : Stop} → InBody d o (os, bs) p → In ts p.at option_words → Fails (optset text ts) d p e → Fails whole_body d o e
+      option_fails {d = d} os bs {p = p} {e = e} b h f = entry_stops (os, bs) e b (In_apart ts p.at option_words (CloseBrace ∷ []) refl h)
+          ((left setting_lawful counting_lawful full_x other (leads_self (entry X) d p) h).fails (map_fails (Setting' A) (optset_lawful text ts) f))
+
+      pub bins_read : {d : Room} {o : Place} (os : List OptDecl) (bs : List A) {p : Place} {x : A} {q : Place} → InBody d o (os, bs) p → (In ts p.at option_words → ⊥) → Reads X d p x q → InBody d o (os, bs ++ x ∷ []) q
+      bins_read {d = d} os bs {p = p} b n r = entry_read (os, bs) b
+          ((right setting_lawful counting_lawful full_x other (leads_self (entry X) d p) refl n).reads (map_reads Counting lx r))
+
+      pub bins_fail : {d : Room} {o : Place} (os : List OptDecl) (bs : List A) {p : Place} {e : Stop} → InBody d o (os, bs) p → (In ts p.at option_words → ⊥) → (In ts p.at (CloseBrace ∷ []) → ⊥) → Fails X d p e → Fails whole_body d o e
+      bins_fail {d = d} os bs {p = p} {e = e} b n m f = entry_stops (os, bs) e b m
+          ((right setting_lawful counting_lawful full_x other (leads_self (entry X) d p) refl n).fails (map_fails Counting lx f))
+
+    pub body_closes : {d : Room} {o : Place} (lists : List OptDecl × List A) {p : Place} → InBody d o lists p → (In ts p.at le.first → ⊥) → Leads (λ _. word ts CloseBrace) d p whole_body d o (λ _. lists)
+    body_closes lists b n = step _ entries_lawful (w CloseBrace) shut b.outer (many_ends put le filled again lists b.entries n)
+
+  -- the bodies of points and of crosses
+  abbrev pub PointBody : Room → Place → List OptDecl × List BinsDecl → Place → Type 0
+  PointBody d o lists p = InBody (bins text ts) (bins_lawful text ts) (point_entry_lawful text ts) refl refl refl d o lists p
+
+  abbrev pub CrossBody : Room → Place → List OptDecl × List CrossBins → Place → Type 0
+  CrossBody d o lists p = InBody (cross_bins text ts) (cross_bins_lawful text ts) (cross_entry_lawful text ts) refl refl refl d o lists p
+
+  pub entry_falls : {A : Type 0} {X : Room → Rule A} (lx : Lawful ts X) → lx.null ≡ false → {d : Room} {p : Place} {x : A} {q : Place} → Reads X d p x q → length ts - q.at < length ts - p.at
+  entry_falls lx full r = let l = reads_more lx full r in let i = reads_inside lx r l in omega arith

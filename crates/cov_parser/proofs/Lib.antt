@@ -1,0 +1,12 @@
+mod SpellingTables
+pub mod Walks
+pub mod ExprWalks
+pub mod Chains
+pub mod BinsWalks
+pub mod SelWalks
+pub mod GroupWalks
+pub mod TypeWalks
+pub mod DesignWalks
+pub mod CovergroupWalks
+pub mod DeclWalks
+pub mod Faults

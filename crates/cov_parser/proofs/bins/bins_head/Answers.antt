@@ -1,0 +1,17 @@
+use Rattle.std.proofs.Common.{refl, [], ◌∷◌}
+use Rattle.cov_grammar.specs.declared.kind.Kind.TheVariants.{WildcardWord}
+use Rattle.cov_grammar.proofs.Lawful.{lawful_word, lawful_maybe}
+use Rattle.cov_grammar.proofs.Compose.{both_reads, both_fails, both_then_fails}
+use Rattle.cov_grammar.proofs.Steps.{exits, step, ends}
+use Rattle.cov_parser.proofs.Walks.{exits_if}
+use Rattle.cov_parser.proofs.BinsWalks.{head_unread, head_breaks, head_reads}
+use Rattle.cov_parser.proofs.bins.bins_head.Goals as goal
+
+pub returns-in_err-word-clause-fails : goal.returns-in_err-word-clause-fails
+returns-in_err-word-clause-fails c = exits_if _ _ _ c.from_residual.ensures.1 (λ r. head_unread c.args.text.now c.args.tokens.now ((c.wildcard-wildcard.ensures r).2) (c.in_err-word.ensures r))
+
+pub returns-in_err-name-clause-fails : goal.returns-in_err-name-clause-fails
+returns-in_err-name-clause-fails c = exits_if _ _ _ c.from_residual-in_err-name.ensures.1 (λ r. head_breaks c.args.text.now c.args.tokens.now ((c.wildcard-wildcard.ensures r).2) (c.in_ok-word.ensures r) (c.in_err-name.ensures r))
+
+pub returns-clause-read : goal.returns-clause-read
+returns-clause-read c = λ r. rw c.start_at-start.ensures (head_reads c.args.text.now c.args.tokens.now _ ((c.wildcard-wildcard.ensures r).1) ((c.wildcard-wildcard.ensures r).2) (c.in_ok-word.ensures r) (c.in_ok-name.ensures r))

@@ -1,0 +1,17 @@
+use Rattle.std.proofs.Common.{refl, [], ◌∷◌}
+use Rattle.cov_grammar.specs.declared.kind.Kind.TheVariants.{SequenceWord}
+use Rattle.cov_grammar.proofs.Lawful.{lawful_word, lawful_maybe}
+use Rattle.cov_grammar.proofs.Compose.{both_reads, both_fails, both_then_fails}
+use Rattle.cov_grammar.proofs.Steps.{exits, step, ends}
+use Rattle.std.proofs.Common.{Some, None}
+use Rattle.cov_parser.proofs.BinsWalks.{sequence_stands, no_sequence}
+use Rattle.cov_parser.proofs.bins.default_end.Goals as goal
+
+pub returns-then-not-is_scalar : goal.returns-then-not-is_scalar
+returns-then-not-is_scalar c = λ r. (None, refl, no_sequence [] c.args.tokens.now _ r c.args.place (λ e. let a = c.is_scalar.ensures in let n = c.if-not-is_scalar.true in absurd (cc)))
+
+pub returns-in-Some : goal.returns-in-Some
+returns-in-Some c = λ r. (Some _, refl, sequence_stands [] c.args.tokens.now _ (let a = c.is_scalar.ensures in let n = c.if-not-is_scalar.false in cc) (c.in-Some.ensures.some r))
+
+pub returns-in-None : goal.returns-in-None
+returns-in-None c = λ r. (None, refl, no_sequence [] c.args.tokens.now _ r _ (λ e. c.in-None.ensures.none))

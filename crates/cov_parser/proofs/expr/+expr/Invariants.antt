@@ -1,0 +1,36 @@
+use Rattle.std.proofs.Common.{ℕ, ◌+◌, ◌-◌, ◌*◌, length}
+use Rattle.cov_parser.proofs.ExprWalks.{Joins, Lists}
+use Rattle.cov_parser.proofs.expr.+expr.Given as goal
+
+abbrev pub decreases-part_expr : goal.decreases-part_expr
+decreases-part_expr l = 20 * l.room.levels + 16
+
+abbrev pub decreases-binary : goal.decreases-binary
+decreases-binary l = 20 * l.room.levels + 4 + l.level
+
+abbrev pub decreases-unary : goal.decreases-unary
+decreases-unary l = 20 * l.room.levels + 3
+
+abbrev pub decreases-primary : goal.decreases-primary
+decreases-primary l = 20 * l.room.levels + 2
+
+abbrev pub decreases-index : goal.decreases-index
+decreases-index l = 20 * l.room.levels + 1
+
+abbrev pub decreases-second_end : goal.decreases-second_end
+decreases-second_end l = 20 * l.room.levels + 17
+
+abbrev pub decreases-parts : goal.decreases-parts
+decreases-parts l = 20 * l.room.levels + 17
+
+abbrev pub invariant-binary-loop-left : goal.invariant-binary-loop-left
+invariant-binary-loop-left l = Joins l.text l.tokens l.standing l.room l.below l.level l.fn.place l.left l.at
+
+abbrev pub decreases-binary-loop-left : goal.decreases-binary-loop-left
+decreases-binary-loop-left l = length l.tokens - l.at.at
+
+abbrev pub invariant-parts-loop-next : goal.invariant-parts-loop-next
+invariant-parts-loop-next l = Lists l.text l.tokens l.room l.fn.place l.parts.items l.at
+
+abbrev pub decreases-parts-loop-next : goal.decreases-parts-loop-next
+decreases-parts-loop-next l = length l.tokens - l.at.at

@@ -1,0 +1,16 @@
+use Rattle.std.proofs.Common.{refl, [], ◌∷◌}
+use Rattle.cov_grammar.specs.declared.kind.Kind.TheVariants.{IffWord}
+use Rattle.cov_grammar.proofs.Lawful.{lawful_word, lawful_maybe}
+use Rattle.cov_grammar.proofs.Compose.{both_reads, both_fails, both_then_fails}
+use Rattle.cov_grammar.proofs.Steps.{exits, step, ends}
+use Rattle.cov_parser.proofs.BinsWalks.{no_guard, guard_part}
+use Rattle.cov_parser.proofs.options.guard.Goals as goal
+
+pub returns-in_default : goal.returns-in_default
+returns-in_default c = no_guard c.args.text.now c.args.tokens.now c.in_default.ensures.none
+
+pub returns-in_err-condition : goal.returns-in_err-condition
+returns-in_err-condition c = exits _ _ _ _ _ c.from_residual.ensures.1 ((guard_part c.args.text.now c.args.tokens.now (c.in-Some.ensures.some _)).fails c.in_err-condition.ensures)
+
+pub returns : goal.returns
+returns c = (guard_part c.args.text.now c.args.tokens.now (c.in-Some.ensures.some _)).reads c.in_ok-condition.ensures

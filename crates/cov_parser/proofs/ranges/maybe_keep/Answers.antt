@@ -1,0 +1,16 @@
+use Rattle.std.proofs.Common.{refl, [], ◌∷◌}
+use Rattle.cov_grammar.specs.declared.kind.Kind.TheVariants.{WithWord}
+use Rattle.cov_grammar.proofs.Lawful.{lawful_word, lawful_maybe}
+use Rattle.cov_grammar.proofs.Compose.{both_reads, both_fails, both_then_fails}
+use Rattle.cov_grammar.proofs.Steps.{exits, step, ends}
+use Rattle.cov_parser.proofs.BinsWalks.{no_keep, keep_part}
+use Rattle.cov_parser.proofs.ranges.maybe_keep.Goals as goal
+
+pub returns-in_default : goal.returns-in_default
+returns-in_default c = no_keep c.args.text.now c.args.tokens.now c.in_default.ensures.none
+
+pub returns-in_err-keep : goal.returns-in_err-keep
+returns-in_err-keep c = exits _ _ _ _ _ c.from_residual.ensures.1 ((keep_part c.args.text.now c.args.tokens.now (c.in-Some.ensures.some _)).fails c.in_err-keep.ensures)
+
+pub returns : goal.returns
+returns c = (keep_part c.args.text.now c.args.tokens.now (c.in-Some.ensures.some _)).reads c.in_ok-keep.ensures

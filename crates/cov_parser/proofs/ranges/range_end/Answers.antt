@@ -1,0 +1,16 @@
+use Rattle.std.proofs.Common.{refl, [], ◌∷◌}
+use Rattle.cov_grammar.specs.declared.kind.Kind.TheVariants.{DollarSign}
+use Rattle.cov_grammar.proofs.Lawful.{lawful_word, lawful_maybe}
+use Rattle.cov_grammar.proofs.Compose.{both_reads, both_fails, both_then_fails}
+use Rattle.cov_grammar.proofs.Steps.{exits, step, ends}
+use Rattle.cov_parser.proofs.BinsWalks.{value_reads, value_fails, dollar_reads}
+use Rattle.cov_parser.proofs.ranges.range_end.Goals as goal
+
+pub returns-in-Some : goal.returns-in-Some
+returns-in-Some c = dollar_reads c.args.text.now c.args.tokens.now c.in-Some.ensures.here (c.in-Some.ensures.some c.args.room)
+
+pub returns-in_err-value : goal.returns-in_err-value
+returns-in_err-value c = exits _ _ _ _ _ c.from_residual.ensures.1 (value_fails c.args.text.now c.args.tokens.now c.in_default.ensures.none c.in_err-value.ensures)
+
+pub returns : goal.returns
+returns c = value_reads c.args.text.now c.args.tokens.now c.in_default.ensures.none c.in_ok-value.ensures

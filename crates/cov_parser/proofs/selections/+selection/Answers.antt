@@ -1,0 +1,88 @@
+use Rattle.std.proofs.Common.{arith, refl, ◌-◌}
+use Rattle.cov_grammar.proofs.Steps.{exits, leads_parses}
+use Rattle.cov_grammar.proofs.GroupLaws.{sunary_lawful, sand_lawful}
+use Rattle.cov_parser.proofs.SelWalks.{one_less, same_operators, ors_start, ors_fail, or_next, or_breaks, or_full, ors_end, ands_start, ands_fail, and_next, and_breaks, and_full, ands_end, less_left, negated, no_room_to_negate, enclosed, no_room_to_enclose, closes, inside_fails, no_paren}
+use Rattle.cov_parser.proofs.selections.+selection.Goals as goal
+
+pub part_selection-returns-in_err-left : goal.part_selection-returns-in_err-left
+part_selection-returns-in_err-left t c = exits _ _ _ _ _ c.from_residual.ensures.1 (ors_fail _ _ c.in_err-left.ensures)
+
+pub part_selection-loop-left-init : goal.part_selection-loop-left-init
+part_selection-loop-left-init t c = ors_start _ _ c.in_ok-left.ensures
+
+pub part_selection-returns-in_err-next : goal.part_selection-returns-in_err-next
+part_selection-returns-in_err-next t c =
+    exits _ _ _ _ _ c.from_residual-in_err-next.ensures.1 (or_full _ _ _ _ c.loop-left.invariant c.in_err-next.ensures.too_many c.in_err-next.ensures.full)
+
+pub part_selection-returns-in_err-right : goal.part_selection-returns-in_err-right
+part_selection-returns-in_err-right t c =
+    exits _ _ _ _ _ c.from_residual-in_err-right.ensures.1 (or_breaks _ _ _ _ _ _ c.in-Some.is c.loop-left.invariant c.in_ok-next.ensures.some c.in_ok-next.ensures.behind c.in_err-right.ensures)
+
+pub part_selection-loop-left-smaller : goal.part_selection-loop-left-smaller
+part_selection-loop-left-smaller t c =
+    less_left c.args.text.now c.args.tokens.now (sand_lawful c.args.text.now c.args.tokens.now) c.loop-left.at _ _ _ c.in-Some.is c.in_ok-next.ensures.behind c.in_ok-next.ensures.inside c.in_ok-right.ensures
+
+pub part_selection-loop-left-preserved : goal.part_selection-loop-left-preserved
+part_selection-loop-left-preserved t c =
+    rw c.in_ok-left-2.ensures (or_next _ _ _ _ _ _ c.in-Some.is c.loop-left.invariant c.in_ok-next.ensures.some c.in_ok-right.ensures)
+
+pub part_selection-returns : goal.part_selection-returns
+part_selection-returns t c = ors_end _ _ _ _ c.in_default.is c.loop-left.invariant c.in_ok-next.ensures.none
+
+pub conjunction-returns-in_err-left : goal.conjunction-returns-in_err-left
+conjunction-returns-in_err-left t c = exits _ _ _ _ _ c.from_residual.ensures.1 (ands_fail _ _ c.in_err-left.ensures)
+
+pub conjunction-loop-left-init : goal.conjunction-loop-left-init
+conjunction-loop-left-init t c = ands_start _ _ c.in_ok-left.ensures
+
+pub conjunction-returns-in_err-next : goal.conjunction-returns-in_err-next
+conjunction-returns-in_err-next t c =
+    exits _ _ _ _ _ c.from_residual-in_err-next.ensures.1 (and_full _ _ _ _ c.loop-left.invariant c.in_err-next.ensures.too_many c.in_err-next.ensures.full)
+
+pub conjunction-returns-in_err-right : goal.conjunction-returns-in_err-right
+conjunction-returns-in_err-right t c =
+    exits _ _ _ _ _ c.from_residual-in_err-right.ensures.1 (and_breaks _ _ _ _ _ _ c.in-Some.is c.loop-left.invariant c.in_ok-next.ensures.some c.in_ok-next.ensures.behind c.in_err-right.ensures)
+
+pub conjunction-loop-left-smaller : goal.conjunction-loop-left-smaller
+conjunction-loop-left-smaller t c =
+    less_left c.args.text.now c.args.tokens.now (sunary_lawful c.args.text.now c.args.tokens.now) c.loop-left.at _ _ _ c.in-Some.is c.in_ok-next.ensures.behind c.in_ok-next.ensures.inside c.in_ok-right.ensures
+
+pub conjunction-loop-left-preserved : goal.conjunction-loop-left-preserved
+conjunction-loop-left-preserved t c =
+    rw c.in_ok-left-2.ensures (and_next _ _ _ _ _ _ c.in-Some.is c.loop-left.invariant c.in_ok-next.ensures.some c.in_ok-right.ensures)
+
+pub conjunction-returns : goal.conjunction-returns
+conjunction-returns t c = ands_end _ _ _ _ c.in_default.is c.loop-left.invariant c.in_ok-next.ensures.none
+
+pub simple-returns-then-room-eq0 : goal.simple-returns-then-room-eq0
+simple-returns-then-room-eq0 t c = no_room_to_negate _ _ c.in-Some.ensures.here c.if-room-eq0.true
+
+pub simple-returns-in_err-inner : goal.simple-returns-in_err-inner
+simple-returns-in_err-inner t c =
+    exits _ _ _ _ _ c.from_residual.ensures.1 ((negated c.args.text.now c.args.tokens.now c.args.room {b = c.deeper.result} c.in-Some.ensures.here (c.in-Some.ensures.some _) (one_less _ _ c.deeper.ensures (omega (arith, c.if-room-eq0.false))) (same_operators _ _ c.deeper.ensures)).fails c.in_err-inner.ensures)
+
+pub simple-returns-in-Some : goal.simple-returns-in-Some
+simple-returns-in-Some t c =
+    rw c.in_ok-none_of.ensures ((negated c.args.text.now c.args.tokens.now c.args.room {b = c.deeper.result} c.in-Some.ensures.here (c.in-Some.ensures.some _) (one_less _ _ c.deeper.ensures (omega (arith, c.if-room-eq0.false))) (same_operators _ _ c.deeper.ensures)).reads c.in_ok-inner.ensures)
+
+pub simple-returns-in_default-take : goal.simple-returns-in_default-take
+simple-returns-in_default-take t c =
+    leads_parses _ (no_paren _ _ c.in_default.ensures.none c.in_default-take.ensures.none) c.bins_of.ensures
+
+pub simple-returns-then-room-eq0-2 : goal.simple-returns-then-room-eq0-2
+simple-returns-then-room-eq0-2 t c = no_room_to_enclose _ _ c.in_default.ensures.none c.in-Some-take.ensures.here c.if-room-eq0-2.true
+
+pub simple-returns-in_err-inside : goal.simple-returns-in_err-inside
+simple-returns-in_err-inside t c =
+    exits _ _ _ _ _ c.from_residual-in_err-inside.ensures.1 (inside_fails c.args.text.now c.args.tokens.now
+    (enclosed c.args.text.now c.args.tokens.now c.args.room {b = c.deeper-2.result} c.in_default.ensures.none c.in-Some-take.ensures.here (c.in-Some-take.ensures.some _) (one_less _ _ c.deeper-2.ensures (omega (arith, c.if-room-eq0-2.false))) (same_operators _ _ c.deeper-2.ensures)) c.in_err-inside.ensures)
+
+pub simple-returns-in_err-after : goal.simple-returns-in_err-after
+simple-returns-in_err-after t c =
+    exits _ _ _ _ _ c.from_residual-in_err-after.ensures.1 ((closes c.args.text.now c.args.tokens.now
+    (enclosed c.args.text.now c.args.tokens.now c.args.room {b = c.deeper-2.result} c.in_default.ensures.none c.in-Some-take.ensures.here (c.in-Some-take.ensures.some _) (one_less _ _ c.deeper-2.ensures (omega (arith, c.if-room-eq0-2.false))) (same_operators _ _ c.deeper-2.ensures)) c.in_ok-inside.ensures).fails (c.in_err-after.ensures _))
+
+pub simple-returns : goal.simple-returns
+simple-returns t c =
+    (closes c.args.text.now c.args.tokens.now
+    (enclosed c.args.text.now c.args.tokens.now c.args.room {b = c.deeper-2.result} c.in_default.ensures.none c.in-Some-take.ensures.here (c.in-Some-take.ensures.some _) (one_less _ _ c.deeper-2.ensures (omega (arith, c.if-room-eq0-2.false))) (same_operators _ _ c.deeper-2.ensures)) c.in_ok-inside.ensures).reads (c.in_ok-after.ensures _)

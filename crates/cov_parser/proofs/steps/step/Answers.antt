@@ -1,0 +1,16 @@
+use Rattle.std.proofs.Common.{refl, [], ◌∷◌}
+use Rattle.cov_grammar.specs.declared.kind.Kind.TheVariants.{Comma}
+use Rattle.cov_grammar.proofs.Lawful.{lawful_word, lawful_maybe}
+use Rattle.cov_grammar.proofs.Compose.{both_reads, both_fails, both_then_fails}
+use Rattle.cov_grammar.proofs.Steps.{exits, step, ends}
+use Rattle.cov_parser.proofs.BinsWalks.{step_fails, step_breaks, step_reads}
+use Rattle.cov_parser.proofs.steps.step.Goals as goal
+
+pub returns-in_err-elems : goal.returns-in_err-elems
+returns-in_err-elems c = exits _ _ _ _ _ c.from_residual.ensures.1 (step_fails c.args.text.now c.args.tokens.now c.in_err-elems.ensures)
+
+pub returns-in_err-repeated : goal.returns-in_err-repeated
+returns-in_err-repeated c = exits _ _ _ _ _ c.from_residual-in_err-repeated.ensures.1 (step_breaks c.args.text.now c.args.tokens.now c.in_ok-elems.ensures c.in_err-repeated.ensures)
+
+pub returns : goal.returns
+returns c = rw (c.times_or_once-times.ensures, c.start_at-start.ensures) (step_reads c.args.text.now c.args.tokens.now c.in_ok-elems.ensures c.in_ok-repeated.ensures)

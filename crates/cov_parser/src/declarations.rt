@@ -1,0 +1,276 @@
+//! Enumerations, variables and instances (IEEE 1800-2017, 6.19, 6.8 and 19.3).
+ghost use Rattle.std.specs.Prelude.{◌≡◌, ◌∷◌, [], IfOk, IfErr};
+ghost use Rattle.cov_grammar.specs.declared.kind.Kind.TheVariants.{Ident, Comma, Assign};
+ghost use Rattle.cov_grammar.specs.declared.place.Stop.TheVariants as stopped;
+ghost use Rattle.cov_grammar.specs.Rule.{maybe, many, word, ◌▸◌};
+ghost use Rattle.cov_grammar.specs.Parses.{Reads, Fails, Parses};
+ghost use Rattle.cov_grammar.specs.Expressions.{snoc, expr, list_in};
+ghost use Rattle.cov_grammar.specs.Designs.{vector, type_text, enum_name, enum_names, enum_decl, built_in_decl, named_decl, variables, instance_of, arguments, arguments_or};
+
+use crate::expr::whole_expr;
+use crate::reader::{ident, name_of, take, word};
+use crate::types::{built_in, type_text, vector};
+use cov_grammar::{Kind, Marked, Place, Room, Standing, Stop};
+use cov_tree::{Decl, Expr, List, Memory, Name, TypeText};
+use std::alloc::Global;
+
+/// Variables whose type has a word of its own.
+pub(crate) fn variables(
+    alloc: Global,
+    text: &[u8],
+    tokens: &[Marked],
+    place: Place,
+    room: Room,
+) -> Result<(List<Decl>, Place), Stop>
+    ensures { Parses (built_in_decl text.now tokens.now) room place result }
+{
+    let (_, at) = built_in(alloc, text, tokens, place, room)?;
+    let (first, at) = word(tokens, at, Kind::Ident)?;
+    let (names, at) = more_names(alloc, tokens, at, first)?;
+    let (_, after) = word(tokens, at, Kind::Semi)?;
+    let decls = typed(alloc, text, tokens, place, room, names.as_slice())?;
+    Ok((decls, after))
+}
+
+/// Further names with commas before them, put to the first.
+fn more_names(
+    alloc: Global,
+    tokens: &[Marked],
+    place: Place,
+    first: Marked,
+) -> Result<(List<Marked>, Place), Stop>
+    ensures { (r : Room) → Parses (λ _. many snoc (word tokens.now Comma ▸ word tokens.now Ident) (first ∷ [])) r place result }
+{
+    let mut names = Vec::new(alloc);
+    names.push(first)?;
+    let mut at = place;
+    while let Some((_, next)) = take(tokens, at, &[Kind::Comma]) {
+        let (name, after) = word(tokens, next, Kind::Ident)?;
+        names.push(name)?;
+        at = after;
+    }
+    Ok((List::of(names), at))
+}
+
+/// A variable for each name, of the type that stands at this place. The type is read again for each of them.
+fn typed(
+    alloc: Global,
+    text: &[u8],
+    tokens: &[Marked],
+    place: Place,
+    room: Room,
+    names: &[Marked],
+) -> Result<List<Decl>, Stop>
+    ensures same { IfOk result (λ decls. (typ : _) (q : _) → Reads (type_text text.now tokens.now) room place typ q → decls ≡ variables text.now typ names.now) }
+    ensures only_memory { IfErr result (λ stop. (typ : _) (q : _) → Reads (type_text text.now tokens.now) room place typ q → stop ≡ stopped.Memory) }
+{
+    let mut decls = Vec::new(alloc);
+    for token in names {
+        let (typ, _) = type_text(alloc, text, tokens, place, room)?;
+        let decl = variable(alloc, text, typ, *token)?;
+        decls.push(decl)?;
+    }
+    Ok(List::of(decls))
+}
+
+fn variable(alloc: Global, text: &[u8], typ: TypeText, token: Marked) -> Result<Decl, Memory>
+    ensures { IfOk result (λ decl. decl ∷ [] ≡ variables text.now typ (token ∷ [])) }
+{
+    let name = name_of(alloc, text, token)?;
+    let at = token.at;
+    Ok(Decl::Var { typ, name, at })
+}
+
+/// An instance, or variables whose type is a name.
+pub(crate) fn named(
+    alloc: Global,
+    text: &[u8],
+    tokens: &[Marked],
+    place: Place,
+    room: Room,
+) -> Result<(List<Decl>, Place), Stop>
+    ensures { Parses (named_decl text.now tokens.now) room place result }
+{
+    let (first, at) = word(tokens, place, Kind::Ident)?;
+    let (second, at) = word(tokens, at, Kind::Ident)?;
+    let Some((_, next)) = take(tokens, at, &[Kind::Assign]) else {
+        let (names, at) = more_names(alloc, tokens, at, second)?;
+        let (_, after) = word(tokens, at, Kind::Semi)?;
+        let decls = typed(alloc, text, tokens, place, room, names.as_slice())?;
+        return Ok((decls, after));
+    };
+    let (_, made) = word(tokens, next, Kind::NewWord)?;
+    let (args, at) = maybe_arguments(alloc, text, tokens, made, room)?;
+    let (_, end) = word(tokens, at, Kind::Semi)?;
+    let instance = instance(alloc, text, first, second, args)?;
+    Ok((instance, end))
+}
+
+/// An instance of the group `first` with the name `second`.
+fn instance(
+    alloc: Global,
+    text: &[u8],
+    first: Marked,
+    second: Marked,
+    args: List<Expr>,
+) -> Result<List<Decl>, Memory>
+    ensures { IfOk result (λ decls. decls ≡ instance_of text.now (first, second) args) }
+{
+    let group = name_of(alloc, text, first)?;
+    let name = name_of(alloc, text, second)?;
+    let at = first.at;
+    let mut decls = Vec::new(alloc);
+    let instance = Decl::Instance {
+        group,
+        name,
+        args,
+        at,
+    };
+    if decls.push(instance).is_err() {
+        return Err(Memory);
+    }
+    Ok(List::of(decls))
+}
+
+/// Arguments in parentheses, or nothing; both none and empty parentheses give the empty list.
+fn maybe_arguments(
+    alloc: Global,
+    text: &[u8],
+    tokens: &[Marked],
+    place: Place,
+    room: Room,
+) -> Result<(List<Expr>, Place), Stop>
+    ensures read { IfOk result (λ x. (a : _) × Reads (λ r. maybe (arguments text.now tokens.now r)) room place a x.1 × (x.0 ≡ arguments_or a)) }
+    ensures fails { IfErr result (λ stop. Fails (λ r. maybe (arguments text.now tokens.now r)) room place stop) }
+{
+    let Some((_, next)) = take(tokens, place, &[Kind::OpenParen]) else {
+        return Ok((List::of(Vec::new(alloc)), place));
+    };
+    if let Some((_, after)) = take(tokens, next, &[Kind::CloseParen]) {
+        return Ok((List::of(Vec::new(alloc)), after));
+    }
+    let (args, at) = arguments(alloc, text, tokens, next, room)?;
+    let (_, end) = word(tokens, at, Kind::CloseParen)?;
+    Ok((args, end))
+}
+
+/// Arguments with commas between them.
+fn arguments(
+    alloc: Global,
+    text: &[u8],
+    tokens: &[Marked],
+    place: Place,
+    room: Room,
+) -> Result<(List<Expr>, Place), Stop>
+    ensures { Parses (λ r. list_in text.now tokens.now (expr text.now tokens.now r)) room place result }
+{
+    let (first, mut at) = whole_expr(alloc, text, tokens, place, room, Standing::Plain)?;
+    let mut args = Vec::new(alloc);
+    args.push(first)?;
+    while let Some((_, next)) = take(tokens, at, &[Kind::Comma]) {
+        let (arg, after) = whole_expr(alloc, text, tokens, next, room, Standing::Plain)?;
+        args.push(arg)?;
+        at = after;
+    }
+    Ok((List::of(args), at))
+}
+
+/// An enumeration.
+pub(crate) fn enumeration(
+    alloc: Global,
+    text: &[u8],
+    tokens: &[Marked],
+    place: Place,
+    room: Room,
+) -> Result<(List<Decl>, Place), Stop>
+    ensures { Parses (enum_decl text.now tokens.now) room place result }
+{
+    let (typedef, at) = word(tokens, place, Kind::TypedefWord)?;
+    let (_, typed) = word(tokens, at, Kind::EnumWord)?;
+    let (base, at) = maybe_vector(alloc, text, tokens, typed, room)?;
+    let (_, opened) = word(tokens, at, Kind::OpenBrace)?;
+    let (names, at) = constants(alloc, text, tokens, opened, room)?;
+    let (_, closed) = word(tokens, at, Kind::CloseBrace)?;
+    let (name, at) = ident(alloc, text, tokens, closed)?;
+    let (_, after) = word(tokens, at, Kind::Semi)?;
+    let mut decls = Vec::new(alloc);
+    decls.push(Decl::Enum {
+        name,
+        base,
+        names,
+        at: typedef.at,
+    })?;
+    Ok((List::of(decls), after))
+}
+
+fn maybe_vector(
+    alloc: Global,
+    text: &[u8],
+    tokens: &[Marked],
+    place: Place,
+    room: Room,
+) -> Result<(Option<TypeText>, Place), Stop>
+    ensures { Parses (λ r. maybe (vector text.now tokens.now r)) room place result }
+{
+    let Some(_) = take(
+        tokens,
+        place,
+        &[Kind::BitWord, Kind::LogicWord, Kind::RegWord],
+    ) else {
+        return Ok((None, place));
+    };
+    let (base, after) = vector(alloc, text, tokens, place, room)?;
+    Ok((Some(base), after))
+}
+
+/// Constants with commas between them.
+fn constants(
+    alloc: Global,
+    text: &[u8],
+    tokens: &[Marked],
+    place: Place,
+    room: Room,
+) -> Result<(List<(Name, Option<Expr>)>, Place), Stop>
+    ensures { Parses (enum_names text.now tokens.now) room place result }
+{
+    let (first, mut at) = constant(alloc, text, tokens, place, room)?;
+    let mut constants = Vec::new(alloc);
+    constants.push(first)?;
+    while let Some((_, next)) = take(tokens, at, &[Kind::Comma]) {
+        let (constant, after) = constant(alloc, text, tokens, next, room)?;
+        constants.push(constant)?;
+        at = after;
+    }
+    Ok((List::of(constants), at))
+}
+
+fn constant(
+    alloc: Global,
+    text: &[u8],
+    tokens: &[Marked],
+    place: Place,
+    room: Room,
+) -> Result<((Name, Option<Expr>), Place), Stop>
+    ensures { Parses (enum_name text.now tokens.now) room place result }
+{
+    let (name, at) = ident(alloc, text, tokens, place)?;
+    let (value, after) = maybe_value(alloc, text, tokens, at, room)?;
+    Ok(((name, value), after))
+}
+
+/// `= value`, or nothing.
+pub(crate) fn maybe_value(
+    alloc: Global,
+    text: &[u8],
+    tokens: &[Marked],
+    place: Place,
+    room: Room,
+) -> Result<(Option<Expr>, Place), Stop>
+    ensures { Parses (λ r. maybe (word tokens.now Assign ▸ expr text.now tokens.now r)) room place result }
+{
+    let Some((_, next)) = take(tokens, place, &[Kind::Assign]) else {
+        return Ok((None, place));
+    };
+    let (value, after) = whole_expr(alloc, text, tokens, next, room, Standing::Plain)?;
+    Ok((Some(value), after))
+}
