@@ -1,0 +1,53 @@
+#!/usr/bin/env bash
+# Builds both programs and prints what the value of a guard or a point costs, at crates/const_eval (by
+# crates/bench_expressions) and in plain Rust that walks the same trees (plain.rs), and how many instructions it takes.
+# Needs rt, rustc and valgrind. A word, if there is one, is the number of rows. Run it on a machine with nothing else to
+# do.
+set -euo pipefail
+cd "$(dirname "$0")"
+rows=${1:-2000000}
+room=$(mktemp -d)
+trap 'rm -rf "$room"' EXIT
+
+if ! (cd ../../crates/bench_expressions && rt run -- 1) >"$room/log" 2>&1; then
+    tail -20 "$room/log"
+    exit 1
+fi
+rustc --edition 2021 -O -C target-cpu=x86-64-v2 -o "$room/plain" plain.rs
+ours=../../crates/bench_expressions/out/bench_expressions
+
+# Puts the processor milliseconds of a command into the file named first.
+TIMEFORMAT=%3U
+took() {
+    { time "${@:2}" >"$room/printed"; } 2>"$room/took"
+    tr -d . <"$room/took" >>"$1"
+}
+
+# Runs both in turn, and keeps the least of each.
+for _ in $(seq 11); do
+    took "$room/times_a" "$ours" "$rows"
+    took "$room/times_b" "$room/plain" "$rows"
+done
+"$ours" "$rows" >"$room/a"
+"$room/plain" "$rows" >"$room/b"
+cmp -s "$room/a" "$room/b" || echo "the programs differ: $(cat "$room/a") here, $(cat "$room/b") there"
+read -r _ evaluations <"$room/a"
+least_a=$(sort -n "$room/times_a" | head -1)
+least_b=$(sort -n "$room/times_b" | head -1)
+awk -v a="$least_a" -v b="$least_b" -v n="$evaluations" 'BEGIN {
+    printf "%d evaluations: %.1f ns each, plain %.1f ns, ratio %.2f\n", n, a * 1e6 / n, b * 1e6 / n, a / b
+}'
+
+# The instructions of a program on so many rows, counted by callgrind.
+instructions() {
+    valgrind --tool=callgrind --callgrind-out-file="$room/calls" "$1" "$2" 2>&1 | sed -n 's/.*Collected : *//p'
+}
+
+for program in "$ours" "$room/plain"; do
+    more=$(($(instructions "$program" 20000) - $(instructions "$program" 10000)))
+    read -r _ high < <("$program" 20000)
+    read -r _ low < <("$program" 10000)
+    awk -v name="$(basename "$program")" -v more="$more" -v n="$((high - low))" 'BEGIN {
+        printf "%s: %.1f instructions an evaluation\n", name, more / n
+    }'
+done

@@ -1,0 +1,4 @@
+pub mod Equations
+pub mod Nodes
+pub mod Named
+pub mod Words

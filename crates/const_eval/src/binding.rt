@@ -1,0 +1,316 @@
+//! Binding of names in expressions.
+ghost use Rattle.cov_base.specs.Sets.{IsInt};
+ghost use Rattle.std.specs.Prelude.{◌≡◌, ◌<◌, ◌≤ℤ◌, ◌<ℤ◌, ◌+ℤ◌, ◌-ℤ◌, pos, unsigned_abs, IfOk, Option, Some, None, map};
+ghost use Rattle.std.specs.List.{list_any};
+ghost use Rattle.const_eval.specs.Scopes.{names_of};
+ghost use Rattle.const_eval.specs.Typs.{HasWidth};
+ghost use Rattle.const_eval.specs.Terms.{Term, typ_in};
+ghost use Rattle.const_eval.specs.Fronts.{IsFront, GivesFront};
+ghost use Rattle.const_eval.specs.Binding.{Gives, has_width as tests_width, literal, found as found_of, constant_of, is_outside as tests_outside, is_reversed as tests_reversed, selected, with_part, parts_behind, any_unsized, concatenated, concatenation, seen, bound_of, place_of, unsized_of};
+
+use crate::{BindFault, Bound, Meaning, Scope, Typ, eval, first_signal, typ};
+use cov_base::Int;
+use cov_tree::{Expr, Literal, Name};
+use std::alloc::{AllocError, Global};
+
+/// The expression with each name replaced by what it stands for, or its first fault: of a select that of its name, of its
+/// indexes from left to right, then BadSelect, then NotConstant; of a concatenation that of its parts, then TooWide, then
+/// BadConcat.
+#[cycle(expressions)]
+pub fn bind(alloc: Global, expr: &Expr, scope: &Scope) -> Result<Bound, BindFault>
+    ensures { Gives result (bound_of (names_of scope.now) expr.now) }
+{
+    match expr {
+        Expr::Num { lit, at } => bind_literal(lit, *at),
+        Expr::Name { name, at } => {
+            let meaning = find(scope, name, *at)?;
+            Ok(Bound::name(meaning, *at))
+        }
+        Expr::Bit { name, index, at } => {
+            let meaning = find(scope, name, *at)?;
+            let bound = bind(alloc, index.get(), scope)?;
+            select_bit(meaning, bound, place(index.get()), *at)
+        }
+        Expr::Part {
+            name,
+            high,
+            low,
+            at,
+        } => {
+            let meaning = find(scope, name, *at)?;
+            let last = bind(alloc, high.get(), scope)?;
+            let first = bind(alloc, low.get(), scope)?;
+            select_bits(
+                meaning,
+                last,
+                place(high.get()),
+                first,
+                place(low.get()),
+                *at,
+            )
+        }
+        Expr::Concat { parts, at } => bind_concat(alloc, parts.as_slice(), scope, *at),
+        Expr::Unary { op, arg, .. } => {
+            let inner = bind(alloc, arg.get(), scope)?;
+            Ok(Bound::unary(alloc, *op, inner)?)
+        }
+        Expr::Binary {
+            op,
+            left,
+            right,
+            ..
+        } => {
+            let first = bind(alloc, left.get(), scope)?;
+            let second = bind(alloc, right.get(), scope)?;
+            Ok(Bound::binary(alloc, *op, first, second)?)
+        }
+        Expr::Cond { test, yes, no, .. } => {
+            let condition = bind(alloc, test.get(), scope)?;
+            let first = bind(alloc, yes.get(), scope)?;
+            let second = bind(alloc, no.get(), scope)?;
+            Ok(Bound::choice(alloc, condition, first, second)?)
+        }
+    }
+}
+
+/// Where an expression begins.
+pub fn place(expr: &Expr) -> u32
+    ensures { result ≡ place_of expr.now }
+{
+    match expr {
+        Expr::Num { at, .. } => *at,
+        Expr::Name { at, .. } => *at,
+        Expr::Bit { at, .. } => *at,
+        Expr::Part { at, .. } => *at,
+        Expr::Concat { at, .. } => *at,
+        Expr::Unary { at, .. } => *at,
+        Expr::Binary { at, .. } => *at,
+        Expr::Cond { at, .. } => *at,
+    }
+}
+
+/// The number of an expression that stands at `at`, where a constant is needed. The refusal is NotConstant, at the first
+/// signal that it names, or at `at` where its value is unknown. It takes no memory.
+pub fn constant(bound: &Bound, at: u32) -> Result<Int, BindFault>
+    ensures { result ≡ constant_of bound.now at }
+{
+    if let Some(signal) = first_signal(bound, true) {
+        return Err(BindFault::NotConstant { at: signal });
+    }
+    match eval(bound, &[], None) {
+        Some(number) => Ok(number),
+        None => Err(BindFault::NotConstant { at }),
+    }
+}
+
+/// Whether there are 1 to 64 bits.
+fn has_width(width: u8) -> bool
+    ensures { result ≡ tests_width width }
+{
+    1 <= width && width <= 64
+}
+
+/// A literal without free bits.
+fn bind_literal(lit: &Literal, at: u32) -> Result<Bound, BindFault>
+    ensures { Gives result (literal lit.now at) }
+{
+    if !has_width(lit.width) {
+        return Err(BindFault::TooWide { at });
+    }
+    if lit.free != 0 {
+        return Err(BindFault::UnknownLiteral { at });
+    }
+    let typ = Typ {
+        width: lit.width,
+        signed: lit.signed,
+    };
+    Ok(Bound::number(lit.bits, typ))
+}
+
+/// What a name stands for.
+fn find(scope: &Scope, name: &Name, at: u32) -> Result<Meaning, BindFault>
+    ensures value { result ≡ found_of (names_of scope.now) name.now at }
+    ensures width { IfOk result (λ meaning. HasWidth (typ_in meaning)) }
+{
+    match scope.meaning(name.as_slice()) {
+        None => Err(BindFault::UnknownName { at }),
+        Some(meaning) => {
+            if has_width(meaning.typ().width) {
+                Ok(meaning)
+            } else {
+                Err(BindFault::TooWide { at })
+            }
+        }
+    }
+}
+
+/// Whether an index is known, and is no place of a span of so many bits from `low` on.
+fn is_outside(low: u8, width: u8, index: Result<Int, BindFault>) -> bool
+    ensures { result ≡ tests_outside low width index }
+{
+    match index {
+        Ok(index) => {
+            let index = index.get();
+            index < i128::from(low) || !(index < i128::from(low) + i128::from(width))
+        }
+        Err(_) => false,
+    }
+}
+
+/// Whether both ends are known, and the first is below the second.
+fn is_reversed(high: Result<Int, BindFault>, low: Result<Int, BindFault>) -> bool
+    ensures { result ≡ tests_reversed high low }
+{
+    match high {
+        Ok(last) => match low {
+            Ok(first) => last.get() < first.get(),
+            Err(_) => false,
+        },
+        Err(_) => false,
+    }
+}
+
+/// How far the second number is above the first.
+fn distance(from: i128, to: i128) -> u8
+    requires ordered { from ≤ℤ to }
+    requires near { to <ℤ (from +ℤ pos 64) }
+    requires range { IsInt from }
+    ensures value { result ≡ unsigned_abs (to -ℤ from) }
+    ensures near { result < 64 }
+{
+    (to - from) as u8
+}
+
+/// Bits of the value of a name.
+fn select(
+    meaning: Meaning,
+    high: Result<Int, BindFault>,
+    low: Result<Int, BindFault>,
+    at: u32,
+) -> Result<Bound, BindFault>
+    requires { HasWidth (typ_in meaning) }
+    ensures { Gives result (selected meaning high low at) }
+{
+    let Some(base) = meaning.low() else {
+        return Err(BindFault::BadSelect { at });
+    };
+    let width = meaning.typ().width;
+    if is_outside(base, width, high) || is_outside(base, width, low) || is_reversed(high, low) {
+        return Err(BindFault::BadSelect { at });
+    }
+    let last = high?.get();
+    let first = low?.get();
+    let skip = distance(i128::from(base), first);
+    let count = distance(first, last) + 1;
+    Ok(Bound::part(meaning, skip, count, at))
+}
+
+/// A bit of the value of a name, by its index and where that begins.
+fn select_bit(meaning: Meaning, index: Bound, index_at: u32, at: u32) -> Result<Bound, BindFault>
+    requires { HasWidth (typ_in meaning) }
+    ensures { Gives result (selected meaning (constant_of index index_at) (constant_of index index_at) at) }
+{
+    let last = constant(&index, index_at);
+    let first = constant(&index, index_at);
+    select(meaning, last, first, at)
+}
+
+/// Bits of the value of a name, by the two ends and where they begin.
+fn select_bits(
+    meaning: Meaning,
+    high: Bound,
+    high_at: u32,
+    low: Bound,
+    low_at: u32,
+    at: u32,
+) -> Result<Bound, BindFault>
+    requires { HasWidth (typ_in meaning) }
+    ensures { Gives result (selected meaning (constant_of high high_at) (constant_of low low_at) at) }
+{
+    let last = constant(&high, high_at);
+    let first = constant(&low, low_at);
+    select(meaning, last, first, at)
+}
+
+/// The parts of a concatenation so far.
+#[derive(Drop)]
+enum Front {
+    /// None.
+    Empty,
+    /// Parts of up to 64 bits.
+    Fits(Bound),
+    /// Parts of more than 64 bits, of which none is kept.
+    Wide,
+}
+
+/// The front with one part more.
+fn extended(alloc: Global, front: Front, part: Bound) -> Result<Front, AllocError>
+    ensures { (terms : Option Term) → IsFront front terms → IfOk result (λ next. IsFront next (Some (with_part terms part))) }
+{
+    match front {
+        Front::Empty => Ok(Front::Fits(Bound::alone(alloc, part)?)),
+        Front::Wide => Ok(Front::Wide),
+        Front::Fits(bound) => {
+            if 64 - typ(&bound).width < typ(&part).width {
+                return Ok(Front::Wide);
+            }
+            Ok(Front::Fits(Bound::joined(alloc, bound, part)?))
+        }
+    }
+}
+
+/// The parts of a concatenation, or the first fault of one.
+#[cycle(expressions)]
+fn bind_parts(alloc: Global, parts: &[Expr], scope: &Scope) -> Result<Front, BindFault>
+    ensures { GivesFront result (parts_behind None (map (seen (names_of scope.now)) parts.now)) }
+{
+    let mut front = Front::Empty;
+    for part in parts {
+        let bound = bind(alloc, part, scope)?;
+        front = extended(alloc, front, bound)?;
+    }
+    Ok(front)
+}
+
+/// A concatenation: the fault of a part, or TooWide, or BadConcat.
+#[cycle(expressions)]
+fn bind_concat(alloc: Global, parts: &[Expr], scope: &Scope, at: u32) -> Result<Bound, BindFault>
+    ensures { let all = map (seen (names_of scope.now)) parts.now in Gives result (concatenation (parts_behind None all) (any_unsized all) at) }
+{
+    let front = bind_parts(alloc, parts, scope)?;
+    concatenate(front, has_unsized(parts), at)
+}
+
+/// Whether an expression is a literal without a size.
+fn is_unsized(expr: &Expr) -> bool
+    ensures { result ≡ unsized_of expr.now }
+{
+    match expr {
+        Expr::Num { lit, .. } => !lit.sized,
+        _ => false,
+    }
+}
+
+/// A concatenation of its parts.
+fn concatenate(front: Front, has_unsized: bool, at: u32) -> Result<Bound, BindFault>
+    ensures { (terms : Option Term) → IsFront front terms → Gives result (concatenated terms has_unsized at) }
+{
+    match front {
+        Front::Empty => Err(BindFault::TooWide { at }),
+        Front::Wide => Err(BindFault::TooWide { at }),
+        Front::Fits(bound) => {
+            if has_unsized {
+                Err(BindFault::BadConcat { at })
+            } else {
+                Ok(bound)
+            }
+        }
+    }
+}
+
+/// Whether one of the expressions is a literal without a size.
+fn has_unsized(parts: &[Expr]) -> bool
+    ensures { result ≡ list_any unsized_of parts.now }
+{
+    parts.iter().any(is_unsized)
+}

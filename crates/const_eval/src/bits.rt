@@ -1,0 +1,56 @@
+//! Numbers as bits, and bits as numbers.
+ghost use Rattle.std.specs.Prelude.{◌≡◌, ◌≤◌, ◌<◌, ◌-◌, ◌^◌};
+ghost use Rattle.cov_base.specs.Sets.{IsInt};
+ghost use Rattle.const_eval.specs.Values.{bits_of, read, cut as cut_of};
+
+/// So many ones.
+#[inline(always)]
+pub(crate) fn ones(width: u8) -> u64
+    requires least { 1 ≤ width }
+    requires most { width ≤ 64 }
+    ensures { result ≡ 2 ^ width - 1 }
+{
+    u64::MAX >> (64 - width)
+}
+
+/// The number modulo 2 to the width.
+#[inline(always)]
+pub(crate) fn low_bits(width: u8, number: i128) -> u64
+    requires least { 1 ≤ width }
+    requires most { width ≤ 64 }
+    ensures value { result ≡ bits_of width number }
+    ensures below { result < 2 ^ width }
+{
+    let word = (number.cast_unsigned() & 0xffff_ffff_ffff_ffff) as u64;
+    word & ones(width)
+}
+
+/// Bits read without a sign, or in two's complement.
+#[inline(always)]
+pub(crate) fn number_of(width: u8, signed: bool, bits: u64) -> i128
+    requires least { 1 ≤ width }
+    requires most { width ≤ 64 }
+    requires below { bits < 2 ^ width }
+    ensures value { result ≡ read width signed bits }
+    ensures range { IsInt result }
+{
+    let number = i128::from(bits);
+    let half = 1u64 << (width - 1);
+    if signed && half <= bits {
+        number - 2 * i128::from(half)
+    } else {
+        number
+    }
+}
+
+/// The number modulo 2 to the width, read by the sign.
+#[inline(always)]
+#[tactic(auto, unfolding(crate::specs::Values::cut))]
+pub(crate) fn cut(width: u8, signed: bool, number: i128) -> i128
+    requires least { 1 ≤ width }
+    requires most { width ≤ 64 }
+    ensures value { result ≡ cut_of width signed number }
+    ensures range { IsInt result }
+{
+    number_of(width, signed, low_bits(width, number))
+}

@@ -1,0 +1,26 @@
+//! Expressions and their values (IEEE 1800-2017, clause 11): types, names with what they stand for, and evaluation.
+#![tactic(auto)]
+
+mod binding;
+mod bits;
+mod bound;
+mod fault;
+mod meaning;
+mod operations;
+mod scope;
+mod shifts;
+mod signals;
+mod typs;
+mod values;
+
+pub use binding::{bind, constant, place};
+pub use bound::Bound;
+pub use fault::BindFault;
+pub use meaning::{ITEM, Meaning};
+pub use scope::Scope;
+pub use signals::first_signal;
+pub use typs::Typ;
+pub use values::{eval, typ};
+
+#[cfg(test)]
+mod tests;

@@ -1,0 +1,57 @@
+//! Products and shifts. A shift may be by more than a word has bits.
+ghost use Rattle.std.specs.Prelude.{◌≡◌, ◌≤◌, ◌/◌, ◌^◌, pos, ◌*ℤ◌};
+ghost use Rattle.std.specs.Int.{int_shr};
+ghost use Rattle.cov_base.specs.Sets.{IsInt};
+ghost use Rattle.const_eval.specs.Values.{cut_to};
+
+use crate::Typ;
+use crate::bits::cut;
+
+/// The product.
+#[inline(always)]
+pub(crate) fn product(whole: Typ, x: i128, y: i128) -> i128
+    requires least { 1 ≤ whole.width }
+    requires most { whole.width ≤ 64 }
+    ensures value { result ≡ cut_to whole (x *ℤ y) }
+    ensures range { IsInt result }
+{
+    cut(whole.width, whole.signed, x.wrapping_mul(y))
+}
+
+/// The number times 2 to the amount.
+#[inline(always)]
+pub(crate) fn shifted_left(whole: Typ, x: i128, amount: u64) -> i128
+    requires least { 1 ≤ whole.width }
+    requires most { whole.width ≤ 64 }
+    ensures value { result ≡ cut_to whole (x *ℤ pos (2 ^ amount)) }
+    ensures range { IsInt result }
+{
+    if amount < 64 {
+        product(whole, x, i128::from(1u64 << amount))
+    } else {
+        0
+    }
+}
+
+/// The bits divided by 2 to the amount.
+#[inline(always)]
+pub(crate) fn bits_shifted_right(bits: u64, amount: u64) -> u64
+    ensures { result ≡ bits / 2 ^ amount }
+{
+    if amount < 64 { bits >> amount } else { 0 }
+}
+
+/// The number divided by 2 to the amount, rounded down.
+#[inline(always)]
+pub(crate) fn shifted_right(x: i128, amount: u64) -> i128
+    requires { IsInt x }
+    ensures { result ≡ int_shr x amount }
+{
+    if amount < 64 {
+        x >> amount
+    } else if x < 0 {
+        -1
+    } else {
+        0
+    }
+}
