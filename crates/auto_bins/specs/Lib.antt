@@ -1,0 +1,3 @@
+pub mod Automatic
+pub use Rattle.bin_spec.specs.Parts
+pub use Rattle.bin_spec.specs.Types

@@ -1,0 +1,89 @@
+//! The numbers of a type, spread over ranges.
+ghost use Rattle.std.specs.Prelude.{◌≡◌, ◌+◌, ◌^◌, ◌≤◌, pos, ◌+ℤ◌, ◌-ℤ◌, ◌≤ℤ◌, map, IfOk};
+ghost use Rattle.cov_base.specs.Sets.{span, count_from, least, greatest};
+ghost use Rattle.bin_spec.specs.Parts.{parts};
+ghost use Rattle.bin_spec.specs.Types.{lowest};
+ghost use Rattle.auto_bins.specs.Automatic.{automatic_parts};
+
+use cov_base::{Int, Memory};
+use std::alloc::Global;
+
+/// A type of numbers: `width` bits, 1 to 64, in two's complement where it is signed.
+#[derive(Clone, Copy, Debug, PartialEq, Eq)]
+pub struct Typ2 {
+    pub width: u8,
+    pub signed: bool,
+}
+
+/// The number as an `Int`.
+fn int_of(number: i128) -> Int
+    requires low { least ≤ℤ number }
+    requires high { number ≤ℤ greatest }
+    ensures { result ≡ number }
+{
+    Int::new(number).unwrap()
+}
+
+/// The least number of a type.
+fn lowest_of(typ: Typ2) -> Int
+    requires narrowest { 1 ≤ typ.width }
+    requires widest { typ.width ≤ 64 }
+    ensures { result ≡ lowest typ.width typ.signed }
+{
+    if typ.signed {
+        int_of(-(1 << (typ.width - 1)))
+    } else {
+        int_of(0)
+    }
+}
+
+/// How many numbers a type has.
+fn count_of(typ: Typ2) -> u128
+    requires { typ.width ≤ 64 }
+    ensures { result ≡ 2 ^ typ.width }
+{
+    1 << typ.width
+}
+
+/// The range of `count` numbers, at least one, that stand from place `first` on among those from `low` on.
+fn range_at(low: Int, first: u128, count: u128) -> (Int, Int)
+    requires some { 1 ≤ count }
+    requires high { (low +ℤ pos (first + count)) ≤ℤ (greatest +ℤ pos 1) }
+    ensures low_end { result.0 ≡ low +ℤ pos first }
+    ensures high_end { result.1 ≡ (low +ℤ pos (first + count)) -ℤ pos 1 }
+{
+    let start = low.get() + first as i128;
+    let end = start + (count - 1) as i128;
+    (int_of(start), int_of(end))
+}
+
+/// So many numbers from `low` on, spread over `bins` ranges, of which each has one number at least.
+fn spread_from(alloc: Global, low: Int, count: u128, bins: u128) -> Result<Vec<(Int, Int)>, Memory>
+    requires high { (low +ℤ pos count) ≤ℤ (greatest +ℤ pos 1) }
+    requires some { 1 ≤ bins }
+    requires most { bins ≤ count }
+    ensures { IfOk result (λ ranges. map span ranges.items ≡ parts (count_from low count) bins) }
+{
+    let share = count / bins;
+    let last = bins - 1;
+    let mut ranges = Vec::new(alloc);
+    for bin in 0..last {
+        ranges.push(range_at(low, bin * share, share))?;
+    }
+    ranges.push(range_at(low, last * share, count - last * share))?;
+    Ok(ranges)
+}
+
+/// The automatic bins of a point of this type, each as a range: all numbers in ascending order, spread over as many
+/// bins as there are numbers, and over `max` bins, 1 to 65,536, where that is fewer. The last bin has those that are
+/// left over too.
+pub fn auto_ranges(alloc: Global, typ: Typ2, max: u32) -> Result<Vec<(Int, Int)>, Memory>
+    requires narrowest { 1 ≤ typ.width }
+    requires widest { typ.width ≤ 64 }
+    requires some { 1 ≤ max }
+    requires most { max ≤ 65536 }
+    ensures { IfOk result (λ ranges. map span ranges.items ≡ automatic_parts typ.width typ.signed max) }
+{
+    let count = count_of(typ);
+    spread_from(alloc, lowest_of(typ), count, count.min(max as u128))
+}

@@ -1,0 +1,4 @@
+pub mod Keeping
+pub mod Runs
+pub mod Taking
+pub mod Written

@@ -1,0 +1,2 @@
+pub mod Listed
+pub use Rattle.bin_spec.specs.Parts

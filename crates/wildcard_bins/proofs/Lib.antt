@@ -1,0 +1,5 @@
+pub mod Agreement
+pub mod Bits
+pub mod Levels
+pub mod Places
+pub mod Whole
