@@ -1,0 +1,5 @@
+pub mod Parts
+pub mod Languages
+pub mod Slices
+pub mod RunLemmas
+pub mod PairOrder

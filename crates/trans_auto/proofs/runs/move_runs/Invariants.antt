@@ -1,0 +1,10 @@
+use Rattle.std.proofs.Common.{◌≡◌, ℕ, ◌<◌, ◌≤◌, length, get_or, false}
+use Rattle.trans_auto.specs.State.{PairSteps}
+use Rattle.trans_auto.proofs.runs.move_runs.Given as goal
+
+abbrev pub invariant-loop-k : goal.invariant-loop-k
+invariant-loop-k l = record {
+  len : length l.runs.items ≡ length l.initial.runs.items;
+  moved : (j : ℕ) (d : ℕ × ℕ) → j < l.k → PairSteps l.own l.removed l.sample false (get_or l.initial.runs.items j d) (get_or l.runs.items j d);
+  rest : (j : ℕ) (d : ℕ × ℕ) → l.k ≤ j → get_or l.runs.items j d ≡ get_or l.initial.runs.items j d;
+}

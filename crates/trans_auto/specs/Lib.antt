@@ -1,0 +1,5 @@
+pub mod Masks
+pub mod State
+pub mod Steps
+pub use Rattle.trans_seq.specs.Cells
+pub use Rattle.trans_seq.specs.Windows

@@ -1,0 +1,9 @@
+pub mod Cuts
+pub mod Blocks
+pub mod Progress
+pub mod Sequences
+pub mod Members
+pub mod News
+pub mod Counted
+pub mod FoundLemmas
+pub mod ListingLemmas

@@ -1,0 +1,18 @@
+//! Transition sequences (IEEE 1800-2017, 19.5.2): their lists of samples, by definition and by search.
+#![tactic(auto)]
+
+mod fault;
+mod found;
+mod listing;
+mod seq;
+mod size;
+mod windows;
+
+pub use fault::ExpandFault;
+pub use listing::expand;
+pub use seq::{Item, Repeat, Seq};
+pub use size::cells;
+pub use windows::{is_inside, window_in};
+
+#[cfg(test)]
+mod tests;

@@ -1,0 +1,144 @@
+//! The lists of a sequence, written out.
+ghost use Rattle.std.specs.Prelude.{◌≡◌, ◌+◌, ◌-◌, ◌<◌, ◌≤◌, List, [], false, map, length, IsTrue, IfOk, IfErr, OnOk};
+ghost use Rattle.std.specs.List.{list_any};
+ghost use Rattle.cov_base.specs.Sets.{written};
+ghost use Rattle.trans_seq.specs.Found.{Holds, FailsAfter, Extends, HasList, NoList, AllHaveList, SomeNoList, fronted, new_groups, packed};
+ghost use Rattle.trans_seq.specs.Lists.{lengths, choices, by_lengths, from_on, all_of, listed, is_endless, HasEndless, Expands, RefusesToExpand};
+
+use crate::fault::ExpandFault;
+use crate::found::{none_found, take_length};
+use crate::seq::{Item, Repeat, Seq};
+use crate::size::cells;
+use cov_base::{Int, Memory};
+use cov_tree::List;
+use std::alloc::Global;
+
+/// The most values that a list may have.
+const MOST_VALUES: u64 = 120;
+
+/// Whether the item has lists of any length.
+fn is_unbounded(item: &Item) -> bool
+    ensures { result ≡ is_endless item.now }
+{
+    match item.repeat {
+        Repeat::Once => false,
+        Repeat::Consec { .. } => false,
+        Repeat::Goto { .. } => true,
+        Repeat::NonConsec { .. } => true,
+    }
+}
+
+/// Whether an item has lists of any length.
+fn has_unbounded(items: &[Item]) -> bool
+    ensures { result ≡ list_any is_endless items.now }
+{
+    items.iter().any(|item| is_unbounded(item))
+}
+
+/// The least and the greatest length of an item's lists. For an item with lists of any length they are the wrong way
+/// round.
+fn ends(repeat: Repeat) -> (u32, u32)
+    ensures { lengths repeat ≡ from_on result.0 (result.1 + 1 - result.0) }
+{
+    match repeat {
+        Repeat::Once => (1, 1),
+        Repeat::Consec { low, high } => (low, high),
+        Repeat::Goto { .. } => (1, 0),
+        Repeat::NonConsec { .. } => (1, 0),
+    }
+}
+
+/// Whether the item has a list.
+fn has_list(item: &Item) -> bool
+    ensures some { IsTrue result → HasList item.now }
+    ensures none { result ≡ false → NoList item.now }
+{
+    let (low, high) = ends(item.repeat);
+    low <= high && (low == 0 || item.set.count() > 0)
+}
+
+/// Whether each item has a list.
+fn all_have_list(items: &[Item]) -> bool
+    ensures all { IsTrue result → AllHaveList items.now }
+    ensures some { result ≡ false → SomeNoList items.now }
+{
+    match items {
+        [] => true,
+        [item, rest @ ..] => has_list(item) && all_have_list(rest),
+    }
+}
+
+/// The lists of an item with those of the groups behind, in groups of the same lengths.
+fn with_item(
+    alloc: Global,
+    item: &Item,
+    groups: &[List<List<Int>>],
+) -> Result<Vec<List<List<Int>>>, ExpandFault>
+    ensures ok { IfOk result (λ made. made.items ≡ packed (new_groups [] (fronted (choices (written item.now.set)) groups.now (lengths item.now.repeat)))) }
+    ensures few { IfOk result (λ made. length (all_of made.items) ≤ 65536) }
+    ensures err { IfErr result (FailsAfter [] (all_of (fronted (choices (written item.now.set)) groups.now (lengths item.now.repeat)))) }
+{
+    let (low, high) = ends(item.repeat);
+    let mut found = none_found(alloc);
+    for size in low..=high {
+        take_length(alloc, &item.set, size, groups, &mut found)?;
+    }
+    Ok(found.groups)
+}
+
+/// The lists of the items, in groups of the same lengths.
+fn grouped(alloc: Global, items: &[Item]) -> Result<Vec<List<List<Int>>>, ExpandFault>
+    requires { AllHaveList items.now }
+    ensures ok { IfOk result (λ made. made.items ≡ packed (new_groups [] (by_lengths items.now))) }
+    ensures few { IfOk result (λ made. length (listed items.now) ≤ 65536) }
+    ensures err { IfErr result (FailsAfter [] (all_of (by_lengths items.now))) }
+{
+    match items {
+        [] => {
+            let empty = List::of(Vec::new(alloc));
+            let group = List::of(vec![in alloc; empty]?);
+            Ok(vec![in alloc; group]?)
+        }
+        [item, rest @ ..] => {
+            let groups = grouped(alloc, rest)?;
+            with_item(alloc, item, groups.as_slice())
+        }
+    }
+}
+
+/// The lists of all groups.
+fn flattened(alloc: Global, groups: Vec<List<List<Int>>>) -> Result<Vec<List<Int>>, Memory>
+    ensures { IfOk result (λ lists. lists.items ≡ all_of groups.items) }
+{
+    let mut lists = Vec::new(alloc);
+    for group in groups {
+        lists.append(&mut group.into_vec())?;
+    }
+    Ok(lists)
+}
+
+/// The distinct lists of values that the sequence stands for. They stand in the order of the lengths of their items'
+/// parts, ascending, the first item's length running slowest; lists of the same lengths stand by ascending values,
+/// the last one running fastest. A list that was there before is left out.
+///
+/// It is refused where an item has `[->` or `[=`; else where the greatest lengths of the items are more than 120
+/// together, even where an item has no list; else where more than 65,536 lists are distinct. The work grows with the
+/// number of distinct lists, not with the ways to make them.
+pub fn expand(alloc: Global, seq: &Seq) -> Result<Vec<List<Int>>, ExpandFault>
+    ensures lists { IfOk result (λ lists. Expands seq.now.items lists.items) }
+    ensures refuses { IfErr result (RefusesToExpand seq.now.items) }
+{
+    let items = seq.items.as_slice();
+    if has_unbounded(items) {
+        return Err(ExpandFault::Unbounded);
+    }
+    let values = cells(seq);
+    if values > MOST_VALUES {
+        return Err(ExpandFault::TooLong { cells: values });
+    }
+    if !all_have_list(items) {
+        return Ok(Vec::new(alloc));
+    }
+    let groups = grouped(alloc, items)?;
+    Ok(flattened(alloc, groups)?)
+}

@@ -1,0 +1,70 @@
+//! What a transition sequence is written of.
+ghost use Rattle.std.specs.Prelude.{◌≡◌, IfOk};
+
+use cov_base::{Memory, ValueSet};
+use cov_tree::List;
+use std::alloc::Global;
+
+/// How often the values of an item stand (IEEE 1800-2017, 19.5.2). Written repetitions have 1 <= low <= high. All
+/// other bounds have their plain meaning too: with a low end of 0 the item may be passed over, and with the ends the
+/// wrong way round it has no list.
+#[derive(Clone, Copy, Debug, PartialEq, Eq)]
+pub enum Repeat {
+    /// One sample inside.
+    Once,
+    /// `[*low:high]`: that many samples inside, one directly after the other.
+    Consec { low: u32, high: u32 },
+    /// `[->low:high]`: that many samples inside, with any number of samples outside before each of them.
+    Goto { low: u32, high: u32 },
+    /// `[=low:high]`: as `Goto`, and any number of samples outside before an item that follows.
+    NonConsec { low: u32, high: u32 },
+}
+
+/// One item of a sequence: the values, and how often they stand.
+#[derive(Drop, Debug)]
+pub struct Item {
+    /// The values that are inside. An unknown sample never is.
+    pub set: ValueSet,
+    /// How often they stand.
+    pub repeat: Repeat,
+}
+
+/// A transition sequence: its items one after another.
+#[derive(Drop, Debug)]
+pub struct Seq {
+    /// The items in order.
+    pub items: List<Item>,
+}
+
+impl Item {
+    /// The same item once more.
+    pub fn copy(&self, alloc: Global) -> Result<Item, Memory>
+        ensures { IfOk result (λ item. item ≡ self.now) }
+    {
+        Ok(Item {
+            set: self.set.copy(alloc)?,
+            repeat: self.repeat,
+        })
+    }
+}
+
+impl Seq {
+    /// The same sequence once more.
+    pub fn copy(&self, alloc: Global) -> Result<Seq, Memory>
+        ensures { IfOk result (λ seq. seq ≡ self.now) }
+    {
+        Ok(Seq {
+            items: List::of(copied_items(alloc, self.items.as_slice())?),
+        })
+    }
+}
+
+fn copied_items(alloc: Global, items: &[Item]) -> Result<Vec<Item>, Memory>
+    ensures { IfOk result (λ copies. copies.items ≡ items.now) }
+{
+    let mut copies = Vec::new(alloc);
+    for item in items {
+        copies.push(item.copy(alloc)?)?;
+    }
+    Ok(copies)
+}
