@@ -1,5 +1,5 @@
 -- From a row of a ranking to the next.
-use Rattle.std.proofs.Common.{◌≡◌, ℕ, zero, suc, ◌+◌, ◌-◌, ◌<◌, min, List, [], ◌∷◌, ◌++◌, length, get_or, set, take, drop, refl, sym, ap, subst, ◌∙◌, arith, inl, inr, Option, Some, None, Bool, true, false}
+use Rattle.std.proofs.Common.{◌≡◌, ℕ, zero, suc, ◌+◌, ◌-◌, ◌<◌, min, List, [], ◌∷◌, ◌++◌, length, get_or, set, take, drop, refl, sym, ap, subst, ◌∙◌, arith, inl, inr, Bool, true, false}
 use Rattle.std.specs.Prelude.{map, slice_index, slice_index_or, replicate, ◌||◌, ◌==◌}
 use Rattle.std.specs.List.{sum_by}
 use Rattle.std.proofs.lemmas.List.{map-append, length-map, get_or-map, get_or-set_same, get_or-set_other, take-append-le, take_all}
@@ -9,7 +9,7 @@ use Rattle.std.proofs.lemmas.Bool.{cases_eq, eq-eqb, ne_eqb}
 use Rattle.tally.specs.Rows.{count_in}
 use Rattle.tally.specs.declared.ranked.Ranked.{Ranked}
 use Rattle.rank_report.specs.Ranking.{Test, total, worth, test_at, tests_of, is_taken, gain_at, IsNext, IsGreedy, none, then, IsRanking}
-use Rattle.rank_report.specs.Steps.{added, less, open_gain, IsBestRow, IsBest}
+use Rattle.rank_report.specs.Steps.{added, less, open_gain, IsBestRow}
 use Rattle.rank_report.proofs.Greatest.{open_here, taken_here}
 
 -- what is missing of the wanted hits after the tests
@@ -19,7 +19,7 @@ missing_of wanted tests = map (λ (pair : ℕ × ℕ). (pair.0, pair.1 - total t
 total_more : (tests : List Test) (test : Test) (bin : ℕ) → total (tests ++ (test ∷ [])) bin ≡ total tests bin + count_in test bin
 total_more tests test bin = omega (arith, sum_by-append (λ (test : Test). count_in test bin) tests (test ∷ []))
 
-raised : (wanted : List (ℕ × ℕ)) (tests : List Test) (test : Test) → worth wanted (tests ++ (test ∷ [])) ≡ worth wanted tests + added test (missing_of wanted tests)
+pub raised : (wanted : List (ℕ × ℕ)) (tests : List Test) (test : Test) → worth wanted (tests ++ (test ∷ [])) ≡ worth wanted tests + added test (missing_of wanted tests)
 raised [] tests test = refl
 raised (pair ∷ wanted) tests test =
     let here : min pair.1 (total (tests ++ (test ∷ [])) pair.0) ≡ min pair.1 (total tests pair.0) + min (pair.1 - total tests pair.0) (count_in test pair.0) = ap (min pair.1) (total_more tests test pair.0) ∙ parted pair.1 (total tests pair.0) (count_in test pair.0) in
@@ -42,7 +42,7 @@ shrinks test (pair ∷ missing) =
     let c = sum_by-cons (λ (pair : ℕ × ℕ). pair.1) pair missing in
     omega (arith, rest, a, b, c)
 
-less_missing : (wanted : List (ℕ × ℕ)) (tests : List Test) (test : Test) → less test (missing_of wanted tests) ≡ missing_of wanted (tests ++ (test ∷ []))
+pub less_missing : (wanted : List (ℕ × ℕ)) (tests : List Test) (test : Test) → less test (missing_of wanted tests) ≡ missing_of wanted (tests ++ (test ∷ []))
 less_missing [] tests test = refl
 less_missing (pair ∷ wanted) tests test = joined (omega (arith, total_more tests test pair.0)) (less_missing wanted tests test)
   where
@@ -137,20 +137,6 @@ module _ (tests : List Test) (wanted : List (ℕ × ℕ)) (ranked : List Ranked)
         let a : slice_index (map (λ test. added test missing) tests) row.test ≡ added (test_at tests row.test) missing = get_or-map (λ test. added test missing) tests row.test [] 0 row_inside in
         let o : open_gain (map (λ test. added test missing) tests) taken row.test ≡ slice_index (map (λ test. added test missing) tests) row.test = open_here (map (λ test. added test missing) tests) taken row.test (r.marks row.test row_inside ∙ free) in
         omega (arith, shrinks (test_at tests row.test) missing, a, o, b.is, b.some)
-
-map_map : {X : Type 0} (f : Test → ℕ) (h : X → Test) (xs : List X) → map (λ x. f (h x)) xs ≡ map f (map h xs)
-map_map f h [] = refl
-map_map f h (x ∷ xs) = ap (λ (l : List ℕ). f (h x) ∷ l) (map_map f h xs)
-
--- the best row of tests that are kept in places of their own
-pub best_of : {X : Type 0} (h : X → Test) (xs : List X) (missing' missing : List (ℕ × ℕ)) (taken' taken : List Bool) (next : Option Ranked) (row : Ranked) → missing' ≡ missing → taken' ≡ taken → next ≡ Some row → IsBest (map (λ x. added (h x) missing') xs) taken' next → IsBestRow (map (λ test. added test missing) (map h xs)) taken row
-best_of h xs missing' missing taken' taken next row e f n b = rw (← map_map (λ test. added test missing) h xs, ← e, ← f) (rw n at b)
-
-pub none_of : {X : Type 0} (h : X → Test) (xs : List X) (missing' missing : List (ℕ × ℕ)) (taken' taken : List Bool) (next : Option Ranked) → missing' ≡ missing → taken' ≡ taken → next ≡ None → IsBest (map (λ x. added (h x) missing') xs) taken' next → IsBest (map (λ test. added test missing) (map h xs)) taken None
-none_of h xs missing' missing taken' taken next e f n b = rw (← map_map (λ test. added test missing) h xs, ← e, ← f) (rw n at b)
-
-pub kept_at : {X : Type 0} (h : X → Test) (xs : List X) (i : ℕ) (x : X) (test : Test) → x ≡ get_or xs i x → i < length xs → test ≡ h x → test ≡ test_at (map h xs) i
-kept_at h xs i x test p lt e = e ∙ (ap h p ∙ sym (get_or-map h xs i x [] lt))
 
 -- a vector after its items are written
 pub written : {A : Type 0} (n : ℕ) (xs ys : List A) → length xs ≡ n → take n (xs ++ drop (length xs) ys) ≡ xs

@@ -1,10 +1,13 @@
 //! The greedy ranking.
-ghost use Rattle.std.specs.Prelude.{◌≡◌, ◌<◌, ◌^◌, length, map, IfOk};
+//!
+//! A gain never grows as tests are taken, so that the gains which were computed before stand above those of now. Where
+//! the greatest of them is still the gain of its test, that test is the best one, and no other is computed.
+ghost use Rattle.std.specs.Prelude.{◌≡◌, ◌<◌, ◌^◌, length, map, IfOk, OnOk};
 ghost use Rattle.std.specs.Arc.{arc_value};
 ghost use Rattle.rank_report.specs.Ranking.{IsRanking};
-ghost use Rattle.rank_report.specs.Steps.{added, IsBest};
+ghost use Rattle.rank_report.specs.Steps.{hits_from, added_by, IsBest, StandAbove, AreFresh};
 
-use crate::missing::{fill, gain_of};
+use crate::hits::Hits;
 use cov_base::Memory;
 use cov_tree::List;
 use rayon::prelude::*;
@@ -13,8 +16,8 @@ use std::sync::Arc;
 use std::thread::Threads;
 use tally::{Ranked, Tally};
 
-/// How few tests are worth a thread of their own.
-const LEAST_TESTS: usize = 64;
+/// Where more than one of so many tests is to be computed anew, all are, shared among the processors.
+const FEW: usize = 4;
 
 /// The greedy ranking of the tests. `wanted` has pairs of a bin and of how many hits of it are wanted. The test that
 /// raises the wanted hits of those taken most is taken next, the earliest among equals, until none that is left
@@ -29,54 +32,137 @@ pub fn rank<R: Threads + Sync>(
     requires wanted { length wanted.now < 2 ^ 32 }
     ensures { IfOk result (λ ranked. IsRanking (map arc_value tests.now) wanted.now ranked) }
 {
+    let hits = hits_of(rt, alloc, tests, wanted)?;
     let mut missing = Vec::from_slice(alloc, wanted)?;
+    let mut gains = gains_of(rt, alloc, &hits, &missing)?;
     let mut taken = vec![in alloc; false; tests.len()]?;
     let mut ranked = Vec::new(alloc);
-    'rows: while let Some(next) = next_of(rt, alloc, tests, &taken, &missing)? {
+    'rows: while let Some(next) = next_of(rt, alloc, &hits, &taken, &missing, &mut gains)? {
         ranked.push(next)?;
         let place = next.test as usize;
         taken[place] = true;
-        fill(&tests[place], &mut missing);
+        hits[place].fill(&mut missing);
     }
     Ok(List::of(ranked))
 }
 
-/// The best of the tests that aren't taken.
-fn next_of<R: Threads + Sync>(
+/// The hits of each test. The tests are shared among the processors.
+fn hits_of<R: Threads + Sync>(
     rt: &R,
     alloc: Global,
     tests: &[Arc<Tally>],
+    wanted: &[(u32, u32)],
+) -> Result<Vec<Hits>, Memory>
+    requires { length wanted.now < 2 ^ 32 }
+    ensures { IfOk result (λ hits. hits.items ≡ map (λ test. hits_from 0 (arc_value test) wanted.now) tests.now) }
+{
+    let hits: Result<Result<Vec<Hits>, Memory>, AllocError> = tests
+        .par_iter()
+        .map(
+            |test: &Arc<Tally>| -> Result<Hits, Memory>
+                requires { length wanted.now < 2 ^ 32 }
+                ensures { IfOk result (λ hits. hits ≡ hits_from 0 (arc_value test.now) wanted.entry.now) }
+            { Hits::of(alloc, test, wanted) },
+        )
+        .with_min_len(1)
+        .collect(rt, alloc);
+    hits?
+}
+
+/// The best of the tests that aren't taken. `gains` has numbers that stand above the gains of the tests, and still does
+/// afterwards.
+fn next_of<R: Threads + Sync>(
+    rt: &R,
+    alloc: Global,
+    hits: &[Hits],
     taken: &[bool],
     missing: &[(u32, u32)],
+    gains: &mut [u64],
 ) -> Result<Option<Ranked>, Memory>
-    requires same { length taken.now ≡ length tests.now }
-    requires tests { length tests.now < 2 ^ 32 }
-    requires missing { length missing.now < 2 ^ 32 }
-    ensures { IfOk result (λ next. IsBest (map (λ test. added (arc_value test) missing.now) tests.now) taken.now next) }
+    requires tests { length hits.now < 2 ^ 32 }
+    requires taken { length taken.now ≡ length hits.now }
+    requires gains { length gains.old ≡ length hits.now }
+    requires above { StandAbove (map (λ hits. added_by hits missing.now) hits.now) taken.now gains.old }
+    ensures next { IfOk result (λ next. IsBest (map (λ hits. added_by hits missing.now) hits.now) taken.now next) }
+    ensures above { OnOk result (StandAbove (map (λ hits. added_by hits missing.now) hits.now) taken.now gains.new) }
 {
-    let gains = gains_of(rt, alloc, tests, missing)?;
-    Ok(best(&gains, taken))
+    let Some(first) = best(gains, taken) else {
+        return Ok(None);
+    };
+    let gain = hits[first.test as usize].gain(missing);
+    if gain == first.gain {
+        return Ok(Some(first));
+    }
+    refresh(rt, alloc, hits, taken, missing, gain, gains)?;
+    Ok(best(gains, taken))
+}
+
+/// Computes the gains anew that stand at `floor` or above it.
+fn refresh<R: Threads + Sync>(
+    rt: &R,
+    alloc: Global,
+    hits: &[Hits],
+    taken: &[bool],
+    missing: &[(u32, u32)],
+    floor: u64,
+    gains: &mut [u64],
+) -> Result<(), Memory>
+    requires taken { length taken.now ≡ length hits.now }
+    requires gains { length gains.old ≡ length hits.now }
+    requires above { StandAbove (map (λ hits. added_by hits missing.now) hits.now) taken.now gains.old }
+    ensures above { OnOk result (StandAbove (map (λ hits. added_by hits missing.now) hits.now) taken.now gains.new) }
+    ensures fresh { OnOk result (AreFresh (map (λ hits. added_by hits missing.now) hits.now) taken.now floor gains.new) }
+{
+    if count_stale(taken, floor, gains) > hits.len() / FEW {
+        let fresh = gains_of(rt, alloc, hits, missing)?;
+        gains.copy_from_slice(&fresh);
+    } else {
+        refresh_few(hits, taken, missing, floor, gains);
+    }
+    Ok(())
+}
+
+/// How many gains stand at `floor` or above it, of the tests that aren't taken.
+fn count_stale(taken: &[bool], floor: u64, gains: &[u64]) -> usize {
+    let open = gains
+        .iter()
+        .zip(taken)
+        .filter(|(gain, taken)| !**taken && **gain >= floor);
+    open.count()
+}
+
+/// `refresh` in one thread.
+fn refresh_few(hits: &[Hits], taken: &[bool], missing: &[(u32, u32)], floor: u64, gains: &mut [u64])
+    requires taken { length taken.now ≡ length hits.now }
+    requires gains { length gains.old ≡ length hits.now }
+    requires above { StandAbove (map (λ hits. added_by hits missing.now) hits.now) taken.now gains.old }
+    ensures above { StandAbove (map (λ hits. added_by hits missing.now) hits.now) taken.now gains.new }
+    ensures fresh { AreFresh (map (λ hits. added_by hits missing.now) hits.now) taken.now floor gains.new }
+{
+    for (place, hits) in hits.iter().enumerate() {
+        if !taken[place] && gains[place] >= floor {
+            gains[place] = hits.gain(missing);
+        }
+    }
 }
 
 /// How many of the missing hits each test has. The tests are shared among the processors.
 fn gains_of<R: Threads + Sync>(
     rt: &R,
     alloc: Global,
-    tests: &[Arc<Tally>],
+    hits: &[Hits],
     missing: &[(u32, u32)],
 ) -> Result<Vec<u64>, Memory>
-    requires { length missing.now < 2 ^ 32 }
-    ensures { IfOk result (λ gains. gains.items ≡ map (λ test. added (arc_value test) missing.now) tests.now) }
+    ensures { IfOk result (λ gains. gains.items ≡ map (λ hits. added_by hits missing.now) hits.now) }
 {
-    let gains: Result<Vec<u64>, AllocError> = tests
+    let gains: Result<Vec<u64>, AllocError> = hits
         .par_iter()
         .map(
-            |test: &Arc<Tally>| -> u64
-                requires { length missing.now < 2 ^ 32 }
-                ensures { result ≡ added (arc_value test.now) missing.entry.now }
-            { gain_of(test, missing) },
+            |hits: &Hits| -> u64
+                ensures { result ≡ added_by hits.now missing.entry.now }
+            { hits.gain(missing) },
         )
-        .with_min_len(LEAST_TESTS)
+        .with_min_len(1)
         .collect(rt, alloc);
     Ok(gains?)
 }

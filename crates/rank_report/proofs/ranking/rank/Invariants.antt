@@ -2,6 +2,7 @@ use Rattle.std.proofs.Common.{◌≡◌, ℕ, length}
 use Rattle.std.specs.Prelude.{map}
 use Rattle.std.specs.List.{sum_by}
 use Rattle.std.specs.Arc.{arc_value}
+use Rattle.rank_report.specs.Steps.{added_by, StandAbove}
 use Rattle.rank_report.proofs.RankLemmas.{Reached}
 use Rattle.rank_report.proofs.ranking.rank.Given as goal
 
@@ -10,6 +11,8 @@ invariant-rows g l = record {
   reached : Reached (map arc_value l.tests) l.wanted l.ranked.items l.missing.items l.taken.items;
   marked : length l.taken.items ≡ length l.tests;
   paired : length l.missing.items ≡ length l.wanted;
+  kept : length l.gains.items ≡ length l.tests;
+  above : StandAbove (map (λ hits. added_by hits l.missing.items) l.hits.items) l.taken.items l.gains.items;
 }
 
 abbrev pub decreases-rows : goal.decreases-rows

@@ -1,0 +1,54 @@
+#!/usr/bin/env bash
+# Builds both programs and prints what a ranking costs: of 256 tests at crates/rank_report (by crates/bench_ranking) and
+# at the plain double loop in Rust (plain.rs), which asks each test again for each row; and of 4,096 tests at
+# crates/rank_report alone. Each test has 4,096 entries, and as many hits of each of 262,144 bins are wanted as is said.
+# Needs rt and rustc. Run it on a machine with nothing else to do.
+set -euo pipefail
+cd "$(dirname "$0")"
+room=$(mktemp -d)
+trap 'rm -rf "$room"' EXIT
+
+if ! (cd ../../crates/bench_ranking && rt run -- 2 3 1 1 1) >"$room/log" 2>&1; then
+    tail -20 "$room/log"
+    exit 1
+fi
+rustc --edition 2021 -O -C target-cpu=x86-64-v2 -o "$room/plain" plain.rs
+ours=../../crates/bench_ranking/out/bench_ranking
+
+# The least nanoseconds of so many runs of a program.
+least() {
+    local runs=$1 best=0 from took
+    shift
+    for ((run = 0; run < runs; run++)); do
+        from=$(date +%s%N)
+        "$@" >"$room/count"
+        took=$(($(date +%s%N) - from))
+        if [ "$best" -eq 0 ] || [ "$took" -lt "$best" ]; then best=$took; fi
+    done
+    echo "$best"
+}
+
+# The time of the ranking alone: less that of a run that makes the tests and ranks none.
+cost() {
+    local runs=$1 program=$2 tests=$3 want=$4 none
+    none=$(least "$runs" "$program" "$tests" 4096 64 "$want" 0)
+    echo $(($(least "$runs" "$program" "$tests" 4096 64 "$want" 1) - none))
+}
+
+for want in 1 8 4096; do
+    proved=$(cost 5 "$ours" 256 "$want")
+    rows=$(cat "$room/count")
+    plain=$(cost 5 "$room/plain" 256 "$want")
+    [ "$rows" = "$(cat "$room/count")" ] || echo "want $want: the programs rank otherwise"
+    awk -v want="$want" -v a="$proved" -v b="$plain" -v rows="$rows" 'BEGIN {
+        split(rows, parts, " ")
+        printf "256 tests, %d wanted, %d rows: %.0f ms, plain %.0f ms, ratio %.2f\n", want, parts[1], a / 1e6, b / 1e6, a / b
+    }'
+done
+for want in 1 8 4096; do
+    proved=$(cost 1 "$ours" 4096 "$want")
+    awk -v want="$want" -v a="$proved" -v rows="$(cat "$room/count")" 'BEGIN {
+        split(rows, parts, " ")
+        printf "4096 tests, %d wanted, %d rows: %.1f s\n", want, parts[1], a / 1e9
+    }'
+done
