@@ -1,7 +1,8 @@
 #!/usr/bin/env bash
 # Builds both programs and prints what reading and writing a record of 8 MiB cost, at crates/record_codec (by
-# crates/bench_records) and at a plain Rust reader and writer with the same checks (plain.rs). Needs rt, rustc and
-# python3. A word, if there is one, is the number of rounds of each run. Run it on a machine with nothing else to do.
+# crates/bench_records) and at a plain Rust reader and writer with the same checks (plain.rs), and how many instructions
+# the reading takes for each event. Needs rt, rustc, python3 and valgrind. A word, if there is one, is the number of
+# rounds of each run. Run it on a machine with nothing else to do.
 set -euo pipefail
 cd "$(dirname "$0")"
 rounds=${1:-20}
@@ -59,5 +60,18 @@ for work in reading writing; do
     [ "$count" = "$(cat "$room/count")" ] || echo "$work: the programs count other events"
     awk -v work="$work" -v a="$proved" -v b="$plain" -v n="$rounds" -v c="$count" 'BEGIN {
         printf "%s %d events: %.2f ms, plain %.2f ms, ratio %.2f\n", work, c, a / n / 1e6, b / n / 1e6, a / b
+    }'
+done
+
+# The instructions of a program that reads so many times, counted by callgrind.
+instructions() {
+    valgrind --tool=callgrind --callgrind-out-file="$room/calls" "$1" "$room/whole.rec" "$2" 0 2>&1 |
+        sed -n 's/.*Collected : *//p'
+}
+
+for program in "$ours" "$room/plain"; do
+    more=$(($(instructions "$program" 2) - $(instructions "$program" 1)))
+    awk -v name="$(basename "$program")" -v more="$more" -v c="$("$program" "$room/whole.rec" 0 0)" 'BEGIN {
+        printf "%s: %.1f instructions an event\n", name, more / c
     }'
 done

@@ -8,4 +8,4 @@ pub mod Readers
 pub mod RecordLaws
 pub mod Tables
 pub mod Texts
-pub mod Widths
+pub mod Under

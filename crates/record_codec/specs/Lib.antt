@@ -2,3 +2,4 @@ pub mod Limits
 pub mod Reading
 pub mod Samples
 pub mod Spelling
+pub mod Under

@@ -1,41 +1,69 @@
 //! The events of a record.
-ghost use Rattle.std.specs.Prelude.{◌≡◌};
-ghost use Rattle.record_codec.specs.Reading.{Gives, counted, value_at, set_at, sample_at, event_at, events_at};
+ghost use Rattle.std.specs.Prelude.{◌≡◌, IfOk};
+ghost use Rattle.record_codec.specs.Reading.{Gives, counted, sample_at, event_at, events_at};
+ghost use Rattle.record_codec.specs.Under.{value_under, set_under, event_under, greatest, limits_of};
 
 use crate::fault::Fault;
-use crate::fields::{bits_at, u8_within, u16_at, u32_at};
+use crate::fields::{u8_at, u16_at, u32_at, u64_up_to};
 use crate::{Event, SignalRow};
 use cov_tree::List;
-use std::alloc::Global;
+use std::alloc::{AllocError, Global};
 
-// A value of so many bits behind its flag, which is 0 where it is Unknown.
-#[inline]
-#[tactic(auto, unfolding(crate::specs::Reading::value_at, crate::specs::Reading::known_at))]
-fn value(width: u8, bytes: &[u8]) -> Result<(Option<u64>, &[u8]), Fault>
-    ensures { Gives (λ x. (x.0, x.1.now)) result (value_at width bytes.now) }
+/// The bytes of the longest event.
+const LONGEST: usize = 12;
+
+/// The greatest value of so many bits, of 64 at most.
+fn most_of(width: u8) -> u64
+    ensures { result ≡ greatest width }
 {
-    let (known, rest) = u8_within(0, 2, bytes)?;
-    if known == 0 {
-        return Ok((None, rest));
+    if width >= 64 {
+        return u64::MAX;
     }
-    let (bits, rest) = bits_at(width, rest)?;
-    Ok((Some(bits), rest))
+    (1 << width) - 1
 }
 
-#[inline]
-#[tactic(auto, unfolding(crate::specs::Reading::set_at))]
-fn set<'a>(signals: &[SignalRow], bytes: &'a [u8]) -> Result<(Event, &'a [u8]), Fault>
-    ensures { Gives (λ x. (x.0, x.1.now)) result (set_at signals.now bytes.now) }
+/// The greatest value of each signal.
+fn limits_of(alloc: Global, signals: &[SignalRow]) -> Result<Vec<u64>, AllocError>
+    ensures { IfOk result (λ limits. limits.items ≡ limits_of signals.now) }
+{
+    let mut limits = Vec::new(alloc);
+    for row in signals {
+        limits.push(most_of(row.width))?;
+    }
+    Ok(limits)
+}
+
+// A value that isn't above the most behind its flag, which is 0 where it is Unknown.
+#[inline(always)]
+#[tactic(auto, unfolding(crate::specs::Under::value_under, crate::specs::Under::known_under, crate::specs::Reading::number_within))]
+fn value(most: u64, bytes: &[u8]) -> Result<(Option<u64>, &[u8]), Fault>
+    ensures { Gives (λ x. (x.0, x.1.now)) result (value_under most bytes.now) }
+{
+    let (known, rest) = u8_at(bytes)?;
+    match known {
+        0 => Ok((None, rest)),
+        1 => {
+            let (bits, rest) = u64_up_to(most, rest)?;
+            Ok((Some(bits), rest))
+        }
+        _ => Err(Fault::BadField { left: bytes.len() }),
+    }
+}
+
+#[inline(always)]
+#[tactic(auto, unfolding(crate::specs::Under::set_under))]
+fn set<'a>(limits: &[u64], bytes: &'a [u8]) -> Result<(Event, &'a [u8]), Fault>
+    ensures { Gives (λ x. (x.0, x.1.now)) result (set_under limits.now bytes.now) }
 {
     let (signal, rest) = u16_at(bytes)?;
-    let Some(row) = signals.get(signal as usize) else {
+    let Some(most) = limits.get(signal as usize) else {
         return Err(Fault::BadField { left: bytes.len() });
     };
-    let (value, rest) = value(row.width, rest)?;
+    let (value, rest) = value(*most, rest)?;
     Ok((Event::Set { signal, value }, rest))
 }
 
-#[inline]
+#[inline(always)]
 #[tactic(auto, unfolding(crate::specs::Reading::sample_at, crate::specs::Reading::number_within))]
 fn sample(instances: usize, bytes: &[u8]) -> Result<(Event, &[u8]), Fault>
     ensures { Gives (λ x. (x.0, x.1.now)) result (sample_at instances bytes.now) }
@@ -47,21 +75,44 @@ fn sample(instances: usize, bytes: &[u8]) -> Result<(Event, &[u8]), Fault>
     Ok((Event::Sample { instance }, rest))
 }
 
-#[inline]
-#[tactic(auto, unfolding(crate::specs::Reading::event_at))]
-fn event<'a>(
-    signals: &[SignalRow],
+#[inline(always)]
+#[tactic(auto, unfolding(crate::specs::Under::event_under, crate::specs::Reading::number_within))]
+fn any_event<'a>(
+    limits: &[u64],
     instances: usize,
     bytes: &'a [u8],
 ) -> Result<(Event, &'a [u8]), Fault>
-    ensures { Gives (λ x. (x.0, x.1.now)) result (event_at signals.now instances bytes.now) }
+    ensures { Gives (λ x. (x.0, x.1.now)) result (event_under limits.now instances bytes.now) }
 {
-    let (tag, rest) = u8_within(1, 3, bytes)?;
-    if tag == 1 {
-        set(signals, rest)
-    } else {
-        sample(instances, rest)
+    let (tag, rest) = u8_at(bytes)?;
+    match tag {
+        1 => set(limits, rest),
+        2 => sample(instances, rest),
+        _ => Err(Fault::BadField { left: bytes.len() }),
     }
+}
+
+// An event near the end of the bytes.
+#[inline(never)]
+fn late_event<'a>(
+    limits: &[u64],
+    instances: usize,
+    bytes: &'a [u8],
+) -> Result<(Event, &'a [u8]), Fault>
+    ensures { Gives (λ x. (x.0, x.1.now)) result (event_under limits.now instances bytes.now) }
+{
+    any_event(limits, instances, bytes)
+}
+
+// An event. Behind the one test of the length those of its fields fall away.
+#[inline(always)]
+fn event<'a>(limits: &[u64], instances: usize, bytes: &'a [u8]) -> Result<(Event, &'a [u8]), Fault>
+    ensures { Gives (λ x. (x.0, x.1.now)) result (event_under limits.now instances bytes.now) }
+{
+    if bytes.len() < LONGEST {
+        return late_event(limits, instances, bytes);
+    }
+    any_event(limits, instances, bytes)
 }
 
 // So many events.
@@ -74,11 +125,12 @@ fn counted_events<'a>(
 ) -> Result<(List<Event>, &'a [u8]), Fault>
     ensures { Gives (λ x. (x.0, x.1.now)) result (counted (event_at signals.now instances) count bytes.now) }
 {
-    let mut events = Vec::new(alloc);
+    let limits = limits_of(alloc, signals)?;
+    let mut events = Vec::with_capacity(alloc, count as usize)?;
     let mut rest = bytes;
     for _ in 0..count {
-        let (event, after) = event(signals, instances, rest)?;
-        events.push(event)?;
+        let (event, after) = event(&limits, instances, rest)?;
+        events.push_reserved(event);
         rest = after;
     }
     Ok((List::of(events), rest))

@@ -1,5 +1,5 @@
 //! The fields of a record, each read from the front of the bytes.
-ghost use Rattle.std.specs.Prelude.{◌≡◌, ◌↔◌, ◌+◌, ◌<◌, ◌≤◌, ◌^◌, IsTrue};
+ghost use Rattle.std.specs.Prelude.{◌≡◌, ◌+◌, ◌<◌, ◌≤◌, ◌^◌};
 ghost use Rattle.std.specs.List.{position};
 ghost use Rattle.std.specs.Int.{w8, w16, w32, w64};
 ghost use Rattle.record_codec.specs.Reading.{Gives, number_at, number_within, is_bad, text_at};
@@ -8,8 +8,9 @@ use crate::fault::Fault;
 use cov_tree::Name;
 use std::alloc::Global;
 
-#[inline]
-fn u8_at(bytes: &[u8]) -> Result<(u8, &[u8]), Fault>
+/// A number in one byte.
+#[inline(always)]
+pub(crate) fn u8_at(bytes: &[u8]) -> Result<(u8, &[u8]), Fault>
     ensures { Gives (λ x. (x.0, x.1.now)) result (number_at w8 bytes.now) }
 {
     if bytes.is_empty() {
@@ -20,7 +21,7 @@ fn u8_at(bytes: &[u8]) -> Result<(u8, &[u8]), Fault>
 }
 
 /// A number in two bytes.
-#[inline]
+#[inline(always)]
 pub(crate) fn u16_at(bytes: &[u8]) -> Result<(u16, &[u8]), Fault>
     ensures { Gives (λ x. (x.0, x.1.now)) result (number_at w16 bytes.now) }
 {
@@ -44,7 +45,7 @@ pub(crate) fn u32_at(bytes: &[u8]) -> Result<(u32, &[u8]), Fault>
 }
 
 /// A number in eight bytes.
-#[inline]
+#[inline(always)]
 pub(crate) fn u64_at(bytes: &[u8]) -> Result<(u64, &[u8]), Fault>
     ensures { Gives (λ x. (x.0, x.1.now)) result (number_at w64 bytes.now) }
 {
@@ -90,25 +91,17 @@ pub(crate) fn u16_within(least: u16, limit: u16, bytes: &[u8]) -> Result<(u16, &
     Ok((number, rest))
 }
 
-// Whether the number has at most so many bits.
-#[inline]
-fn has_width(width: u8, bits: u64) -> bool
-    ensures { IsTrue result ↔ (bits < 2 ^ width) }
-{
-    width >= 64 || bits >> width == 0
-}
-
-/// A number of at most so many bits, in eight bytes.
-#[inline]
+/// A number that isn't above the most, in eight bytes.
+#[inline(always)]
 #[tactic(auto, unfolding(crate::specs::Reading::number_within))]
-pub(crate) fn bits_at(width: u8, bytes: &[u8]) -> Result<(u64, &[u8]), Fault>
-    ensures { Gives (λ x. (x.0, x.1.now)) result (number_within w64 0 (2 ^ width) bytes.now) }
+pub(crate) fn u64_up_to(most: u64, bytes: &[u8]) -> Result<(u64, &[u8]), Fault>
+    ensures { Gives (λ x. (x.0, x.1.now)) result (number_within w64 0 (most + 1) bytes.now) }
 {
-    let (bits, rest) = u64_at(bytes)?;
-    if !has_width(width, bits) {
+    let (number, rest) = u64_at(bytes)?;
+    if number > most {
         return Err(Fault::BadField { left: bytes.len() });
     }
-    Ok((bits, rest))
+    Ok((number, rest))
 }
 
 // The first byte of a text that is below `low` or above 126.
