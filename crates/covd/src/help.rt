@@ -7,6 +7,8 @@ pub const HELP: &str = "\
 covd counts the functional coverage of SystemVerilog designs.
 
 Usage:
+  covd check DESIGN          prints how many signals, instances and bins the
+                             design has, and a line a bin
   covd count DESIGN RECORD   counts how often the record hits each bin of the
                              design, and prints a line a bin
   covd --help                prints this text

@@ -12,12 +12,13 @@ use Rattle.covd_core.specs.declared.design.Bin.{Bin}
 use Rattle.covd_core.specs.declared.design.Design.{Design}
 use Rattle.covd_core.specs.declared.status.Status.{Status}
 use Rattle.covd_core.specs.declared.status.Status.TheVariants as status
-use Rattle.covd_core.specs.Form.{IsDesign}
+use Rattle.covd_core.specs.declared.design.CompileFault.{CompileFault}
+use Rattle.covd_core.specs.Compiling.{IsDesign, IsDesignFault}
 use Rattle.covd_core.specs.Tally.{point, rule_of, AreCounts, IsTally}
-use Rattle.covd_core.specs.Lines.{count_text, design_refused_text, cannot_read_text, too_long_text}
-use Rattle.covd_core.specs.Command.{Files, design_most, record_most, IsCountCommand, NotLoaded, HasDesign, HasNoDesign, HasRecord, HasNoRecord, IsCountText, IsRefusedText, Counts, Answers, HasOneAnswer}
-use Rattle.covd_core.proofs.Sole.{one_design}
-use Rattle.covd_core.proofs.Refusals.{IsReading, refused_text_one}
+use Rattle.covd_core.specs.Lines.{count_text, check_text, IsDesignFaultText, cannot_read_text, too_long_text}
+use Rattle.covd_core.specs.Command.{Files, design_most, record_most, IsCheckCommand, IsCountCommand, NotLoaded, HasDesign, HasNoDesign, HasRecord, HasNoRecord, IsCountText, IsRefusedText, Checks, Counts, Answers, HasOneAnswer}
+use Rattle.covd_core.proofs.Refusals.{IsReading, design_text_one, refused_text_one}
+use Rattle.covd_core.proofs.Texts.{design_one as text_design, fault_one}
 
 abbrev Told : Type 0
 Told = List (List ℕ × List ℕ)
@@ -85,15 +86,89 @@ module _ (all : Told) (name : List ℕ) where
     | inr a ↦ let same : length a.bytes ≡ length bytes = ap length (same_file all name a.bytes bytes a.file file) in omega (arith, a.long)
   ]
 
--- ---- the two files
+-- ---- the design's file
+
+module _ (all : Told) where
+  design_one : (name : List ℕ) (d e : Design) → HasDesign (Some all) name d → HasDesign (Some all) name e → d ≡ e
+  design_one name d e h k = text_design k.text d e (subst (λ (text : List ℕ). IsDesign d text) (same_file all name h.text k.text h.file k.file) h.is_design) k.is_design
+
+  no_design : (name line : List ℕ) (d : Design) → HasDesign (Some all) name d → HasNoDesign (Some all) name line → ⊥
+  no_design name line d h n = n.none d (subst (λ (text : List ℕ). IsDesign d text) (same_file all name h.text n.text h.file n.file) h.is_design)
+
+  no_design_one : (name line other : List ℕ) → HasNoDesign (Some all) name line → HasNoDesign (Some all) name other → line ≡ other
+  no_design_one name line other h k =
+      let same = fault_one k.text h.fault k.fault (subst (λ (text : List ℕ). IsDesignFault text h.fault) (same_file all name h.text k.text h.file k.file) h.cause) k.cause in
+      design_text_one k.fault line other (subst (λ (fault : CompileFault). IsDesignFaultText fault line) same h.says) k.says
+
+  -- what a command does with a design that it has: this status and this text
+  module _ (Ends : Design → Status → List ℕ → Type 0) (ends_one : (d : Design) (s s' : Status) (text text' : List ℕ) → Ends d s text → Ends d s' text' → (s ≡ s') × (text ≡ text')) (design : List ℕ) where
+    record IsUncompiled (s : Status) (text : List ℕ) : Type 0 where
+      none : HasNoDesign (Some all) design text
+      is_status : s ≡ status.DesignRefused
+
+    record IsCompiled (s : Status) (text : List ℕ) : Type 0 where
+      d : Design
+      has : HasDesign (Some all) design d
+      ends : Ends d s text
+
+    -- the answer to the words
+    abbrev Case : Status → List ℕ → Type 0
+    Case s text = IsRefused all design design_most s text ⊎ (IsUncompiled s text ⊎ IsCompiled s text)
+
+    compiled_one : (s s' : Status) (text text' : List ℕ) → IsCompiled s text → IsCompiled s' text' → (s ≡ s') × (text ≡ text')
+    compiled_one s s' text text' a b = ends_one b.d s s' text text' (subst (λ (d : Design). Ends d s text) (design_one design a.d b.d a.has b.has) a.ends) b.ends
+
+    uncompiled_one : (s s' : Status) (text text' : List ℕ) → IsUncompiled s text → IsUncompiled s' text' → (s ≡ s') × (text ≡ text')
+    uncompiled_one s s' text text' a b = (a.is_status ∙ sym b.is_status, no_design_one design text text' a.none b.none)
+
+    has_had : (s : Status) (text : List ℕ) (d : Design) → HasDesign (Some all) design d → IsRefused all design design_most s text → ⊥
+    has_had s text d h = not_refused all design design_most s text h.text h.file h.short
+
+    none_had : (s : Status) (text line : List ℕ) → HasNoDesign (Some all) design line → IsRefused all design design_most s text → ⊥
+    none_had s text line h = not_refused all design design_most s text h.text h.file h.short
+
+    case_one : (s s' : Status) (text text' : List ℕ) → Case s text → Case s' text' → (s ≡ s') × (text ≡ text')
+    case_one s s' text text' h k = elim h [
+      | inl a ↦ elim k [
+        | inl b ↦ refused_one all design design_most s s' text text' a b
+        | inr y ↦ elim y [ inl b ↦ absurd (none_had s text text' b.none a) | inr b ↦ absurd (has_had s text b.d b.has a) ]
+      ]
+      | inr x ↦ elim x [
+        | inl a ↦ elim k [
+          | inl b ↦ absurd (none_had s' text' text a.none b)
+          | inr y ↦ elim y [ inl b ↦ uncompiled_one s s' text text' a b | inr b ↦ absurd (no_design design text b.d b.has a.none) ]
+        ]
+        | inr a ↦ elim k [
+          | inl b ↦ absurd (has_had s' text' a.d a.has b)
+          | inr y ↦ elim y [ inl b ↦ absurd (no_design design text' a.d a.has b.none) | inr b ↦ compiled_one s s' text text' a b ]
+        ]
+      ]
+    ]
+
+-- ---- check
+
+module _ (all : Told) where
+  record Lists (d : Design) (s : Status) (text : List ℕ) : Type 0 where
+    is_status : s ≡ status.Done
+    is_text : text ≡ check_text d
+
+  lists_one : (d : Design) (s s' : Status) (text text' : List ℕ) → Lists d s text → Lists d s' text' → (s ≡ s') × (text ≡ text')
+  lists_one d s s' text text' a b = (a.is_status ∙ sym b.is_status, a.is_text ∙ sym b.is_text)
+
+  module _ (design : List ℕ) (before now : ℕ) (calm : Rose before now → ⊥) where
+    check_case : (s : Status) (text : List ℕ) → Checks (Some all) before now design s text → Case all Lists lists_one design s text
+    check_case status.Done text h = inr (inr (record { d = h.0; has = h.1; ends = record { is_status = refl; is_text = h.2 } }))
+    check_case status.DesignRefused text h = inr (inl (record { none = h; is_status = refl }))
+    check_case status.ShelfFault text h = inl (refused all design before now calm design_most status.ShelfFault text h)
+    check_case status.FileTooLong text h = inl (refused all design before now calm design_most status.FileTooLong text h)
+    check_case other text h = absurd h
+
+    check_one : (s s' : Status) (text text' : List ℕ) → Checks (Some all) before now design s text → Checks (Some all) before now design s' text' → (s ≡ s') × (text ≡ text')
+    check_one s s' text text' h k = case_one all Lists lists_one design s s' text text' (check_case s text h) (check_case s' text' k)
+
+-- ---- count
 
 module _ (spells : IsReading) (all : Told) where
-  design_one : (name : List ℕ) (d e : Design) → HasDesign (Some all) name d → HasDesign (Some all) name e → d ≡ e
-  design_one name d e h k = one_design k.text d e (subst (λ (text : List ℕ). IsDesign d text) (same_file all name h.text k.text h.file k.file) h.is_design) k.is_design
-
-  no_design : (name : List ℕ) (d : Design) → HasDesign (Some all) name d → HasNoDesign (Some all) name → ⊥
-  no_design name d h n = n.none d (subst (λ (text : List ℕ). IsDesign d text) (same_file all name h.text n.text h.file n.file) h.is_design)
-
   record_one : (name : List ℕ) (d : Design) (r q : Record) → HasRecord (Some all) name d r → HasRecord (Some all) name d q → r ≡ q
   record_one name d r q h k = spells.one k.bytes r q (subst (λ (bytes : List ℕ). Encodes r bytes) (same_file all name h.bytes k.bytes h.file k.file) h.encodes) k.encodes
 
@@ -147,78 +222,59 @@ module _ (spells : IsReading) (all : Told) where
       ]
     ]
 
-  module _ (design rec : List ℕ) where
-    record IsUncompiled (s : Status) (text : List ℕ) : Type 0 where
-      none : HasNoDesign (Some all) design
-      is_status : s ≡ status.DesignRefused
-      is_text : text ≡ design_refused_text
-
-    record IsCompiled (s : Status) (text : List ℕ) : Type 0 where
-      d : Design
-      has : HasDesign (Some all) design d
-      ends : Ends rec d s text
-
-    -- the answer to the words
-    abbrev Case : Status → List ℕ → Type 0
-    Case s text = IsRefused all design design_most s text ⊎ (IsUncompiled s text ⊎ IsCompiled s text)
-
-    module _ (before now : ℕ) (calm : Rose before now → ⊥) where
-      case_of : (s : Status) (text : List ℕ) → Counts (Some all) before now design rec s text → Case s text
-      case_of status.Done text h = inr (inr (record { d = h.0; has = h.1; ends = inr (inr (record { r = h.2; has = h.3; is_status = refl; counted = h.4 })) }))
-      case_of status.DesignRefused text h = inr (inl (record { none = h.0; is_status = refl; is_text = h.1 }))
-      case_of status.RecordRefused text h = inr (inr (record { d = h.0; has = h.1; ends = inr (inl (record { none = h.2; is_status = refl })) }))
-      case_of status.ShelfFault text h = elim h [
-        | inl a ↦ inl (refused all design before now calm design_most status.ShelfFault text a)
-        | inr a ↦ inr (inr (record { d = a.0; has = a.1; ends = inl (refused all rec before now calm record_most status.ShelfFault text a.2) }))
-      ]
-      case_of status.FileTooLong text h = elim h [
-        | inl a ↦ inl (refused all design before now calm design_most status.FileTooLong text a)
-        | inr a ↦ inr (inr (record { d = a.0; has = a.1; ends = inl (refused all rec before now calm record_most status.FileTooLong text a.2) }))
-      ]
-      case_of other text h = absurd h
-
-    compiled_one : (s s' : Status) (text text' : List ℕ) → IsCompiled s text → IsCompiled s' text' → (s ≡ s') × (text ≡ text')
-    compiled_one s s' text text' a b = ends_one rec b.d s s' text text' (subst (λ (d : Design). Ends rec d s text) (design_one design a.d b.d a.has b.has) a.ends) b.ends
-
-    has_had : (s : Status) (text : List ℕ) (d : Design) → HasDesign (Some all) design d → IsRefused all design design_most s text → ⊥
-    has_had s text d h = not_refused all design design_most s text h.text h.file h.short
-
-    none_had : (s : Status) (text : List ℕ) → HasNoDesign (Some all) design → IsRefused all design design_most s text → ⊥
-    none_had s text h = not_refused all design design_most s text h.text h.file h.short
-
-    case_one : (s s' : Status) (text text' : List ℕ) → Case s text → Case s' text' → (s ≡ s') × (text ≡ text')
-    case_one s s' text text' h k = elim h [
-      | inl a ↦ elim k [
-        | inl b ↦ refused_one all design design_most s s' text text' a b
-        | inr y ↦ elim y [ inl b ↦ absurd (none_had s text b.none a) | inr b ↦ absurd (has_had s text b.d b.has a) ]
-      ]
-      | inr x ↦ elim x [
-        | inl a ↦ elim k [
-          | inl b ↦ absurd (none_had s' text' a.none b)
-          | inr y ↦ elim y [ inl b ↦ (a.is_status ∙ sym b.is_status, a.is_text ∙ sym b.is_text) | inr b ↦ absurd (no_design design b.d b.has a.none) ]
-        ]
-        | inr a ↦ elim k [
-          | inl b ↦ absurd (has_had s' text' a.d a.has b)
-          | inr y ↦ elim y [ inl b ↦ absurd (no_design design a.d a.has b.none) | inr b ↦ compiled_one s s' text text' a b ]
-        ]
-      ]
+  module _ (design rec : List ℕ) (before now : ℕ) (calm : Rose before now → ⊥) where
+    count_case : (s : Status) (text : List ℕ) → Counts (Some all) before now design rec s text → Case all (Ends rec) (ends_one rec) design s text
+    count_case status.Done text h = inr (inr (record { d = h.0; has = h.1; ends = inr (inr (record { r = h.2; has = h.3; is_status = refl; counted = h.4 })) }))
+    count_case status.DesignRefused text h = inr (inl (record { none = h; is_status = refl }))
+    count_case status.RecordRefused text h = inr (inr (record { d = h.0; has = h.1; ends = inr (inl (record { none = h.2; is_status = refl })) }))
+    count_case status.ShelfFault text h = elim h [
+      | inl a ↦ inl (refused all design before now calm design_most status.ShelfFault text a)
+      | inr a ↦ inr (inr (record { d = a.0; has = a.1; ends = inl (refused all rec before now calm record_most status.ShelfFault text a.2) }))
     ]
+    count_case status.FileTooLong text h = elim h [
+      | inl a ↦ inl (refused all design before now calm design_most status.FileTooLong text a)
+      | inr a ↦ inr (inr (record { d = a.0; has = a.1; ends = inl (refused all rec before now calm record_most status.FileTooLong text a.2) }))
+    ]
+    count_case other text h = absurd h
+
+    count_one : (s s' : Status) (text text' : List ℕ) → Counts (Some all) before now design rec s text → Counts (Some all) before now design rec s' text' → (s ≡ s') × (text ≡ text')
+    count_one s s' text text' h k = case_one all (Ends rec) (ends_one rec) design s s' text text' (count_case s text h) (count_case s' text' k)
 
 -- ---- the words
 
 module _ (spells : IsReading) (words : List (List ℕ)) (all : Told) (before now : ℕ) (calm : Rose before now → ⊥) (s s' : Status) (text text' : List ℕ) where
-  same_words : (design rec : List ℕ) → IsCountCommand words design rec → Counts (Some all) before now design rec s text → (other more : List ℕ) → IsCountCommand words other more → Counts (Some all) before now other more s' text'
+  same_check : (design : List ℕ) → IsCheckCommand words design → Checks (Some all) before now design s text → (other : List ℕ) → IsCheckCommand words other → Checks (Some all) before now other s' text' → (s ≡ s') × (text ≡ text')
+  same_check design e h other f k =
+      let same : other ≡ design = cc (e, f) in
+      check_one all design before now calm s s' text text' h (subst (λ (d : List ℕ). Checks (Some all) before now d s' text') same k)
+
+  same_count : (design rec : List ℕ) → IsCountCommand words design rec → Counts (Some all) before now design rec s text → (other more : List ℕ) → IsCountCommand words other more → Counts (Some all) before now other more s' text'
       → (s ≡ s') × (text ≡ text')
-  same_words design rec e h other more f k =
+  same_count design rec e h other more f k =
       let one : other ≡ design = cc (e, f) in
       let two : more ≡ rec = cc (e, f) in
       let k' = subst (λ (d : List ℕ). Counts (Some all) before now d rec s' text') one (subst (λ (r : List ℕ). Counts (Some all) before now other r s' text') two k) in
-      case_one spells all design rec s s' text text' (case_of spells all design rec before now calm s text h) (case_of spells all design rec before now calm s' text' k')
+      count_one spells all design rec before now calm s s' text text' h k'
+
+  check_or_count : (design other rec : List ℕ) → IsCheckCommand words design → IsCountCommand words other rec → ⊥
+  check_or_count design other rec e f = let n : length words ≡ 2 = ap length e in let m : length words ≡ 3 = ap length f in omega arith
 
   answer_one : Answers words (Some all) before now s text → Answers words (Some all) before now s' text' → (s ≡ s') × (text ≡ text')
   answer_one h k = elim h [
-    | inl a ↦ elim k [ inl b ↦ (a.1 ∙ sym b.1, a.2 ∙ sym b.2) | inr b ↦ absurd (a.0 b.0 b.1 b.2) ]
-    | inr a ↦ elim k [ inl b ↦ absurd (b.0 a.0 a.1 a.2) | inr b ↦ same_words a.0 a.1 a.2 a.3 b.0 b.1 b.2 b.3 ]
+    | inl a ↦ elim k [
+      | inl b ↦ (a.1 ∙ sym b.1, a.2 ∙ sym b.2)
+      | inr y ↦ elim y [ inl b ↦ absurd (a.0.0 b.0 b.1) | inr b ↦ absurd (a.0.1 b.0 b.1 b.2) ]
+    ]
+    | inr x ↦ elim x [
+      | inl a ↦ elim k [
+        | inl b ↦ absurd (b.0.0 a.0 a.1)
+        | inr y ↦ elim y [ inl b ↦ same_check a.0 a.1 a.2 b.0 b.1 b.2 | inr b ↦ absurd (check_or_count a.0 b.0 b.1 a.1 b.2) ]
+      ]
+      | inr a ↦ elim k [
+        | inl b ↦ absurd (b.0.1 a.0 a.1 a.2)
+        | inr y ↦ elim y [ inl b ↦ absurd (check_or_count b.0 a.0 a.1 b.1 a.2) | inr b ↦ same_count a.0 a.1 a.2 a.3 b.0 b.1 b.2 b.3 ]
+      ]
+    ]
   ]
 
 pub has_one_answer : IsReading → (words : List (List ℕ)) (files : Files) (before now : ℕ) → HasOneAnswer words files before now

@@ -7,9 +7,14 @@ use Rattle.record_codec.specs.declared.fault.RecordFault.TheVariants.{Short, Bad
 use Rattle.record_codec.specs.declared.record.Record.{Record}
 use Rattle.record_codec.specs.Spelling.{Encodes}
 use Rattle.record_codec.specs.Reading.{HasFault}
+use Rattle.cov_lexer.specs.declared.token.LexFault.TheVariants as lexing
+use Rattle.cov_parser.specs.declared.fault.ParseFault.TheVariants as parsing
+use Rattle.covd_core.specs.declared.design.CompileFault.{CompileFault}
+use Rattle.covd_core.specs.declared.design.CompileFault.TheVariants as compiling
+use Rattle.covd_core.specs.declared.design.CompileFault.TheVariants.{Lex, Parse, NotBuiltYet}
 use Rattle.covd_core.specs.declared.design.Design.{Design}
 use Rattle.covd_core.specs.Shape.{signals_of, instances_of, Fits, FirstDiffering, IsWrongAt}
-use Rattle.covd_core.specs.Lines.{IsFaultText, wrong_shape_text}
+use Rattle.covd_core.specs.Lines.{IsDesignFaultText, IsFaultText, wrong_shape_text}
 use Rattle.covd_core.specs.Command.{IsRefusedText}
 
 -- Bytes spell one record at most and have one fault at most, and not both.
@@ -71,6 +76,20 @@ fault_text_one (BadField at) text other h k = h ∙ sym k
 fault_text_one (TooManyEvents count) text other h k = h ∙ sym k
 fault_text_one (Trailing at) text other h k = h ∙ sym k
 fault_text_one Memory text other h k = absurd h
+
+pub design_text_one : (fault : CompileFault) (text other : List ℕ) → IsDesignFaultText fault text → IsDesignFaultText fault other → text ≡ other
+design_text_one (Lex (lexing.BadByte at)) text other h k = h ∙ sym k
+design_text_one (Lex (lexing.OpenComment at)) text other h k = h ∙ sym k
+design_text_one (Lex (lexing.OpenString at)) text other h k = h ∙ sym k
+design_text_one (Lex (lexing.LiteralTooWide at)) text other h k = h ∙ sym k
+design_text_one (Lex (lexing.NameTooLong at)) text other h k = h ∙ sym k
+design_text_one (Lex lexing.Memory) text other h k = absurd h
+design_text_one (Parse (parsing.Syntax at)) text other h k = h ∙ sym k
+design_text_one (Parse (parsing.NotSupported at)) text other h k = h ∙ sym k
+design_text_one (Parse (parsing.TooDeep at)) text other h k = h ∙ sym k
+design_text_one (Parse parsing.Memory) text other h k = absurd h
+design_text_one (NotBuiltYet at) text other h k = h ∙ sym k
+design_text_one compiling.Memory text other h k = absurd h
 
 pub refused_text_one : IsReading → (d : Design) (bytes text other : List ℕ) → IsRefusedText d bytes text → IsRefusedText d bytes other → text ≡ other
 refused_text_one read d bytes text other h k = elim h [

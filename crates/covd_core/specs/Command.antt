@@ -1,5 +1,6 @@
 -- What a command answers: a status and a text, from its words and the files of a shelf. The steps are: words, load of
--- the design, compiling, load of the record, decoding and shape, printing; the first step that refuses decides.
+-- the design, compiling, and for `count` load of the record, decoding and shape; then printing. The first step that
+-- refuses decides.
 use Rattle.std.specs.Prelude.{◌≡◌, ◌⊎◌, ℕ, ◌≤◌, List, [], ◌∷◌, length, Option, Some, codes}
 use Rattle.cov_spec.specs.Causes.{Rose}
 use Rattle.cov_spec.specs.Told.{Grows, GrowsByFront, Stays}
@@ -8,13 +9,14 @@ use Rattle.record_codec.specs.declared.record.Record.{Record}
 use Rattle.record_codec.specs.declared.fault.RecordFault.{RecordFault}
 use Rattle.record_codec.specs.Spelling.{Encodes}
 use Rattle.record_codec.specs.Reading.{HasFault}
+use Rattle.covd_core.specs.declared.design.CompileFault.{CompileFault}
 use Rattle.covd_core.specs.declared.design.Design.{Design}
 use Rattle.covd_core.specs.declared.status.Status.{Status}
 use Rattle.covd_core.specs.declared.status.Status.TheVariants as status
-use Rattle.covd_core.specs.Form.{IsDesign}
+use Rattle.covd_core.specs.Compiling.{IsDesign, IsDesignFault}
 use Rattle.covd_core.specs.Shape.{Fits, IsWrongAt}
 use Rattle.covd_core.specs.Tally.{IsTally}
-use Rattle.covd_core.specs.Lines.{count_text, bad_words_text, design_refused_text, IsFaultText, wrong_shape_text, cannot_read_text, too_long_text}
+use Rattle.covd_core.specs.Lines.{count_text, check_text, bad_words_text, IsDesignFaultText, IsFaultText, wrong_shape_text, cannot_read_text, too_long_text}
 
 -- the files of a shelf, where it tells them
 abbrev pub Files : Type 0
@@ -29,12 +31,22 @@ record_most = 8388608
 
 -- ---- words
 
+-- the words are `check` and the design's name
+abbrev pub IsCheckCommand : List (List ℕ) → List ℕ → Type 0
+IsCheckCommand words design = words ≡ codes "check" ∷ design ∷ []
+
 -- the words are `count`, the design's name and the record's
 abbrev pub IsCountCommand : List (List ℕ) → List ℕ → List ℕ → Type 0
 IsCountCommand words design rec = words ≡ codes "count" ∷ design ∷ rec ∷ []
 
+abbrev pub IsNoCheck : List (List ℕ) → Type 0
+IsNoCheck words = (design : List ℕ) → IsCheckCommand words design → ⊥
+
+abbrev pub IsNoCount : List (List ℕ) → Type 0
+IsNoCount words = (design rec : List ℕ) → IsCountCommand words design rec → ⊥
+
 abbrev pub IsNoCommand : List (List ℕ) → Type 0
-IsNoCommand words = (design rec : List ℕ) → IsCountCommand words design rec → ⊥
+IsNoCommand words = IsNoCheck words × IsNoCount words
 
 -- ---- files
 
@@ -55,12 +67,15 @@ pub record HasDesign (files : Files) (name : List ℕ) (d : Design) : Type 0 whe
   pub short : length text ≤ design_most
   pub is_design : IsDesign d text
 
--- the file of that name has no design
-pub record HasNoDesign (files : Files) (name : List ℕ) : Type 0 where
+-- the file of that name has no design, and the line says why: the text's fault and its place
+pub record HasNoDesign (files : Files) (name line : List ℕ) : Type 0 where
   pub text : List ℕ
   pub file : HasFile files name text
   pub short : length text ≤ design_most
   pub none : (d : Design) → IsDesign d text → ⊥
+  pub fault : CompileFault
+  pub cause : IsDesignFault text fault
+  pub says : IsDesignFaultText fault line
 
 -- the file of that name has the record, and it fits the design
 pub record HasRecord (files : Files) (name : List ℕ) (d : Design) (r : Record) : Type 0 where
@@ -91,10 +106,18 @@ pub record HasNoRecord (files : Files) (name : List ℕ) (d : Design) (text : Li
 abbrev pub IsCountText : Design → Record → List ℕ → Type 0
 IsCountText d r text = (counts : List ℕ) × IsTally d r counts × (text ≡ count_text d r.id counts)
 
+-- Status and text of `check DESIGN`: the cause of each status.
+abbrev pub Checks : Files → ℕ → ℕ → List ℕ → Status → List ℕ → Type 0
+Checks files before now design status.Done text = (d : Design) × HasDesign files design d × (text ≡ check_text d)
+Checks files before now design status.DesignRefused text = HasNoDesign files design text
+Checks files before now design status.ShelfFault text = NotLoaded files before now design design_most status.ShelfFault text
+Checks files before now design status.FileTooLong text = NotLoaded files before now design design_most status.FileTooLong text
+Checks files before now design other text = ⊥
+
 -- Status and text of `count DESIGN RECORD`: the cause of each status.
 abbrev pub Counts : Files → ℕ → ℕ → List ℕ → List ℕ → Status → List ℕ → Type 0
 Counts files before now design rec status.Done text = (d : Design) × HasDesign files design d × (r : Record) × HasRecord files rec d r × IsCountText d r text
-Counts files before now design rec status.DesignRefused text = HasNoDesign files design × (text ≡ design_refused_text)
+Counts files before now design rec status.DesignRefused text = HasNoDesign files design text
 Counts files before now design rec status.RecordRefused text = (d : Design) × HasDesign files design d × HasNoRecord files rec d text
 Counts files before now design rec status.ShelfFault text = NotLoaded files before now design design_most status.ShelfFault text ⊎ ((d : Design) × HasDesign files design d × NotLoaded files before now rec record_most status.ShelfFault text)
 Counts files before now design rec status.FileTooLong text = NotLoaded files before now design design_most status.FileTooLong text ⊎ ((d : Design) × HasDesign files design d × NotLoaded files before now rec record_most status.FileTooLong text)
@@ -103,7 +126,9 @@ Counts files before now design rec other text = ⊥
 -- Status and text of any words; `before` and `now` are the counts of the shelf's faults.
 abbrev pub Answers : List (List ℕ) → Files → ℕ → ℕ → Status → List ℕ → Type 0
 Answers words files before now s text =
-    (IsNoCommand words × (s ≡ status.BadWords) × (text ≡ bad_words_text)) ⊎ ((design rec : List ℕ) × IsCountCommand words design rec × Counts files before now design rec s text)
+    (IsNoCommand words × (s ≡ status.BadWords) × (text ≡ bad_words_text))
+    ⊎ (((design : List ℕ) × IsCheckCommand words design × Checks files before now design s text)
+    ⊎ ((design rec : List ℕ) × IsCountCommand words design rec × Counts files before now design rec s text))
 
 -- What a run leaves in the sink. Where memory ran out: nothing. Where the sink failed, its count having risen: some of
 -- the answer's text from the front. Else: the whole text of the answer, whose status it is.

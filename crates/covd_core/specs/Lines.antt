@@ -1,9 +1,15 @@
 -- The lines that are printed. Each ends with a newline, and numbers are decimal.
-use Rattle.std.specs.Prelude.{◌≡◌, ℕ, ◌+◌, List, [], ◌∷◌, ◌++◌, codes, decimal}
+use Rattle.std.specs.Prelude.{◌≡◌, ℕ, ◌+◌, List, [], ◌∷◌, ◌++◌, codes, decimal, length}
+use Rattle.cov_lexer.specs.declared.token.LexFault.TheVariants as lexing
+use Rattle.cov_parser.specs.declared.fault.ParseFault.TheVariants as parsing
 use Rattle.record_codec.specs.declared.fault.RecordFault.{RecordFault}
 use Rattle.record_codec.specs.declared.fault.RecordFault.TheVariants.{Short, BadMagic, BadVersion, BadField, TooManyEvents, Trailing, Memory}
 use Rattle.covd_core.specs.declared.design.Bin.{Bin}
+use Rattle.covd_core.specs.declared.design.CompileFault.{CompileFault}
+use Rattle.covd_core.specs.declared.design.CompileFault.TheVariants as compiling
+use Rattle.covd_core.specs.declared.design.CompileFault.TheVariants.{Lex, Parse, NotBuiltYet}
 use Rattle.covd_core.specs.declared.design.Design.{Design}
+use Rattle.covd_core.specs.Shape.{signals_of, instances_of}
 
 abbrev pub newline : List ℕ
 newline = 10 ∷ []
@@ -26,12 +32,45 @@ bin_lines number d (bin ∷ bins) (count ∷ counts) = bin_line number count d b
 abbrev pub count_text : Design → List ℕ → List ℕ → List ℕ
 count_text d id counts = codes "test " ++ (id ++ (newline ++ bin_lines 0 d d.bins counts))
 
+-- bin NUMBER CVGBIN PATH
+abbrev pub listed_line : ℕ → Design → Bin → List ℕ
+listed_line number d bin = codes "bin " ++ (decimal number ++ (codes " CVGBIN " ++ (path_of d bin ++ newline)))
+
+-- a line for each bin, numbered from `number` on
+abbrev pub listed_lines : ℕ → Design → List Bin → List ℕ
+listed_lines number d [] = []
+listed_lines number d (bin ∷ bins) = listed_line number d bin ++ listed_lines (number + 1) d bins
+
+-- a word and a number
+abbrev pub number_line : List ℕ → ℕ → List ℕ
+number_line word number = word ++ 32 ∷ (decimal number ++ newline)
+
+-- how many signals, instances and bins the design has, and a line for each bin
+abbrev pub check_text : Design → List ℕ
+check_text d =
+    number_line (codes "signals") (length (signals_of d)) ++ (number_line (codes "instances") (length (instances_of d)) ++ (number_line (codes "bins") (length d.bins) ++ listed_lines 0 d d.bins))
+
 abbrev pub bad_words_text : List ℕ
 bad_words_text = codes "bad words" ++ newline
 
--- the place is that of the text's first byte
-abbrev pub design_refused_text : List ℕ
-design_refused_text = codes "design refused NotBuiltYet at 0" ++ newline
+-- the kind of the fault of a design text, and the byte at which it stands
+abbrev pub design_refused_text : List ℕ → ℕ → List ℕ
+design_refused_text kind at = codes "design refused " ++ (kind ++ (codes " at " ++ (decimal at ++ newline)))
+
+-- The line of a fault of a design text. Want of memory has no line.
+abbrev pub IsDesignFaultText : CompileFault → List ℕ → Type 0
+IsDesignFaultText (Lex (lexing.BadByte at)) text = text ≡ design_refused_text (codes "BadByte") at
+IsDesignFaultText (Lex (lexing.OpenComment at)) text = text ≡ design_refused_text (codes "OpenComment") at
+IsDesignFaultText (Lex (lexing.OpenString at)) text = text ≡ design_refused_text (codes "OpenString") at
+IsDesignFaultText (Lex (lexing.LiteralTooWide at)) text = text ≡ design_refused_text (codes "LiteralTooWide") at
+IsDesignFaultText (Lex (lexing.NameTooLong at)) text = text ≡ design_refused_text (codes "NameTooLong") at
+IsDesignFaultText (Lex lexing.Memory) text = ⊥
+IsDesignFaultText (Parse (parsing.Syntax at)) text = text ≡ design_refused_text (codes "Syntax") at
+IsDesignFaultText (Parse (parsing.NotSupported at)) text = text ≡ design_refused_text (codes "NotSupported") at
+IsDesignFaultText (Parse (parsing.TooDeep at)) text = text ≡ design_refused_text (codes "TooDeep") at
+IsDesignFaultText (Parse parsing.Memory) text = ⊥
+IsDesignFaultText (NotBuiltYet at) text = text ≡ design_refused_text (codes "NotBuiltYet") at
+IsDesignFaultText compiling.Memory text = ⊥
 
 -- the first record, which is the only one, is refused: the kind of the refusal and its number
 abbrev pub record_refused_text : List ℕ → ℕ → List ℕ

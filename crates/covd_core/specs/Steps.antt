@@ -3,18 +3,30 @@ use Rattle.std.specs.Prelude.{ℕ, ◌≤◌, List, length}
 use Rattle.cov_base.specs.Loads.{HasFile}
 use Rattle.record_codec.specs.declared.record.Record.{Record}
 use Rattle.record_codec.specs.Spelling.{Encodes}
-use Rattle.covd_core.specs.declared.count.Loaded.{Loaded}
-use Rattle.covd_core.specs.declared.count.Loaded.TheVariants.{Bytes, Refused}
+use Rattle.covd_core.specs.declared.loading.Loaded.{Loaded}
+use Rattle.covd_core.specs.declared.loading.Loaded.TheVariants.{Bytes, Refused}
+use Rattle.covd_core.specs.declared.loading.HadDesign.{HadDesign}
+use Rattle.covd_core.specs.declared.loading.HadDesign.TheVariants as had
 use Rattle.covd_core.specs.declared.design.Design.{Design}
 use Rattle.covd_core.specs.declared.status.Status.{Status}
 use Rattle.covd_core.specs.declared.status.Status.TheVariants as status
-use Rattle.covd_core.specs.Command.{Files, NotLoaded, IsCountText, IsRefusedText}
+use Rattle.covd_core.specs.Command.{Files, design_most, NotLoaded, HasDesign, HasNoDesign, IsCountText, IsRefusedText}
 use Rattle.covd_core.specs.Shape.{Fits}
 
 -- a file's bytes, or the answer that it can't be had
 abbrev pub IsLoaded : Files → ℕ → ℕ → List ℕ → ℕ → Loaded → Type 0
 IsLoaded files before now name most (Bytes bytes) = HasFile files name bytes.items × (length bytes.items ≤ most)
 IsLoaded files before now name most (Refused a) = NotLoaded files before now name most a.status a.text.items
+
+-- status and text where the design of that name can't be had
+abbrev pub NoDesign : Files → ℕ → ℕ → List ℕ → Status → List ℕ → Type 0
+NoDesign files before now name status.DesignRefused text = HasNoDesign files name text
+NoDesign files before now name s text = NotLoaded files before now name design_most s text
+
+-- a design from its file, or the answer that it can't be had
+abbrev pub IsHad : Files → ℕ → ℕ → List ℕ → HadDesign → Type 0
+IsHad files before now name (had.Compiled d) = HasDesign files name d
+IsHad files before now name (had.Refused a) = NoDesign files before now name a.status a.text.items
 
 -- the answer to a record's bytes
 abbrev pub CountsRecord : Design → List ℕ → Status → List ℕ → Type 0

@@ -4,61 +4,21 @@ ghost use Rattle.covd_core.specs.Command.{Counts, IsCountText};
 ghost use Rattle.covd_core.specs.Shape.{Fits};
 ghost use Rattle.covd_core.specs.Lines.{record_refused_text, IsFaultText};
 ghost use Rattle.covd_core.specs.declared.status.Status.TheVariants.{Done, RecordRefused};
-ghost use Rattle.covd_core.specs.Steps.{IsLoaded, CountsRecord};
+ghost use Rattle.covd_core.specs.Steps.{CountsRecord};
 
 use crate::Status;
-use crate::compile::design_of;
-use crate::design::{CompileFault, Design};
-use crate::lines::{cannot_read, count_lines, design_refused, record_refused, too_long};
+use crate::answer::Answer;
+use crate::design::Design;
+use crate::lines::{count_lines, record_refused};
+use crate::loading::{HadDesign, Loaded, had_design, load};
 use crate::shape::shape_fits;
 use crate::tally::tally;
-use cov_base::{Memory, Shelf, ShelfRefusal};
+use cov_base::{Memory, Shelf};
 use record_codec::{Record, RecordFault, decode};
 use std::alloc::Global;
 
-/// The most bytes of a design text.
-const DESIGN_MOST: u64 = 1_048_576;
-
 /// The most bytes of a record.
 const RECORD_MOST: u64 = 8_388_608;
-
-/// A status and the text that is printed with it.
-#[derive(Drop, Debug)]
-pub(crate) struct Answer {
-    pub(crate) status: Status,
-    pub(crate) text: Vec<u8>,
-}
-
-enum Loaded {
-    Bytes(Vec<u8>),
-    Refused(Answer),
-}
-
-// A file, or the answer that it can't be had.
-fn load<F: Shelf>(alloc: Global, name: &str, most: u64, shelf: &mut F) -> Result<Loaded, Memory>
-    ensures same { F.files shelf.new ≡ F.files shelf.old }
-    ensures later { F.faults shelf.old ≤ F.faults shelf.new }
-    ensures loaded { IfOk result (IsLoaded (F.files shelf.old) (F.faults shelf.old) (F.faults shelf.new) name.now most) }
-{
-    match shelf.load(alloc, name, most) {
-        Ok(bytes) => Ok(Loaded::Bytes(bytes)),
-        Err(ShelfRefusal::Failed) | Err(ShelfRefusal::Missing) => {
-            let text = cannot_read(alloc, name)?;
-            Ok(Loaded::Refused(Answer {
-                status: Status::ShelfFault,
-                text,
-            }))
-        }
-        Err(ShelfRefusal::TooLong { size }) => {
-            let text = too_long(alloc, name, size)?;
-            Ok(Loaded::Refused(Answer {
-                status: Status::FileTooLong,
-                text,
-            }))
-        }
-        Err(ShelfRefusal::Memory) => Err(Memory),
-    }
-}
 
 fn refused(alloc: Global, kind: &str, number: u64) -> Result<Answer, Memory>
     ensures { IfOk result (λ a. (a.status ≡ RecordRefused) × (a.text.items ≡ record_refused_text kind.now number)) }
@@ -123,23 +83,12 @@ pub(crate) fn count<F: Shelf>(
     ensures later { F.faults shelf.old ≤ F.faults shelf.new }
     ensures answer { IfOk result (λ a. Counts (F.files shelf.old) (F.faults shelf.old) (F.faults shelf.new) design.now rec.now a.status a.text.items) }
 {
-    let text = match load(alloc, design, DESIGN_MOST, shelf)? {
-        Loaded::Bytes(text) => text,
-        Loaded::Refused(answer) => return Ok(answer),
-    };
-    let compiled = match design_of(alloc, &text) {
-        Ok(compiled) => compiled,
-        Err(CompileFault::NotBuiltYet) => {
-            let text = design_refused(alloc)?;
-            return Ok(Answer {
-                status: Status::DesignRefused,
-                text,
-            });
-        }
-        Err(CompileFault::Memory) => return Err(Memory),
+    let design = match had_design(alloc, design, shelf)? {
+        HadDesign::Compiled(design) => design,
+        HadDesign::Refused(answer) => return Ok(answer),
     };
     match load(alloc, rec, RECORD_MOST, shelf)? {
-        Loaded::Bytes(bytes) => count_record(alloc, &compiled, &bytes),
+        Loaded::Bytes(bytes) => count_record(alloc, &design, &bytes),
         Loaded::Refused(answer) => Ok(answer),
     }
 }

@@ -1,6 +1,6 @@
 //! The lines that are printed.
 ghost use Rattle.std.specs.Prelude.{◌≡◌, length, IfOk, OnOk, ◌++◌, decimal};
-ghost use Rattle.covd_core.specs.Lines.{count_text, bin_line, bin_lines, path_of, bad_words_text, design_refused_text, record_refused_text, cannot_read_text, too_long_text};
+ghost use Rattle.covd_core.specs.Lines.{count_text, bin_line, bin_lines, check_text, listed_line, listed_lines, number_line, path_of, bad_words_text, design_refused_text, record_refused_text, cannot_read_text, too_long_text};
 
 use crate::design::{Bin, Design};
 use cov_base::Memory;
@@ -85,16 +85,69 @@ pub(crate) fn count_lines(
     Ok(text)
 }
 
+// A word and a number.
+fn append_count(text: &mut Vec<u8>, word: &str, number: usize) -> Result<(), Memory>
+    ensures { OnOk result (text.new.items ≡ text.old.items ++ number_line word.now number) }
+{
+    append(text, word.as_bytes())?;
+    append(text, b" ")?;
+    append_number(text, number as u64)?;
+    append(text, b"\n")
+}
+
+fn append_listed_bin(
+    text: &mut Vec<u8>,
+    number: u64,
+    design: &Design,
+    bin: &Bin,
+) -> Result<(), Memory>
+    ensures { OnOk result (text.new.items ≡ text.old.items ++ listed_line number design.now bin.now) }
+{
+    append(text, b"bin ")?;
+    append_number(text, number)?;
+    append(text, b" CVGBIN ")?;
+    append_path(text, design, bin)?;
+    append(text, b"\n")
+}
+
+fn append_listed_bins(text: &mut Vec<u8>, design: &Design, bins: &[Bin]) -> Result<(), Memory>
+    ensures { OnOk result (text.new.items ≡ text.old.items ++ listed_lines 0 design.now bins.now) }
+{
+    for (i, bin) in bins.iter().enumerate() {
+        append_listed_bin(text, i as u64, design, bin)?;
+    }
+    Ok(())
+}
+
+/// How many signals, instances and bins the design has, and its bins.
+pub(crate) fn check_lines(alloc: Global, design: &Design) -> Result<Vec<u8>, Memory>
+    ensures { IfOk result (λ text. text.items ≡ check_text design.now) }
+{
+    let bins = design.bins.as_slice();
+    let mut text = Vec::new(alloc);
+    append_count(&mut text, "signals", 1)?;
+    append_count(&mut text, "instances", 1)?;
+    append_count(&mut text, "bins", bins.len())?;
+    append_listed_bins(&mut text, design, bins)?;
+    Ok(text)
+}
+
 pub(crate) fn bad_words(alloc: Global) -> Result<Vec<u8>, Memory>
     ensures { IfOk result (λ text. text.items ≡ bad_words_text) }
 {
     Ok(Vec::from_slice(alloc, b"bad words\n")?)
 }
 
-pub(crate) fn design_refused(alloc: Global) -> Result<Vec<u8>, Memory>
-    ensures { IfOk result (λ text. text.items ≡ design_refused_text) }
+pub(crate) fn design_refused(alloc: Global, kind: &str, at: u32) -> Result<Vec<u8>, Memory>
+    ensures { IfOk result (λ text. text.items ≡ design_refused_text kind.now at) }
 {
-    Ok(Vec::from_slice(alloc, b"design refused NotBuiltYet at 0\n")?)
+    let mut text = Vec::new(alloc);
+    append(&mut text, b"design refused ")?;
+    append(&mut text, kind.as_bytes())?;
+    append(&mut text, b" at ")?;
+    append_number(&mut text, at as u64)?;
+    append(&mut text, b"\n")?;
+    Ok(text)
 }
 
 pub(crate) fn record_refused(alloc: Global, kind: &str, number: u64) -> Result<Vec<u8>, Memory>

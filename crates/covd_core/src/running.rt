@@ -1,17 +1,35 @@
 //! The program's one call.
 ghost use Rattle.std.specs.Prelude.{◌≡◌, ◌≤◌, map, string_bytes, IfOk, MatchOption};
-ghost use Rattle.covd_core.specs.Command.{Answers, IsCountCommand, IsNoCommand, Leaves, HasOneAnswer};
+ghost use Rattle.covd_core.specs.Command.{Answers, IsCheckCommand, IsNoCheck, IsCountCommand, IsNoCount, Leaves, HasOneAnswer};
 
 use crate::Status;
-use crate::count::{Answer, count};
+use crate::answer::Answer;
+use crate::check::check;
+use crate::count::count;
 use crate::lines::bad_words;
 use crate::writing::write_all;
 use cov_base::{Memory, Shelf, Sink, Source};
 use std::alloc::Global;
 
+// The name behind `check`.
+fn check_words(words: &[String]) -> Option<&str>
+    ensures { MatchOption result (IsNoCheck (map string_bytes words.now)) (λ name. IsCheckCommand (map string_bytes words.now) name.now) }
+{
+    match words {
+        [command, design] => {
+            if command.as_str() == "check" {
+                Some(design.as_str())
+            } else {
+                None
+            }
+        }
+        _ => None,
+    }
+}
+
 // The two names behind `count`.
 fn count_words(words: &[String]) -> Option<(&str, &str)>
-    ensures { MatchOption result (IsNoCommand (map string_bytes words.now)) (λ names. IsCountCommand (map string_bytes words.now) names.0.now names.1.now) }
+    ensures { MatchOption result (IsNoCount (map string_bytes words.now)) (λ names. IsCountCommand (map string_bytes words.now) names.0.now names.1.now) }
 {
     match words {
         [command, design, rec] => {
@@ -30,6 +48,9 @@ fn answer<F: Shelf>(alloc: Global, words: &[String], shelf: &mut F) -> Result<An
     ensures later { F.faults shelf.old ≤ F.faults shelf.new }
     ensures answer { IfOk result (λ a. Answers (map string_bytes words.now) (F.files shelf.old) (F.faults shelf.old) (F.faults shelf.new) a.status a.text.items) }
 {
+    if let Some(design) = check_words(words) {
+        return check(alloc, design, shelf);
+    }
     match count_words(words) {
         Some((design, rec)) => count(alloc, design, rec, shelf),
         None => {
@@ -44,9 +65,9 @@ fn answer<F: Shelf>(alloc: Global, words: &[String], shelf: &mut F) -> Result<An
 
 /// Does what the words say over the files of the shelf, and writes its text to the sink.
 ///
-/// The words are those after the program's name; the one command is `count DESIGN RECORD`, which prints how often the
-/// record hits each bin of the design. The text is built whole before its first byte is written. The source isn't
-/// touched.
+/// The words are those after the program's name. The commands are `check DESIGN`, which prints the bins of the design,
+/// and `count DESIGN RECORD`, which prints how often the record hits each of them. The text is built whole before its
+/// first byte is written. The source isn't touched.
 pub fn run<F: Shelf, S: Source, K: Sink>(
     alloc: Global,
     words: &[String],

@@ -101,14 +101,36 @@ fn counts_known_values_once(rt: HostRuntime) -> Result<(), Fail> {
     check(&rt, design, &rec, &["count", "d", "r"], Status::Done, text)
 }
 
+// Runs `check` over a design text.
+fn check_design(
+    rt: &(impl Abort + AllocGlobal),
+    design: &[u8],
+    status: Status,
+    text: &[u8],
+) -> Result<(), Fail> {
+    check(rt, design, &RECORD, &["check", "d"], status, text)
+}
+
+#[test]
+fn checks_designs(rt: HostRuntime) -> Result<(), Fail> {
+    // The same tree is spelled otherwise.
+    let other =
+        b"logic unsigned[7:0] v;covergroup g;;p:coverpoint v{bins a={'sd0};bins b={0_1,0002};};endgroup:g g i=new();//";
+    let text = b"signals 1\ninstances 1\nbins 2\nbin 0 CVGBIN g/i/p/a\nbin 1 CVGBIN g/i/p/b\n";
+    check_design(&rt, DESIGN, Status::Done, text)?;
+    check_design(&rt, other, Status::Done, text)
+}
+
 #[test]
 fn refuses_words(rt: HostRuntime) -> Result<(), Fail> {
-    let cases: [&[&str]; 5] = [
+    let cases: [&[&str]; 7] = [
         &[],
+        &["check"],
+        &["check", "d", "r"],
         &["count", "d"],
         &["count", "d", "r", "r"],
         &["Count", "d", "r"],
-        &["check", "d"],
+        &["Check", "d"],
     ];
     for all in cases.as_slice() {
         check(&rt, DESIGN, &RECORD, all, Status::BadWords, b"bad words\n")?;
@@ -116,33 +138,101 @@ fn refuses_words(rt: HostRuntime) -> Result<(), Fail> {
     Ok(())
 }
 
+// Whole texts, and the fault of each.
+static UNCOMPILED: [(&'static [u8], &'static [u8]); 12] = [
+    (b"", b"NotBuiltYet at 0"),
+    (b"bit [7:0] v; // c", b"NotBuiltYet at 17"),
+    (b"bit [8:0] v;", b"NotBuiltYet at 10"),
+    (b"bit [7:0] v, w;", b"NotBuiltYet at 13"),
+    (
+        b"bit v;covergroup g;coverpoint v{bins a={0}}endgroup",
+        b"Syntax at 42",
+    ),
+    (b"bit v; bit", b"Syntax at 10"),
+    (b"class c;", b"NotSupported at 0"),
+    (b"class c; ~\\", b"BadByte at 10"),
+    (b"bit v; /*", b"OpenComment at 7"),
+    (b"bit v; \"", b"OpenString at 7"),
+    (b"bit [4'd16:0] v;", b"LiteralTooWide at 5"),
+    (b"g i=new;", b"NotBuiltYet at 0"),
+];
+
+// What stands in the braces of a point and behind its group, and the fault.
+static UNBUILT: [(&'static [u8], &'static [u8], &'static [u8]); 10] = [
+    (b"", b" g i=new;", b"NotBuiltYet at 10"),
+    (b"bins a={256};", b" g i=new;", b"NotBuiltYet at 10"),
+    (
+        b"bins a={0};bins a={1};",
+        b" g i=new;",
+        b"NotBuiltYet at 10",
+    ),
+    (b"bins a={};", b" g i=new;", b"Syntax at 46"),
+    (b"bins cross={0};", b" g i=new;", b"Syntax at 43"),
+    (b"bins 1a={0};", b" g i=new;", b"Syntax at 43"),
+    (b"bins a={0};", b" h i=new;", b"NotBuiltYet at 59"),
+    (b"bins a={0};", b" g v=new;", b"NotBuiltYet at 59"),
+    (b"bins a={0};", b" g i=new;g j=new;", b"NotBuiltYet at 67"),
+    (b"bins a={0};", b"", b"NotBuiltYet at 58"),
+];
+
+// A design text of these parts.
+fn with_parts(alloc: Global, bins: &[u8], tail: &[u8]) -> Result<Vec<u8>, Fail> {
+    let mut text = Vec::from_slice(alloc, b"bit[7:0]v;covergroup g;p:coverpoint v{")?;
+    text.extend_from_slice(bins)?;
+    text.extend_from_slice(b"}endgroup")?;
+    text.extend_from_slice(tail)?;
+    Ok(text)
+}
+
+// The line of a refused design.
+fn line_of(alloc: Global, fault: &[u8]) -> Result<Vec<u8>, Fail> {
+    let mut line = Vec::from_slice(alloc, b"design refused ")?;
+    line.extend_from_slice(fault)?;
+    line.push(b'\n')?;
+    Ok(line)
+}
+
 #[test]
 fn refuses_designs(rt: HostRuntime) -> Result<(), Fail> {
-    let cases: [&[u8]; 12] = [
-        b"",
-        b"bit [8:0] v;",
-        b"bit [7:0] v; covergroup g; p: coverpoint v { } endgroup g i = new;",
-        b"bit [7:0] v; covergroup g; p: coverpoint v { bins a = {}; } endgroup g i = new;",
-        b"bit [7:0] v; covergroup g; p: coverpoint v { bins a = {256}; } endgroup g i = new;",
-        b"bit [7:0] v; covergroup g; p: coverpoint v { bins a = {0255}; } endgroup g i = new;",
-        b"bit [7:0] v; covergroup g; p: coverpoint w { bins a = {0}; } endgroup g i = new;",
-        b"bit [7:0] v; covergroup g; p: coverpoint v { bins a = {0}; bins a = {1}; } endgroup g i = new;",
-        b"bit [7:0] v; covergroup g; p: coverpoint v { bins cross = {0}; } endgroup g i = new;",
-        b"bit [7:0] v; covergroup v; p: coverpoint v { bins a = {0}; } endgroup v i = new;",
-        b"bit [7:0] v; covergroup g; p: coverpoint v { bins 1a = {0}; } endgroup g i = new;",
-        b"bit [7:0] v; covergroup g; p: coverpoint v { bins a = {0}; } endgroup g i = new; bit",
-    ];
-    for design in cases.as_slice() {
-        check(
-            &rt,
-            design,
-            &RECORD,
-            &["count", "d", "r"],
-            Status::DesignRefused,
-            b"design refused NotBuiltYet at 0\n",
-        )?;
+    for (design, fault) in UNCOMPILED.iter() {
+        let line = line_of(rt.alloc(), fault)?;
+        check_design(&rt, design, Status::DesignRefused, &line)?;
     }
     Ok(())
+}
+
+#[test]
+fn refuses_unbuilt_designs(rt: HostRuntime) -> Result<(), Fail> {
+    for (bins, tail, fault) in UNBUILT.iter() {
+        let design = with_parts(rt.alloc(), bins, tail)?;
+        let line = line_of(rt.alloc(), fault)?;
+        check_design(&rt, &design, Status::DesignRefused, &line)?;
+    }
+    Ok(())
+}
+
+#[test]
+fn refuses_deep_and_long_designs(rt: HostRuntime) -> Result<(), Fail> {
+    let alloc = rt.alloc();
+    // 1,026 ones and 1,025 operators.
+    let mut deep = Vec::from_slice(alloc, b"bit v;covergroup g;coverpoint v{bins a={1")?;
+    for _ in 0..1025 {
+        deep.extend_from_slice(b"+1")?;
+    }
+    deep.extend_from_slice(b"}}endgroup")?;
+    check_design(
+        &rt,
+        &deep,
+        Status::DesignRefused,
+        b"design refused TooDeep at 2089\n",
+    )?;
+    let name = vec![in alloc; b'a'; 1025]?;
+    check_design(
+        &rt,
+        &name,
+        Status::DesignRefused,
+        b"design refused NameTooLong at 0\n",
+    )
 }
 
 // Another design's text, with this name for the variable and this for the instance.
@@ -327,7 +417,7 @@ fn refuses_files(rt: HostRuntime) -> Result<(), Fail> {
         &RECORD,
         &["count", "d", "r"],
         Status::DesignRefused,
-        b"design refused NotBuiltYet at 0\n",
+        b"design refused NotBuiltYet at 1048576\n",
     )
 }
 

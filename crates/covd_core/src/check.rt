@@ -1,0 +1,28 @@
+//! The command `check`.
+ghost use Rattle.std.specs.Prelude.{◌≡◌, ◌≤◌, IfOk};
+ghost use Rattle.covd_core.specs.Command.{Checks};
+
+use crate::Status;
+use crate::answer::Answer;
+use crate::lines::check_lines;
+use crate::loading::{HadDesign, had_design};
+use cov_base::{Memory, Shelf};
+use std::alloc::Global;
+
+/// Loads, compiles and lists the bins.
+pub(crate) fn check<F: Shelf>(alloc: Global, design: &str, shelf: &mut F) -> Result<Answer, Memory>
+    ensures same { F.files shelf.new ≡ F.files shelf.old }
+    ensures later { F.faults shelf.old ≤ F.faults shelf.new }
+    ensures answer { IfOk result (λ a. Checks (F.files shelf.old) (F.faults shelf.old) (F.faults shelf.new) design.now a.status a.text.items) }
+{
+    match had_design(alloc, design, shelf)? {
+        HadDesign::Compiled(design) => {
+            let text = check_lines(alloc, &design)?;
+            Ok(Answer {
+                status: Status::Done,
+                text,
+            })
+        }
+        HadDesign::Refused(answer) => Ok(answer),
+    }
+}
