@@ -43,138 +43,161 @@ struct Item {
 
 type Seq = Vec<Item>;
 
-fn has(mask: u128, k: u32) -> bool {
-    (mask >> k) & 1 == 1
-}
-
-fn put(mask: u128, k: u32, set: bool) -> u128 {
-    if set { mask | (1 << k) } else { mask }
-}
-
-fn run_before(enter: bool, base: u32, old: u128, m: u32) -> bool {
-    if m == 0 { enter } else { has(old, base + m - 1) }
-}
-
-fn at_before(enter: bool, base: u32, old: u128, m: u32) -> bool {
-    if m == 0 { enter } else { has(old, base + 2 * m - 1) }
-}
-
-fn blocks_before(enter: bool, base: u32, old: u128, m: u32) -> bool {
-    at_before(enter, base, old, m) || has(old, base + 2 * m)
-}
-
-fn done_before(trailing: bool, enter: bool, base: u32, old: u128, m: u32) -> bool {
-    if trailing { blocks_before(enter, base, old, m) } else { at_before(enter, base, old, m) }
-}
-
-fn run_completes(low: u32, high: u32, enter: bool, base: u32, old: u128) -> bool {
-    (low..=high).any(|m| run_before(enter, base, old, m))
-}
-
-fn blocks_complete(low: u32, high: u32, trailing: bool, enter: bool, base: u32, old: u128) -> bool {
-    (low..=high).any(|m| done_before(trailing, enter, base, old, m))
-}
-
-fn leaves(repeat: Repeat, last: bool, enter: bool, base: u32, old: u128) -> bool {
-    match repeat {
-        Repeat::Once => run_before(enter, base, old, 1),
-        Repeat::Consec { low, high } => run_completes(low, high, enter, base, old),
-        Repeat::Goto { low, high } => blocks_complete(low, high, false, enter, base, old),
-        Repeat::NonConsec { low, high } => blocks_complete(low, high, !last, enter, base, old),
-    }
-}
-
-fn step_run(high: u32, inside: bool, enter: bool, base: u32, old: u128, start: u128) -> u128 {
-    let mut new = start;
-    for m in 0..high {
-        new = put(new, base + m, inside && run_before(enter, base, old, m));
-    }
-    new
-}
-
-fn step_blocks(high: u32, gaps: u32, inside: bool, enter: bool, base: u32, old: u128, start: u128) -> u128 {
-    let mut new = start;
-    for m in 0..high {
-        let stands = blocks_before(enter, base, old, m);
-        new = put(new, base + 2 * m, !inside && stands);
-        new = put(new, base + 2 * m + 1, inside && stands);
-    }
-    if gaps > high {
-        new = put(new, base + 2 * high, !inside && blocks_before(enter, base, old, high));
-    }
-    new
-}
-
-fn step_repeat(repeat: Repeat, inside: bool, enter: bool, base: u32, old: u128, start: u128) -> u128 {
-    match repeat {
-        Repeat::Once => step_run(1, inside, enter, base, old, start),
-        Repeat::Consec { high, .. } => step_run(high, inside, enter, base, old, start),
-        Repeat::Goto { high, .. } => step_blocks(high, high, inside, enter, base, old, start),
-        Repeat::NonConsec { high, .. } => step_blocks(high, high + 1, inside, enter, base, old, start),
-    }
-}
-
-fn cells(repeat: Repeat) -> u32 {
-    match repeat {
-        Repeat::Once => 1,
-        Repeat::Consec { high, .. } => high,
-        Repeat::Goto { high, .. } => 2 * high,
-        Repeat::NonConsec { high, .. } => 2 * high + 1,
-    }
-}
-
-fn step_seqs(seqs: &[Seq], sample: Option<i128>, fresh: bool, old: u128) -> u128 {
-    let (mut base, mut new) = (0, 0);
-    for seq in seqs {
-        let mut enter = fresh;
-        for (i, item) in seq.iter().enumerate() {
-            let inside = sample.is_some_and(|v| item.set.contains(v));
-            new = step_repeat(item.repeat, inside, enter, base, old, new);
-            enter = leaves(item.repeat, i + 1 == seq.len(), enter, base, old);
-            base += cells(item.repeat);
+impl Repeat {
+    fn cells(self) -> u32 {
+        match self {
+            Repeat::Once => 1,
+            Repeat::Consec { high, .. } => high,
+            Repeat::Goto { high, .. } => 2 * high,
+            Repeat::NonConsec { high, .. } => 2 * high + 1,
         }
     }
-    new
+
+    fn is_run(self) -> bool {
+        matches!(self, Repeat::Once | Repeat::Consec { .. })
+    }
+
+    fn is_done(self, last: bool, k: u32) -> bool {
+        match self {
+            Repeat::Once => true,
+            Repeat::Consec { low, .. } => low <= k + 1,
+            Repeat::Goto { low, .. } => k % 2 == 1 && low <= (k + 1) / 2,
+            Repeat::NonConsec { low, .. } => (k % 2 == 1 || !last) && low <= (k + 1) / 2,
+        }
+    }
+
+    fn skips(self) -> bool {
+        match self {
+            Repeat::Once => false,
+            Repeat::Consec { low, .. } | Repeat::Goto { low, .. } | Repeat::NonConsec { low, .. } => low == 0,
+        }
+    }
 }
 
-fn some_accepts(seqs: &[Seq], mask: u128) -> bool {
-    let (mut base, mut answer) = (0, false);
-    for seq in seqs {
-        let mut enter = false;
-        for (i, item) in seq.iter().enumerate() {
-            enter = leaves(item.repeat, i + 1 == seq.len(), enter, base, mask);
-            base += cells(item.repeat);
-        }
-        answer |= enter;
+struct ItemCells {
+    all: u128,
+    first: u128,
+    done: u128,
+    skips: bool,
+}
+
+impl ItemCells {
+    fn leaves(&self, old: u128, enter: bool) -> bool {
+        old & self.done != 0 || (self.skips && enter)
     }
-    answer
+}
+
+#[derive(Default)]
+struct Masks {
+    runs: u128,
+    gaps: u128,
+    ends: u128,
+    later: u128,
+}
+
+struct Side {
+    seqs: Vec<Seq>,
+    cells: Vec<Vec<ItemCells>>,
+    masks: Masks,
+}
+
+impl Side {
+    fn new(seqs: Vec<Seq>) -> Side {
+        let mut masks = Masks::default();
+        let mut cells = Vec::new();
+        let mut base = 0;
+        for seq in &seqs {
+            let mut of_seq = Vec::new();
+            for (i, item) in seq.iter().enumerate() {
+                let last = i + 1 == seq.len();
+                let mut one = ItemCells { all: 0, first: 0, done: 0, skips: item.repeat.skips() };
+                for k in 0..item.repeat.cells() {
+                    let bit = 1u128 << (base + k);
+                    one.all |= bit;
+                    if k == 0 {
+                        one.first |= bit;
+                    } else {
+                        masks.later |= bit;
+                    }
+                    if item.repeat.is_done(last, k) {
+                        one.done |= bit;
+                    }
+                    if item.repeat.is_run() {
+                        masks.runs |= bit;
+                    } else if k % 2 == 0 {
+                        masks.gaps |= bit;
+                    } else {
+                        masks.ends |= bit;
+                    }
+                }
+                base += item.repeat.cells();
+                of_seq.push(one);
+            }
+            cells.push(of_seq);
+        }
+        Side { seqs, cells, masks }
+    }
+
+    fn inside(&self, sample: Option<i128>) -> u128 {
+        let mut inside = 0;
+        for (seq, cells) in self.seqs.iter().zip(&self.cells) {
+            for (item, one) in seq.iter().zip(cells) {
+                if sample.is_some_and(|v| item.set.contains(v)) {
+                    inside |= one.all;
+                }
+            }
+        }
+        inside
+    }
+
+    fn step(&self, inside: u128, fresh: bool, old: u128) -> u128 {
+        let mut enters = 0;
+        for cells in &self.cells {
+            let mut enter = fresh;
+            for one in cells {
+                if enter {
+                    enters |= one.first;
+                }
+                enter = one.leaves(old, enter);
+            }
+        }
+        let masks = &self.masks;
+        let before = enters | ((old << 1) & masks.later);
+        let open = (before | old) & masks.gaps;
+        (before & masks.runs & inside) | ((open << 1) & masks.ends & inside) | (open & !inside)
+    }
+
+    fn accepts(&self, mask: u128) -> bool {
+        self.cells.iter().any(|cells| cells.iter().fold(false, |enter, one| one.leaves(mask, enter)))
+    }
 }
 
 struct Automaton {
-    own: Vec<Seq>,
-    removed: Vec<Seq>,
+    own: Side,
+    removed: Side,
 }
 
 impl Automaton {
-    fn step_pair(&self, sample: Option<i128>, fresh: bool, run: (u128, u128)) -> (u128, u128) {
-        (step_seqs(&self.own, sample, fresh, run.0), step_seqs(&self.removed, sample, fresh, run.1))
+    fn step_pair(&self, inside: (u128, u128), fresh: bool, run: (u128, u128)) -> (u128, u128) {
+        (self.own.step(inside.0, fresh, run.0), self.removed.step(inside.1, fresh, run.1))
     }
 
     fn push(&self, runs: &mut Vec<(u128, u128)>, sample: Option<i128>) -> bool {
         let count = runs.len();
-        let begun = self.step_pair(sample, true, (0, 0));
+        let inside = (self.own.inside(sample), self.removed.inside(sample));
+        let begun = self.step_pair(inside, true, (0, 0));
         if begun.0 != 0 {
             runs.push(begun);
         }
         for run in &mut runs[..count] {
-            *run = self.step_pair(sample, false, *run);
+            *run = self.step_pair(inside, false, *run);
         }
         runs.retain(|run| run.0 != 0);
         if runs.len() > 1 {
             runs.sort_unstable();
             runs.dedup();
         }
-        runs.iter().any(|run| some_accepts(&self.own, run.0) && !some_accepts(&self.removed, run.1))
+        runs.iter().any(|run| self.own.accepts(run.0) && !self.removed.accepts(run.1))
     }
 }
 
@@ -212,7 +235,7 @@ fn main() {
     let is_steady = words[1] == "steady";
     let samples: u32 = words[2].parse().unwrap();
     let own = if is_steady { steady() } else { hostile() };
-    let automaton = Automaton { own, removed: Vec::new() };
+    let automaton = Automaton { own: Side::new(own), removed: Side::new(Vec::new()) };
     let mut runs = Vec::new();
     let (mut count, mut seed) = (0u32, 1u64);
     for k in 0..samples {

@@ -1,5 +1,11 @@
+pub mod BitLemmas
 pub mod Parts
 pub mod Languages
 pub mod Slices
 pub mod RunLemmas
 pub mod PairOrder
+pub mod Leaving
+pub mod Adding
+pub mod Walking
+pub mod Moving
+pub mod Growing

@@ -1,4 +1,5 @@
 pub mod Masks
+pub mod Layout
 pub mod State
 pub mod Steps
 pub use Rattle.trans_seq.specs.Cells

@@ -4,6 +4,7 @@ use Rattle.trans_seq.specs.declared.seq.Seq.{Seq}
 use Rattle.trans_seq.specs.Windows.{InSome}
 use Rattle.trans_auto.specs.Masks.{SeqsHold}
 use Rattle.trans_auto.specs.Steps.{SeqsStep}
+use Rattle.trans_auto.specs.Layout.{SeqsInside}
 
 module _ (own removed : List Seq) where
   -- the pair of masks says which own and removed cells the list reaches
@@ -23,6 +24,10 @@ module _ (own removed : List Seq) where
   -- a list is in a sequence of own and in none of removed
   abbrev pub Remains : List (Option ℤ) → Type 0
   Remains w = InSome own w × (InSome removed w → ⊥)
+
+  -- the masks say which items the sample is inside
+  abbrev pub PairInside : ℕ × ℕ → Option ℤ → Type 0
+  PairInside inside v = SeqsInside 0 inside.0 v own × SeqsInside 0 inside.1 v removed
 
   abbrev pub PairSteps : Option ℤ → Bool → ℕ × ℕ → ℕ × ℕ → Type 0
   PairSteps v fresh a b = SeqsStep fresh 0 a.0 b.0 v own × SeqsStep fresh 0 a.1 b.1 v removed

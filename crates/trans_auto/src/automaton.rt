@@ -6,6 +6,7 @@ ghost use Rattle.trans_auto.specs.State.{Stands};
 
 use crate::fault::AutoFault;
 use crate::runs::push_runs;
+use crate::side::Side;
 use cov_base::{Int, Memory};
 use std::alloc::Global;
 use std::marker::Model;
@@ -17,20 +18,17 @@ const MOST_CELLS: u64 = 120;
 /// The automaton of a bin's own sequences, and of those that remove windows from it.
 #[derive(Drop, Debug)]
 pub struct Automaton {
-    own: Vec<Seq>,
-    removed: Vec<Seq>,
+    own: Side,
+    removed: Side,
 }
 
 impl Model for Automaton {
-    ghost use Rattle.std.specs.Prelude.{List, ◌≤◌};
+    ghost use Rattle.std.specs.Prelude.{List};
     ghost use Rattle.trans_seq.specs.declared.seq.Seq.{Seq};
-    ghost use Rattle.trans_seq.specs.Cells.{cells_of_seqs};
 
     ghost Value = { List Seq × List Seq };
 
-    ghost view = { λ a. (a.own.items, a.removed.items) };
-
-    ghost invariant = { λ a. (cells_of_seqs a.own.items ≤ 120) × (cells_of_seqs a.removed.items ≤ 120) };
+    ghost view = { λ a. (a.own, a.removed) };
 }
 
 /// Where a trace stands: for each start of a window that may still count, the masks of the own and of the removing
@@ -60,16 +58,6 @@ fn all_cells(seqs: &[Seq]) -> u64
     sum
 }
 
-fn copied_seqs(alloc: Global, seqs: &[Seq]) -> Result<Vec<Seq>, Memory>
-    ensures { IfOk result (λ copies. copies.items ≡ seqs.now) }
-{
-    let mut copies = Vec::new(alloc);
-    for seq in seqs {
-        copies.push(seq.copy(alloc)?)?;
-    }
-    Ok(copies)
-}
-
 impl Automaton {
     /// The automaton of the own sequences and of the removing ones. Each side may have 120 cells together.
     pub fn new(alloc: Global, own: &[Seq], removed: &[Seq]) -> Result<Automaton, AutoFault>
@@ -91,8 +79,8 @@ impl Automaton {
             });
         }
         Ok(Automaton {
-            own: copied_seqs(alloc, own)?,
-            removed: copied_seqs(alloc, removed)?,
+            own: Side::new(alloc, own)?,
+            removed: Side::new(alloc, removed)?,
         })
     }
 
@@ -102,7 +90,7 @@ impl Automaton {
         ensures stands { Stands self.now.0 self.now.1 result [] }
     {
         TransState {
-            runs: Vec::new(*self.own.allocator()),
+            runs: Vec::new(self.own.allocator()),
         }
     }
 
@@ -117,11 +105,6 @@ impl Automaton {
             → Stands self.now.0 self.now.1 state.new (w ++ sample ∷ [])) }
         ensures memory { OnErr result (state.new ≡ state.old) }
     {
-        push_runs(
-            self.own.as_slice(),
-            self.removed.as_slice(),
-            &sample,
-            &mut state.runs,
-        )
+        push_runs(&self.own, &self.removed, &sample, &mut state.runs)
     }
 }

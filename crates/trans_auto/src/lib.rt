@@ -4,8 +4,9 @@
 mod automaton;
 mod bits;
 mod fault;
+mod marks;
 mod runs;
-mod seqs;
+mod side;
 mod steps;
 
 pub use automaton::{Automaton, TransState};

@@ -1,48 +1,47 @@
 //! The live starts of windows, as pairs of masks.
 ghost use Rattle.std.specs.Prelude.{◌≡◌, ◌≢◌, ℕ, List, ℤ, Option, [], ◌∷◌, ◌++◌, length, slice_index_or, ◌<◌, ◌≤◌, ◌↔◌, true, false, IsTrue, OnOk, OnErr, IfOk, Contains, AllPairs, ◌==◌, not};
 ghost use Rattle.std.specs.List.{filter};
-ghost use Rattle.trans_seq.specs.Cells.{cells_of_seqs};
 ghost use Rattle.trans_seq.specs.Windows.{Counts};
-ghost use Rattle.trans_auto.specs.State.{PairHolds, Stands, Remains, PairSteps, Advances};
+ghost use Rattle.trans_auto.specs.State.{PairHolds, Stands, Remains, PairInside, PairSteps, Advances};
 
-use crate::seqs::{some_accepts, step_seqs};
+use crate::side::Side;
 use cov_base::{Int, Memory};
-use trans_seq::Seq;
+
+/// Which items of both sides the sample is inside.
+fn inside_of(own: &Side, removed: &Side, sample: &Option<Int>) -> (u128, u128)
+    ensures { PairInside own.now removed.now result sample.now }
+{
+    (own.inside(sample), removed.inside(sample))
+}
 
 /// What a run becomes at a sample.
 fn step_pair(
-    own: &[Seq],
-    removed: &[Seq],
-    sample: &Option<Int>,
+    own: &Side,
+    removed: &Side,
+    inside: (u128, u128),
     fresh: bool,
     run: (u128, u128),
 ) -> (u128, u128)
-    requires own_fits { cells_of_seqs own.now ≤ 120 }
-    requires removed_fits { cells_of_seqs removed.now ≤ 120 }
-    ensures { PairSteps own.now removed.now sample.now fresh run result }
+    ensures { (v : Option ℤ) → PairInside own.now removed.now inside v → PairSteps own.now removed.now v fresh run result }
 {
     (
-        step_seqs(own, sample, fresh, 0, run.0, 0),
-        step_seqs(removed, sample, fresh, 0, run.1, 0),
+        own.step(inside.0, fresh, run.0),
+        removed.step(inside.1, fresh, run.1),
     )
 }
 
 /// Whether a run's windows count.
-fn remains(own: &[Seq], removed: &[Seq], run: (u128, u128)) -> bool
-    requires own_fits { cells_of_seqs own.now ≤ 120 }
-    requires removed_fits { cells_of_seqs removed.now ≤ 120 }
+fn remains(own: &Side, removed: &Side, run: (u128, u128)) -> bool
     ensures { (u : List (Option ℤ)) → (u ≡ [] → ⊥) → PairHolds own.now removed.now run u
         → IsTrue result ↔ Remains own.now removed.now u }
 {
-    let mine = some_accepts(own, 0, run.0);
-    let theirs = some_accepts(removed, 0, run.1);
+    let mine = own.accepts(run.0);
+    let theirs = removed.accepts(run.1);
     mine && !theirs
 }
 
 /// Whether the windows of some run count.
-fn some_remains(own: &[Seq], removed: &[Seq], runs: &[(u128, u128)]) -> bool
-    requires own_fits { cells_of_seqs own.now ≤ 120 }
-    requires removed_fits { cells_of_seqs removed.now ≤ 120 }
+fn some_remains(own: &Side, removed: &Side, runs: &[(u128, u128)]) -> bool
     ensures { (w : List (Option ℤ)) → Stands own.now removed.now runs.now w → IsTrue result ↔ Counts own.now removed.now w }
 {
     for run in runs {
@@ -55,23 +54,21 @@ fn some_remains(own: &[Seq], removed: &[Seq], runs: &[(u128, u128)]) -> bool
 
 /// Moves the first `count` runs by the sample.
 fn move_runs(
-    own: &[Seq],
-    removed: &[Seq],
-    sample: &Option<Int>,
+    own: &Side,
+    removed: &Side,
+    inside: (u128, u128),
     runs: &mut Vec<(u128, u128)>,
     count: usize,
 )
-    requires own_fits { cells_of_seqs own.now ≤ 120 }
-    requires removed_fits { cells_of_seqs removed.now ≤ 120 }
     requires within { count ≤ length runs.old.items }
     ensures len { length runs.new.items ≡ length runs.old.items }
-    ensures moved { (k : ℕ) (d : ℕ × ℕ) → k < count
-        → PairSteps own.now removed.now sample.now false (slice_index_or runs.old.items k d) (slice_index_or runs.new.items k d) }
+    ensures moved { (v : Option ℤ) → PairInside own.now removed.now inside v → (k : ℕ) (d : ℕ × ℕ) → k < count
+        → PairSteps own.now removed.now v false (slice_index_or runs.old.items k d) (slice_index_or runs.new.items k d) }
     ensures rest { (k : ℕ) (d : ℕ × ℕ) → count ≤ k → slice_index_or runs.new.items k d ≡ slice_index_or runs.old.items k d }
 {
     for k in 0..count {
         let run = runs[k];
-        runs[k] = step_pair(own, removed, sample, false, run);
+        runs[k] = step_pair(own, removed, inside, false, run);
     }
 }
 
@@ -105,22 +102,21 @@ fn keep_once(runs: &mut Vec<(u128, u128)>)
 
 /// The runs after a sample. Room for the run that begins with it is taken first.
 fn advance(
-    own: &[Seq],
-    removed: &[Seq],
+    own: &Side,
+    removed: &Side,
     sample: &Option<Int>,
     runs: &mut Vec<(u128, u128)>,
 ) -> Result<(), Memory>
-    requires own_fits { cells_of_seqs own.now ≤ 120 }
-    requires removed_fits { cells_of_seqs removed.now ≤ 120 }
     ensures ok { OnOk result (Advances own.now removed.now sample.now runs.old.items runs.new.items) }
     ensures err { OnErr result (runs.new.items ≡ runs.old.items) }
 {
     let count = runs.len();
-    let begun = step_pair(own, removed, sample, true, (0, 0));
+    let inside = inside_of(own, removed, sample);
+    let begun = step_pair(own, removed, inside, true, (0, 0));
     if begun.0 != 0 {
         runs.push(begun)?;
     }
-    move_runs(own, removed, sample, runs, count);
+    move_runs(own, removed, inside, runs, count);
     keep_live(runs);
     keep_once(runs);
     Ok(())
@@ -128,13 +124,11 @@ fn advance(
 
 /// Takes the runs over a sample, and says whether a window that ends there counts.
 pub(crate) fn push_runs(
-    own: &[Seq],
-    removed: &[Seq],
+    own: &Side,
+    removed: &Side,
     sample: &Option<Int>,
     runs: &mut Vec<(u128, u128)>,
 ) -> Result<bool, Memory>
-    requires own_fits { cells_of_seqs own.now ≤ 120 }
-    requires removed_fits { cells_of_seqs removed.now ≤ 120 }
     ensures answer { IfOk result (λ answer. (w : List (Option ℤ)) → Stands own.now removed.now runs.old.items w
         → IsTrue answer ↔ Counts own.now removed.now (w ++ sample.now ∷ [])) }
     ensures stands { OnOk result ((w : List (Option ℤ)) → Stands own.now removed.now runs.old.items w

@@ -16,7 +16,7 @@ returns-clause-ok c =
       | then-begun-ne0+in_ok-push w ↦ inl (w.if-begun-ne0.true, ap (λ v. v.items) w.runs-is ∙ w.in_ok-push.ensures.items)
       | else-begun-ne0 w ↦ inr (w.if-begun-ne0.false, ap (λ v. v.items) w.runs-is)
     ] in
-    advances-from c.args.own.now c.args.removed.now c.args.sample.now runs all moved next b c.step_pair-begun.ensures added c.move_runs.ensures.len (λ k d h. c.move_runs.ensures.moved k d (omega arith)) (λ k d h. c.move_runs.ensures.rest k d (omega arith))
+    advances-from c.args.own.now c.args.removed.now c.args.sample.now runs all moved next b (c.step_pair-begun.ensures c.args.sample.now c.inside_of-inside.ensures) added c.move_runs.ensures.len (λ k d h. c.move_runs.ensures.moved c.args.sample.now c.inside_of-inside.ensures k d (omega arith)) (λ k d h. c.move_runs.ensures.rest k d (omega arith))
     (λ r h ne. c.keep_once.ensures.kept r (subst (λ l. Contains l r) (sym live) (live-kept moved r h ne)))
     (λ r h. live-only moved r (subst (λ l. Contains l r) live (c.keep_once.ensures.only r h)))
     c.keep_once.ensures.once
