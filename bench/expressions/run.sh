@@ -3,18 +3,12 @@
 # crates/bench_expressions) and in plain Rust that walks the same trees (plain.rs), and how many instructions it takes.
 # Needs rt, rustc and valgrind. A word, if there is one, is the number of rows. Run it on a machine with nothing else to
 # do.
-set -euo pipefail
 cd "$(dirname "$0")"
+source ../common.sh
 rows=${1:-2000000}
-room=$(mktemp -d)
-trap 'rm -rf "$room"' EXIT
 
-if ! (cd ../../crates/bench_expressions && rt run -- 1) >"$room/log" 2>&1; then
-    tail -20 "$room/log"
-    exit 1
-fi
-rustc --edition 2021 -O -C target-cpu=x86-64-v2 -o "$room/plain" plain.rs
-ours=../../crates/bench_expressions/out/bench_expressions
+build_ours bench_expressions 1
+build_plain plain.rs
 
 # Puts the processor milliseconds of a command into the file named first.
 TIMEFORMAT=%3U
@@ -26,10 +20,10 @@ took() {
 # Runs both in turn, and keeps the least of each.
 for _ in $(seq 11); do
     took "$room/times_a" "$ours" "$rows"
-    took "$room/times_b" "$room/plain" "$rows"
+    took "$room/times_b" "$plain" "$rows"
 done
 "$ours" "$rows" >"$room/a"
-"$room/plain" "$rows" >"$room/b"
+"$plain" "$rows" >"$room/b"
 cmp -s "$room/a" "$room/b" || echo "the programs differ: $(cat "$room/a") here, $(cat "$room/b") there"
 read -r _ evaluations <"$room/a"
 least_a=$(sort -n "$room/times_a" | head -1)
@@ -38,12 +32,7 @@ awk -v a="$least_a" -v b="$least_b" -v n="$evaluations" 'BEGIN {
     printf "%d evaluations: %.1f ns each, plain %.1f ns, ratio %.2f\n", n, a * 1e6 / n, b * 1e6 / n, a / b
 }'
 
-# The instructions of a program on so many rows, counted by callgrind.
-instructions() {
-    valgrind --tool=callgrind --callgrind-out-file="$room/calls" "$1" "$2" 2>&1 | sed -n 's/.*Collected : *//p'
-}
-
-for program in "$ours" "$room/plain"; do
+for program in "$ours" "$plain"; do
     more=$(($(instructions "$program" 20000) - $(instructions "$program" 10000)))
     read -r _ high < <("$program" 20000)
     read -r _ low < <("$program" 10000)

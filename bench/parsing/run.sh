@@ -2,17 +2,11 @@
 # Builds crates/bench_parsing and prints what lexing and parsing of design texts cost: the time on texts of 64 KiB, 256 KiB and
 # 1 MiB, how it grows from one to the next, and the instructions a token. Needs rt, python3, and valgrind for the instructions.
 # A word, if there is one, is the number of rounds of each run. Run it on a machine with nothing else to do.
-set -euo pipefail
 cd "$(dirname "$0")"
+source ../common.sh
 rounds=${1:-20}
-room=$(mktemp -d)
-trap 'rm -rf "$room"' EXIT
 
-if ! (cd ../../crates/bench_parsing && rt run -- data/small.sv 1 1) >"$room/log" 2>&1; then
-    tail -20 "$room/log"
-    exit 1
-fi
-ours=../../crates/bench_parsing/out/bench_parsing
+build_ours bench_parsing data/small.sv 1 1
 
 python3 - "$room" <<'TEXTS'
 import sys
@@ -33,32 +27,14 @@ for size in (65536, 262144, 1048576):
         open(f"{room}/{name}{size}.sv", "w").write(text)
 TEXTS
 
-# The least nanoseconds of five runs.
-least() {
-    local best=0 from took
-    for _ in 1 2 3 4 5; do
-        from=$(date +%s%N)
-        "$@" >"$room/count"
-        took=$(($(date +%s%N) - from))
-        if [ "$best" -eq 0 ] || [ "$took" -lt "$best" ]; then best=$took; fi
-    done
-    echo "$best"
-}
-
-# The instructions of a run.
-instructions() {
-    valgrind --tool=callgrind --callgrind-out-file="$room/callgrind" "$@" 2>&1 >"$room/count" |
-        awk '/Collected/ { print $4 }'
-}
-
 for shape in bins values expressions crosses; do
     before=0
     for size in 65536 262144 1048576; do
         text="$room/$shape$size.sv"
-        once=$(least "$ours" "$text" 1 1)
-        lexing=$(($(least "$ours" "$text" $((rounds + 1)) 1) - once))
-        parsing=$(($(least "$ours" "$text" 1 $((rounds + 1))) - once))
-        tokens=$(awk '{ print $1 }' "$room/count")
+        once=$(least 5 "$ours" "$text" 1 1)
+        lexing=$(($(least 5 "$ours" "$text" $((rounds + 1)) 1) - once))
+        parsing=$(($(least 5 "$ours" "$text" 1 $((rounds + 1))) - once))
+        tokens=$(awk '{ print $1 }' "$room/printed")
         awk -v shape="$shape" -v size="$size" -v a="$lexing" -v b="$parsing" -v n="$rounds" -v c="$tokens" -v before="$before" 'BEGIN {
             printf "%-12s %8d bytes %7d tokens: lexing %7.2f ms, parsing %7.2f ms", shape, size, c, a / n / 1e6, b / n / 1e6
             if (before > 0) printf ", %.2f times the one before", b / before
@@ -71,7 +47,7 @@ for shape in bins values expressions crosses; do
         one=$(instructions "$ours" "$small" 1 1)
         lexed=$(instructions "$ours" "$small" 2 1)
         parsed=$(instructions "$ours" "$small" 1 2)
-        tokens=$(awk '{ print $1 }' "$room/count")
+        tokens=$(awk '{ print $1 }' "$room/printed")
         awk -v a="$((lexed - one))" -v b="$((parsed - one))" -v c="$tokens" 'BEGIN {
             printf "%12s instructions a token: lexing %.0f, parsing %.0f\n", "", a / c, b / c
         }'

@@ -3,30 +3,11 @@
 # at the plain double loop in Rust (plain.rs), which asks each test again for each row; and of 4,096 tests at
 # crates/rank_report alone. Each test has 4,096 entries, and as many hits of each of 262,144 bins are wanted as is said.
 # Needs rt and rustc. Run it on a machine with nothing else to do.
-set -euo pipefail
 cd "$(dirname "$0")"
-room=$(mktemp -d)
-trap 'rm -rf "$room"' EXIT
+source ../common.sh
 
-if ! (cd ../../crates/bench_ranking && rt run -- 2 3 1 1 1) >"$room/log" 2>&1; then
-    tail -20 "$room/log"
-    exit 1
-fi
-rustc --edition 2021 -O -C target-cpu=x86-64-v2 -o "$room/plain" plain.rs
-ours=../../crates/bench_ranking/out/bench_ranking
-
-# The least nanoseconds of so many runs of a program.
-least() {
-    local runs=$1 best=0 from took
-    shift
-    for ((run = 0; run < runs; run++)); do
-        from=$(date +%s%N)
-        "$@" >"$room/count"
-        took=$(($(date +%s%N) - from))
-        if [ "$best" -eq 0 ] || [ "$took" -lt "$best" ]; then best=$took; fi
-    done
-    echo "$best"
-}
+build_ours bench_ranking 2 3 1 1 1
+build_plain plain.rs
 
 # The time of the ranking alone: less that of a run that makes the tests and ranks none.
 cost() {
@@ -37,17 +18,17 @@ cost() {
 
 for want in 1 8 4096; do
     proved=$(cost 5 "$ours" 256 "$want")
-    rows=$(cat "$room/count")
-    plain=$(cost 5 "$room/plain" 256 "$want")
-    [ "$rows" = "$(cat "$room/count")" ] || echo "want $want: the programs rank otherwise"
-    awk -v want="$want" -v a="$proved" -v b="$plain" -v rows="$rows" 'BEGIN {
+    rows=$(cat "$room/printed")
+    baseline=$(cost 5 "$plain" 256 "$want")
+    [ "$rows" = "$(cat "$room/printed")" ] || echo "want $want: the programs rank otherwise"
+    awk -v want="$want" -v a="$proved" -v b="$baseline" -v rows="$rows" 'BEGIN {
         split(rows, parts, " ")
         printf "256 tests, %d wanted, %d rows: %.0f ms, plain %.0f ms, ratio %.2f\n", want, parts[1], a / 1e6, b / 1e6, a / b
     }'
 done
 for want in 1 8 4096; do
     proved=$(cost 1 "$ours" 4096 "$want")
-    awk -v want="$want" -v a="$proved" -v rows="$(cat "$room/count")" 'BEGIN {
+    awk -v want="$want" -v a="$proved" -v rows="$(cat "$room/printed")" 'BEGIN {
         split(rows, parts, " ")
         printf "4096 tests, %d wanted, %d rows: %.1f s\n", want, parts[1], a / 1e9
     }'

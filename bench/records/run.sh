@@ -3,18 +3,12 @@
 # crates/bench_records) and at a plain Rust reader and writer with the same checks (plain.rs), and how many instructions
 # the reading takes for each event. Needs rt, rustc, python3 and valgrind. A word, if there is one, is the number of
 # rounds of each run. Run it on a machine with nothing else to do.
-set -euo pipefail
 cd "$(dirname "$0")"
+source ../common.sh
 rounds=${1:-20}
-room=$(mktemp -d)
-trap 'rm -rf "$room"' EXIT
 
-if ! (cd ../../crates/bench_records && rt run -- data/t1.rec 1 1) >"$room/log" 2>&1; then
-    tail -20 "$room/log"
-    exit 1
-fi
-rustc --edition 2021 -O -C target-cpu=x86-64-v2 -o "$room/plain" plain.rs
-ours=../../crates/bench_records/out/bench_records
+build_ours bench_records data/t1.rec 1 1
+build_plain plain.rs
 
 # One signal of 64 bits and one instance; each Sample stands behind two Sets.
 python3 - "$room" <<'RECORD'
@@ -33,44 +27,27 @@ for _ in range(groups):
 open(f"{sys.argv[1]}/whole.rec", "wb").write(head + struct.pack(">I", groups * 3) + events)
 RECORD
 
-# The least nanoseconds of seven runs.
-least() {
-    local best=0 from took
-    for _ in 1 2 3 4 5 6 7; do
-        from=$(date +%s%N)
-        "$@" >"$room/count"
-        took=$(($(date +%s%N) - from))
-        if [ "$best" -eq 0 ] || [ "$took" -lt "$best" ]; then best=$took; fi
-    done
-    echo "$best"
-}
-
 # The time of the rounds alone: less that of a run that makes none.
 cost() {
     local program=$1 reads=$2 writes=$3
-    echo $(($(least "$program" "$room/whole.rec" "$reads" "$writes") - $(least "$program" "$room/whole.rec" 0 0)))
+    echo $(($(least 7 "$program" "$room/whole.rec" "$reads" "$writes") - $(least 7 "$program" "$room/whole.rec" 0 0)))
 }
 
 for work in reading writing; do
     reads=$rounds writes=0
     [ "$work" = reading ] || { reads=0 writes=$rounds; }
     proved=$(cost "$ours" "$reads" "$writes")
-    count=$(cat "$room/count")
-    plain=$(cost "$room/plain" "$reads" "$writes")
-    [ "$count" = "$(cat "$room/count")" ] || echo "$work: the programs count other events"
-    awk -v work="$work" -v a="$proved" -v b="$plain" -v n="$rounds" -v c="$count" 'BEGIN {
+    count=$(cat "$room/printed")
+    baseline=$(cost "$plain" "$reads" "$writes")
+    [ "$count" = "$(cat "$room/printed")" ] || echo "$work: the programs count other events"
+    awk -v work="$work" -v a="$proved" -v b="$baseline" -v n="$rounds" -v c="$count" 'BEGIN {
         printf "%s %d events: %.2f ms, plain %.2f ms, ratio %.2f\n", work, c, a / n / 1e6, b / n / 1e6, a / b
     }'
 done
 
-# The instructions of a program that reads so many times, counted by callgrind.
-instructions() {
-    valgrind --tool=callgrind --callgrind-out-file="$room/calls" "$1" "$room/whole.rec" "$2" 0 2>&1 |
-        sed -n 's/.*Collected : *//p'
-}
-
-for program in "$ours" "$room/plain"; do
-    more=$(($(instructions "$program" 2) - $(instructions "$program" 1)))
+# The instructions that one more reading takes.
+for program in "$ours" "$plain"; do
+    more=$(($(instructions "$program" "$room/whole.rec" 2 0) - $(instructions "$program" "$room/whole.rec" 1 0)))
     awk -v name="$(basename "$program")" -v more="$more" -v c="$("$program" "$room/whole.rec" 0 0)" 'BEGIN {
         printf "%s: %.1f instructions an event\n", name, more / c
     }'

@@ -1,18 +1,13 @@
 #!/usr/bin/env bash
 # Builds both programs and prints what a sample costs at crates/trans_auto (by crates/bench_transitions) and at the
 # same automata in plain Rust (plain.rs): 1,000,000 samples of which each moves one run and ends a window, and samples
-# of a hostile set of sequences with 512 runs. Needs rt and rustc. Run it on a machine with nothing else to do.
-set -euo pipefail
+# of a hostile set of sequences with 512 runs. Of both it prints the time, the least of several runs, and the
+# instructions by callgrind. Needs rt, rustc and valgrind. Run it on a machine with nothing else to do.
 cd "$(dirname "$0")"
-room=$(mktemp -d)
-trap 'rm -rf "$room"' EXIT
+source ../common.sh
 
-if ! (cd ../../crates/bench_transitions && rt run -- steady 10) >"$room/log" 2>&1; then
-    tail -20 "$room/log"
-    exit 1
-fi
-rustc --edition 2021 -O -C target-cpu=x86-64-v2 -o "$room/plain" plain.rs
-ours=../../crates/bench_transitions/out/bench_transitions
+build_ours bench_transitions steady 10
+build_plain plain.rs
 
 # Runs both in turn, and prints the least nanoseconds of each.
 compare() {
@@ -23,7 +18,7 @@ compare() {
         took=$(($(date +%s%N) - from))
         if [ "$best_a" -eq 0 ] || [ "$took" -lt "$best_a" ]; then best_a=$took; fi
         from=$(date +%s%N)
-        "$room/plain" "$shape" "$samples" >"$room/b"
+        "$plain" "$shape" "$samples" >"$room/b"
         took=$(($(date +%s%N) - from))
         if [ "$best_b" -eq 0 ] || [ "$took" -lt "$best_b" ]; then best_b=$took; fi
     done
@@ -35,3 +30,12 @@ compare() {
 
 compare steady 1000002 9
 compare hostile 10000 5
+
+for shape in steady:100000 hostile:1000; do
+    name=${shape%:*} count=${shape#*:}
+    a=$(($(instructions "$ours" "$name" $((2 * count))) - $(instructions "$ours" "$name" "$count")))
+    b=$(($(instructions "$plain" "$name" $((2 * count))) - $(instructions "$plain" "$name" "$count")))
+    awk -v shape="$name" -v a="$a" -v b="$b" -v n="$count" 'BEGIN {
+        printf "%-8s %9.1f instructions a sample, plain %9.1f, ratio %.2f\n", shape, a / n, b / n, a / b
+    }'
+done
