@@ -13,11 +13,6 @@ added test missing = sum_by (λ (pair : ℕ × ℕ). min pair.1 (count_in test p
 abbrev pub less : Test → List (ℕ × ℕ) → List (ℕ × ℕ)
 less test missing = map (λ (pair : ℕ × ℕ). (pair.0, pair.1 - count_in test pair.0)) missing
 
--- each row is of a later bin than the one before it, from a bin on
-abbrev pub Ascends : ℕ → Test → Type 0
-Ascends low [] = Unit {0}
-Ascends low (row ∷ rows) = (low ≤ row.0) × Ascends (row.0 + 1) rows
-
 -- of each pair from a place on that the test hits, its place and how many of its wanted hits the test has
 abbrev pub hits_from : ℕ → Test → List (ℕ × ℕ) → List (ℕ × ℕ)
 hits_from place test [] = []

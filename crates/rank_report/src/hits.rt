@@ -1,7 +1,7 @@
 //! The hits of the wanted bins that a test has.
 ghost use Rattle.std.specs.Prelude.{◌≡◌, ℕ, ◌<◌, ◌≤◌, ◌^◌, length, IfOk, IsTrue};
-ghost use Rattle.tally.specs.Rows.{count_in};
-ghost use Rattle.rank_report.specs.Steps.{Ascends, hits_from, added_by, less_by, lacking};
+ghost use Rattle.tally.specs.Rows.{count_in, IsAscendingFrom};
+ghost use Rattle.rank_report.specs.Steps.{hits_from, added_by, less_by, lacking};
 
 use cov_base::Memory;
 use std::alloc::Global;
@@ -32,12 +32,12 @@ impl Hits {
     {
         let mut places = Vec::new(alloc);
         let mut rows = test.rows();
-        let mut low = if ascends(rows) { 0 } else { u64::MAX };
+        let mut low = 0;
         for (place, (bin, want)) in wanted.iter().enumerate() {
-            let count = if u64::from(*bin) < low {
+            let count = if *bin < low {
                 test.get(*bin)
             } else {
-                low = u64::from(*bin);
+                low = *bin;
                 rows = rows_from(rows, *bin);
                 first_count(rows, *bin)
             };
@@ -64,24 +64,10 @@ impl Hits {
     }
 }
 
-/// Whether each row is of a later bin than the one before it.
-fn ascends(rows: &[(u32, u64)]) -> bool
-    ensures { IsTrue result → Ascends 0 rows.now }
-{
-    let mut low = 0u64;
-    for row in rows {
-        if u64::from(row.0) < low {
-            return false;
-        }
-        low = u64::from(row.0) + 1;
-    }
-    true
-}
-
 /// The rows from the bin on.
 fn rows_from(rows: &[(u32, u64)], bin: u32) -> &[(u32, u64)]
-    requires { Ascends 0 rows.now }
-    ensures ascends { Ascends bin result.now }
+    requires { IsAscendingFrom 0 rows.now }
+    ensures ascends { IsAscendingFrom bin result.now }
     ensures same { (later : ℕ) → bin ≤ later → count_in result.now later ≡ count_in rows.now later }
 {
     for (at, row) in rows.iter().enumerate() {
@@ -94,7 +80,7 @@ fn rows_from(rows: &[(u32, u64)], bin: u32) -> &[(u32, u64)]
 
 /// The count of the bin, where no row is of a bin before it.
 fn first_count(rows: &[(u32, u64)], bin: u32) -> u64
-    requires { Ascends bin rows.now }
+    requires { IsAscendingFrom bin rows.now }
     ensures { result ≡ count_in rows.now bin }
 {
     match rows {

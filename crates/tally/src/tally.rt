@@ -43,7 +43,8 @@ impl Tally {
 
     /// A row for each bin with a count, ascending.
     pub fn rows(&self) -> &[(u32, u64)]
-        ensures { result.now ≡ self.now }
+        ensures rows { result.now ≡ self.now }
+        ensures ascending { IsAscendingFrom 0 result.now }
     {
         self.rows.as_slice()
     }

@@ -1,10 +1,9 @@
 use Rattle.std.proofs.Common.{◌≡◌, ◌≤◌, ℕ, drop}
-use Rattle.tally.specs.Rows.{count_in}
-use Rattle.rank_report.specs.Steps.{Ascends}
+use Rattle.tally.specs.Rows.{count_in, IsAscendingFrom}
 use Rattle.rank_report.proofs.hits.rows_from.Given as goal
 
 abbrev pub invariant-loop-at : goal.invariant-loop-at
 invariant-loop-at l = record {
-  ascends : Ascends 0 (drop l.at l.rows);
+  ascends : IsAscendingFrom 0 (drop l.at l.rows);
   same : (later : ℕ) → l.bin ≤ later → count_in (drop l.at l.rows) later ≡ count_in l.rows later;
 }
