@@ -7,3 +7,4 @@ pub mod News
 pub mod Counted
 pub mod FoundLemmas
 pub mod ListingLemmas
+pub mod Written

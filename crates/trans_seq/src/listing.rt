@@ -1,8 +1,9 @@
 //! The lists of a sequence, written out.
-ghost use Rattle.std.specs.Prelude.{◌≡◌, ◌+◌, ◌-◌, ◌<◌, ◌≤◌, List, [], false, map, length, IsTrue, IfOk, IfErr, OnOk};
+ghost use Rattle.std.specs.Prelude.{◌≡◌, ◌+◌, ◌-◌, ◌<◌, ◌≤◌, ◌↔◌, ℤ, Some, Contains, List, [], false, map, length, IsTrue, IfOk, IfErr, OnOk};
 ghost use Rattle.std.specs.List.{list_any};
 ghost use Rattle.cov_base.specs.Sets.{written};
 ghost use Rattle.trans_seq.specs.Found.{Holds, FailsAfter, Extends, HasList, NoList, AllHaveList, SomeNoList, fronted, new_groups, packed};
+ghost use Rattle.trans_seq.specs.Windows.{InSeq};
 ghost use Rattle.trans_seq.specs.Lists.{lengths, choices, by_lengths, from_on, all_of, listed, is_endless, HasEndless, Expands, RefusesToExpand};
 
 use crate::fault::ExpandFault;
@@ -126,6 +127,7 @@ fn flattened(alloc: Global, groups: Vec<List<List<Int>>>) -> Result<Vec<List<Int
 /// number of distinct lists, not with the ways to make them.
 pub fn expand(alloc: Global, seq: &Seq) -> Result<Vec<List<Int>>, ExpandFault>
     ensures lists { IfOk result (λ lists. Expands seq.now.items lists.items) }
+    ensures windows { IfOk result (λ lists. (w : List ℤ) → Contains lists.items w ↔ InSeq seq.now.items (map Some w)) }
     ensures refuses { IfErr result (RefusesToExpand seq.now.items) }
 {
     let items = seq.items.as_slice();

@@ -5,6 +5,7 @@ use Rattle.trans_seq.specs.Cells.{cells_of_items}
 use Rattle.trans_seq.specs.Lists.{by_lengths, all_of, listed, is_endless, RefusesToExpand}
 use Rattle.trans_seq.specs.Found.{FailsAfter, SomeNoList, new_groups, packed}
 use Rattle.trans_seq.proofs.ListingLemmas.{refuses_after, none_listed, listed_all, short_cells}
+use Rattle.trans_seq.proofs.Written.{windows-of}
 use Rattle.trans_seq.proofs.listing.expand.Goals as goal
 
 pub returns-then-not-all_have_list-clause-lists : goal.returns-then-not-all_have_list-clause-lists
@@ -38,3 +39,9 @@ returns-clause-lists c =
       short = short_cells (cells_of_items items) c.cells-values.result c.cells-values.ensures c.if-values-gt-MOST_VALUES.false;
       few = subst (λ l. length (listed l) ≤ 65536) c.as_slice-items.ensures c.in_ok-groups.ensures.few;
     }
+
+pub returns-then-not-all_have_list-clause-windows : goal.returns-then-not-all_have_list-clause-windows
+returns-then-not-all_have_list-clause-windows c = windows-of c.args.seq.now.items c.new.result.items (returns-then-not-all_have_list-clause-lists c)
+
+pub returns-clause-windows : goal.returns-clause-windows
+returns-clause-windows c = windows-of c.args.seq.now.items c.in_ok-flattened.field-0.items (returns-clause-lists c)
