@@ -1,35 +1,220 @@
-//! The same as `bench_lexing` in plain Rust: a scan into tokens, without the checks of widths: `scan FILE ROUNDS`.
+//! The same as `bench_lexing` in plain Rust, with the same tokens and the same checks of keywords, names and literals:
+//! `scan FILE ROUNDS`.
 use std::env;
 use std::fs;
 
-#[derive(Clone, Copy)]
-pub enum Kind {
-    Name,
-    Number,
+#[derive(Clone, Copy, PartialEq)]
+#[allow(dead_code)]
+enum Kind {
+    Ident,
+    Keyword,
+    System,
+    Decimal,
+    Based,
     Text,
     Operator,
+    NotSupported,
 }
 
 #[derive(Clone, Copy)]
-pub struct Token {
-    pub kind: Kind,
-    pub at: u32,
-    pub len: u32,
+#[allow(dead_code)]
+struct Token {
+    kind: Kind,
+    at: u32,
+    len: u32,
+}
+
+#[allow(dead_code)]
+struct Literal {
+    width: u8,
+    sized: bool,
+    signed: bool,
+    bits: u64,
+    free: u64,
+}
+
+fn is_keyword(text: &[u8]) -> bool {
+    let words: &[&[u8]] = match text[0] {
+        b'b' => &[b"bit", b"byte", b"bins", b"binsof"],
+        b'c' => &[b"covergroup", b"coverpoint", b"cross", b"class"],
+        b'd' => &[b"default"],
+        b'e' => &[b"enum", b"endgroup", b"edge", b"extends"],
+        b'f' => &[b"function"],
+        b'i' => &[
+            b"int",
+            b"integer",
+            b"illegal_bins",
+            b"ignore_bins",
+            b"iff",
+            b"intersect",
+            b"input",
+            b"interface",
+            b"inside",
+        ],
+        b'l' => &[b"logic", b"longint", b"localparam"],
+        b'm' => &[b"module", b"matches"],
+        b'n' => &[b"new", b"negedge"],
+        b'o' => &[b"or", b"option"],
+        b'p' => &[b"posedge", b"program", b"package", b"parameter"],
+        b'r' => &[b"reg", b"ref", b"real"],
+        b's' => &[b"shortint", b"signed", b"sequence", b"shortreal", b"string"],
+        b't' => &[b"typedef", b"type_option", b"time"],
+        b'u' => &[b"unsigned"],
+        b'w' => &[b"wildcard", b"with"],
+        _ => &[],
+    };
+    words.contains(&text)
+}
+
+fn operators(first: u8) -> &'static [(&'static [u8], Kind)] {
+    use Kind::{NotSupported, Operator};
+    match first {
+        b'=' => &[
+            (b"===", NotSupported),
+            (b"==?", NotSupported),
+            (b"==", Operator),
+            (b"=>", Operator),
+            (b"=", Operator),
+        ],
+        b'!' => &[(b"!==", NotSupported), (b"!=?", NotSupported), (b"!=", Operator), (b"!", Operator)],
+        b'<' => &[(b"<<<", Operator), (b"<<", Operator), (b"<=", Operator), (b"<", Operator)],
+        b'>' => &[(b">>>", Operator), (b">>", Operator), (b">=", Operator), (b">", Operator)],
+        b'-' => &[(b"->", Operator), (b"--", NotSupported), (b"-", Operator)],
+        b'&' => &[(b"&&", Operator), (b"&", Operator)],
+        b'|' => &[(b"||", Operator), (b"|", Operator)],
+        b'~' => &[(b"~&", Operator), (b"~|", Operator), (b"~^", Operator), (b"~", Operator)],
+        b'^' => &[(b"^~", Operator), (b"^", Operator)],
+        b'@' => &[(b"@@", NotSupported), (b"@", Operator)],
+        b'*' => &[(b"**", NotSupported), (b"*", Operator)],
+        b'+' => &[(b"++", NotSupported), (b"+", Operator)],
+        b':' => &[(b"::", NotSupported), (b":", Operator)],
+        b'(' => &[(b"(", Operator)],
+        b')' => &[(b")", Operator)],
+        b'[' => &[(b"[", Operator)],
+        b']' => &[(b"]", Operator)],
+        b'{' => &[(b"{", Operator)],
+        b'}' => &[(b"}", Operator)],
+        b',' => &[(b",", Operator)],
+        b';' => &[(b";", Operator)],
+        b'.' => &[(b".", Operator)],
+        b'/' => &[(b"/", Operator)],
+        b'%' => &[(b"%", Operator)],
+        b'?' => &[(b"?", Operator)],
+        b'$' => &[(b"$", Operator)],
+        b'#' => &[(b"#", NotSupported)],
+        b'\'' => &[(b"'", NotSupported)],
+        _ => &[],
+    }
 }
 
 fn run(text: &[u8], from: usize, test: impl Fn(u8) -> bool) -> usize {
-    let mut at = from;
-    while at < text.len() && test(text[at]) {
-        at += 1;
-    }
-    at
+    text[from..].iter().position(|byte| !test(*byte)).map_or(text.len(), |count| from + count)
+}
+
+fn byte_at(text: &[u8], at: usize) -> u8 {
+    text.get(at).copied().unwrap_or(0)
 }
 
 fn is_word(byte: u8) -> bool {
     byte.is_ascii_alphanumeric() || byte == b'_' || byte == b'$'
 }
 
-fn scan(text: &[u8]) -> Vec<Token> {
+fn is_unknown(byte: u8) -> bool {
+    matches!(byte, b'x' | b'X' | b'z' | b'Z' | b'?')
+}
+
+fn is_gap(byte: u8) -> bool {
+    byte == b' ' || byte == b'_'
+}
+
+/// The radix of a base letter.
+fn radix(letter: u8) -> Option<u8> {
+    match letter {
+        b'b' | b'B' => Some(2),
+        b'o' | b'O' => Some(8),
+        b'd' | b'D' => Some(10),
+        b'h' | b'H' => Some(16),
+        _ => None,
+    }
+}
+
+fn is_digit_of(radix: u8, byte: u8) -> bool {
+    match radix {
+        10 => byte.is_ascii_digit(),
+        2 => matches!(byte, b'0' | b'1') || is_unknown(byte),
+        8 => matches!(byte, b'0'..=b'7') || is_unknown(byte),
+        _ => byte.is_ascii_hexdigit() || is_unknown(byte),
+    }
+}
+
+fn digits(text: &[u8], radix: u8) -> Option<(u64, u64)> {
+    let (mut bits, mut free) = (0u64, 0u64);
+    for &byte in text.iter().filter(|byte| !is_gap(**byte)) {
+        let value = (byte as char).to_digit(16).unwrap_or(0);
+        let unknown = if is_unknown(byte) { radix - 1 } else { 0 };
+        bits = bits.checked_mul(u64::from(radix))?.checked_add(u64::from(value))?;
+        free = free.checked_mul(u64::from(radix))?.checked_add(u64::from(unknown))?;
+    }
+    Some((bits, free))
+}
+
+fn limit(width: u32) -> u128 {
+    1 << width
+}
+
+fn literal(text: &[u8]) -> Option<Literal> {
+    let Some(apostrophe) = text.iter().position(|byte| *byte == b'\'') else {
+        let (bits, _) = digits(text, 10)?;
+        let width = if bits < 1 << 31 {
+            32
+        } else if bits < 1 << 63 {
+            64
+        } else {
+            return None;
+        };
+        return Some(Literal { width, sized: false, signed: true, bits, free: 0 });
+    };
+    let (size, rest) = (&text[..apostrophe], &text[apostrophe + 1..]);
+    let signed = matches!(rest[0], b's' | b'S');
+    let rest = if signed { &rest[1..] } else { rest };
+    let radix = radix(rest[0])?;
+    let (bits, free) = digits(&rest[1..], radix)?;
+    let width = if !size.is_empty() {
+        digits(size, 10)?.0
+    } else if bits < 1 << 32 && free < 1 << 32 {
+        32
+    } else {
+        64
+    };
+    if width == 0 || width > 64 || u128::from(bits.max(free)) >= limit(width as u32) {
+        return None;
+    }
+    let mut known = rest[1..].iter().filter(|byte| !is_gap(**byte));
+    let leads_unknown = known.next().is_some_and(|byte| is_unknown(*byte));
+    let used = (known.count() as u32 + 1) * (radix as u32).ilog2();
+    let above = if leads_unknown && u64::from(used) < width {
+        (limit(width as u32) - limit(used)) as u64
+    } else {
+        0
+    };
+    Some(Literal { width: width as u8, sized: !size.is_empty(), signed, bits, free: free | above })
+}
+
+/// Where the based literal ends whose apostrophe stands at this place.
+fn based_end(text: &[u8], at: usize) -> Option<usize> {
+    if byte_at(text, at) != b'\'' {
+        return None;
+    }
+    let marked = if matches!(byte_at(text, at + 1), b's' | b'S') { at + 2 } else { at + 1 };
+    let radix = radix(byte_at(text, marked))?;
+    let first = run(text, marked + 1, |byte| byte == b' ');
+    if !is_digit_of(radix, byte_at(text, first)) {
+        return None;
+    }
+    Some(run(text, first + 1, |byte| is_digit_of(radix, byte) || byte == b'_'))
+}
+
+fn scan(text: &[u8]) -> Option<Vec<Token>> {
     let mut tokens = Vec::new();
     let mut at = 0;
     while at < text.len() {
@@ -39,41 +224,50 @@ fn scan(text: &[u8]) -> Vec<Token> {
                 at += 1;
                 continue;
             }
-            b'/' if text.get(at + 1) == Some(&b'/') => {
-                at = run(text, at, |b| b != b'\n');
+            b'/' if byte_at(text, at + 1) == b'/' => {
+                at = run(text, at + 2, |byte| byte != b'\n');
                 continue;
             }
-            b'/' if text.get(at + 1) == Some(&b'*') => {
-                at += 2;
-                while at + 1 < text.len() && !(text[at] == b'*' && text[at + 1] == b'/') {
-                    at += 1;
-                }
-                at += 2;
+            b'/' if byte_at(text, at + 1) == b'*' => {
+                at = at + 4 + text[at + 2..].windows(2).position(|pair| pair == b"*/")?;
                 continue;
             }
             b'0'..=b'9' => {
-                let mut end = run(text, at, |b| b.is_ascii_digit() || b == b'_');
-                let quote = run(text, end, |b| b == b' ');
-                if text.get(quote) == Some(&b'\'') {
-                    end = run(text, quote + 1, |b| b.is_ascii_alphanumeric() || b == b'_' || b == b'?');
+                let end = run(text, at + 1, |byte| byte.is_ascii_digit() || byte == b'_');
+                match based_end(text, run(text, end, |byte| byte == b' ')) {
+                    Some(last) => (Kind::Based, last),
+                    None => (Kind::Decimal, end),
                 }
-                (Kind::Number, end)
             }
-            b'"' => (Kind::Text, run(text, at + 1, |b| b != b'"') + 1),
-            _ if is_word(byte) => (Kind::Name, run(text, at, is_word)),
+            b'a'..=b'z' | b'A'..=b'Z' | b'_' => {
+                let end = run(text, at + 1, is_word);
+                let keyword = is_keyword(&text[at..end]);
+                if !keyword && end - at > 1024 {
+                    return None;
+                }
+                (if keyword { Kind::Keyword } else { Kind::Ident }, end)
+            }
+            b'"' => {
+                let end = run(text, at + 1, |byte| byte != b'"' && byte != b'\n');
+                if byte_at(text, end) != b'"' {
+                    return None;
+                }
+                (Kind::Text, end + 1)
+            }
+            b'$' if is_word(byte_at(text, at + 1)) => (Kind::System, run(text, at + 1, is_word)),
+            b'\'' if based_end(text, at).is_some() => (Kind::Based, based_end(text, at)?),
             _ => {
-                let rest = &text[at..];
-                let len = [&b"<<<"[..], b">>>", b"=>", b"->", b"&&", b"||", b"<=", b">=", b"==", b"!=", b"<<", b">>"]
-                    .iter()
-                    .find(|op| rest.starts_with(op))
-                    .map_or(1, |op| op.len());
-                (Kind::Operator, at + len)
+                let (spelling, kind) = operators(byte).iter().find(|(op, _)| text[at..].starts_with(op))?;
+                (*kind, at + spelling.len())
             }
         };
+        if matches!(kind, Kind::Decimal | Kind::Based) {
+            literal(&text[at..end])?;
+        }
         tokens.push(Token { kind, at: at as u32, len: (end - at) as u32 });
         at = end;
     }
-    tokens
+    Some(tokens)
 }
 
 fn main() {
@@ -82,7 +276,7 @@ fn main() {
     let text = fs::read(&words[1]).expect("a file");
     let mut count = 0;
     for _ in 0..rounds {
-        count = std::hint::black_box(scan(std::hint::black_box(&text))).len();
+        count = std::hint::black_box(scan(std::hint::black_box(&text))).expect("tokens").len();
     }
     println!("{count}");
 }
