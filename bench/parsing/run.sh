@@ -1,7 +1,8 @@
 #!/usr/bin/env bash
-# Builds crates/bench_parsing and prints what lexing and parsing of design texts cost: the time on texts of 64 KiB, 256 KiB and
-# 1 MiB, how it grows from one to the next, and the instructions a token. Needs rt, python3, and valgrind for the instructions.
-# A word, if there is one, is the number of rounds of each run. Run it on a machine with nothing else to do.
+# Builds crates/bench_parsing and prints what lexing and parsing of design texts cost: the time on texts of 64 KiB,
+# 256 KiB and 1 MiB, how it grows from one to the next, and the instructions a token at each length. Needs rt, python3,
+# and valgrind for the instructions. A word, if there is one, is the number of rounds of each run. Run it on a machine
+# with nothing else to do.
 cd "$(dirname "$0")"
 source ../common.sh
 rounds=${1:-20}
@@ -43,13 +44,15 @@ for shape in bins values expressions crosses; do
         before=$parsing
     done
     if command -v valgrind >/dev/null; then
-        small="$room/${shape}65536.sv"
-        one=$(instructions "$ours" "$small" 1 1)
-        lexed=$(instructions "$ours" "$small" 2 1)
-        parsed=$(instructions "$ours" "$small" 1 2)
-        tokens=$(awk '{ print $1 }' "$room/printed")
-        awk -v a="$((lexed - one))" -v b="$((parsed - one))" -v c="$tokens" 'BEGIN {
-            printf "%12s instructions a token: lexing %.0f, parsing %.0f\n", "", a / c, b / c
-        }'
+        for size in 65536 262144 1048576; do
+            text="$room/$shape$size.sv"
+            one=$(instructions "$ours" "$text" 1 1)
+            lexed=$(instructions "$ours" "$text" 2 1)
+            parsed=$(instructions "$ours" "$text" 1 2)
+            tokens=$(awk '{ print $1 }' "$room/printed")
+            awk -v size="$size" -v a="$((lexed - one))" -v b="$((parsed - one))" -v c="$tokens" 'BEGIN {
+                printf "%12s %8d bytes, instructions a token: lexing %.0f, parsing %.0f\n", "", size, a / c, b / c
+            }'
+        done
     fi
 done
