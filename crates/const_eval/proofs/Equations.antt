@@ -1,10 +1,10 @@
 -- Equations of binding.
-use Rattle.std.proofs.Common.{◌≡◌, ℕ, ◌+◌, ℤ, pos, ◌-ℤ◌, Bool, true, false, List, [], ◌∷◌, ◌++◌, Option, Some, None, Ok, Err, drop, refl, sym, ap, subst, ◌∙◌}
+use Rattle.std.proofs.Common.{◌≡◌, ℕ, ◌+◌, ℤ, pos, ◌-ℤ◌, Bool, false, List, [], ◌∷◌, Option, Some, None, Ok, Err, drop, refl, sym, ap, subst, ◌∙◌}
 use Rattle.std.specs.Prelude.{Result, map, ◌||◌, if◌then◌else◌, unsigned_abs}
 use Rattle.cov_tree.specs.declared.expr.Expr.{Expr}
 use Rattle.cov_tree.specs.declared.expr.Expr.TheOpen as expr
 use Rattle.cov_tree.specs.declared.expr.Expr.TheOpen.{Expr-F}
-use Rattle.cov_tree.specs.declared.expr.Expr.TheViews.{out-Expr, roll-Expr}
+use Rattle.cov_tree.specs.declared.expr.Expr.TheViews.{out-Expr}
 use Rattle.cov_tree.specs.declared.expr.Expr.TheFolds.{fold_out-Expr, map-Expr}
 use Rattle.const_eval.specs.declared.meaning.Meaning.{Meaning}
 use Rattle.const_eval.specs.declared.fault.BindFault.{BindFault}

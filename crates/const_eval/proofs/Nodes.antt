@@ -1,7 +1,5 @@
 -- What holds of an expression as it is kept.
-use Rattle.std.proofs.Common.{◌≡◌, ◌≤◌}
 use Rattle.const_eval.specs.declared.typs.Typ.{Typ}
-use Rattle.const_eval.specs.declared.bound.Typed.{Typed}
 use Rattle.const_eval.specs.declared.bound.Node.{Node, Number, Name, Part, Alone', Joined', Unary', Binary', And', Or', Cond'}
 use Rattle.const_eval.specs.Nodes.{term_in, HasTyp, IsSound}
 

@@ -1,9 +1,8 @@
 -- How a proof tells two bound expressions apart: each is what the code keeps in some way.
 use Rattle.std.specs.Prelude.{◌≡◌, refl}
-use mathlib.Core.Path.{ap}
 use denote.RawPtr.{null_ptr}
 use Rattle.std.specs.Coded.{Coded, code_by}
-use Rattle.std.specs.Global.{Global, Box}
+use Rattle.std.specs.Global.{Box}
 use Rattle.const_eval.specs.declared.bound.Typed.{Typed}
 use Rattle.const_eval.specs.declared.bound.Node.{Number, Name, Part, Alone', Joined', Unary', Binary', Cond'}
 use Rattle.const_eval.specs.contracts.bound.Typed as typed

@@ -1,5 +1,5 @@
 -- How the code keeps the parts of a concatenation. Public contracts cite none of it.
-use Rattle.std.specs.Prelude.{◌≡◌, ℕ, ◌<◌, ◌≤◌, Option, Some, None, Result, Ok, Err}
+use Rattle.std.specs.Prelude.{◌≡◌, ◌<◌, ◌≤◌, Option, Some, None, Result, Ok, Err}
 use Rattle.const_eval.specs.declared.binding.Front.{Front}
 use Rattle.const_eval.specs.declared.binding.Front.TheVariants.{Empty, Fits, Wide}
 use Rattle.const_eval.specs.declared.fault.BindFault.{BindFault}

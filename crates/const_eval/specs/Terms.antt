@@ -1,5 +1,5 @@
 -- Expressions with each name replaced by its meaning, and their types (IEEE 1800-2017, 11.6.1 and 11.8.1).
-use Rattle.std.specs.Prelude.{ℕ, ◌+◌, ℤ, Option, Some, None}
+use Rattle.std.specs.Prelude.{ℕ, ◌+◌, Option, Some}
 use Rattle.cov_tree.specs.declared.expr.UnOp.{UnOp}
 use Rattle.cov_tree.specs.declared.expr.BinOp.{BinOp}
 use Rattle.const_eval.specs.declared.typs.Typ.{Typ}

@@ -1,5 +1,5 @@
 -- Widths and signs of expressions (IEEE 1800-2017, 11.6.1 and 11.8.1).
-use Rattle.std.specs.Prelude.{ℕ, ◌≤◌, max, Bool, false, ◌&&◌}
+use Rattle.std.specs.Prelude.{ℕ, ◌≤◌, max, false, ◌&&◌}
 use Rattle.cov_tree.specs.declared.expr.UnOp.{UnOp}
 use Rattle.cov_tree.specs.declared.expr.UnOp.TheVariants as unary
 use Rattle.cov_tree.specs.declared.expr.BinOp.{BinOp}

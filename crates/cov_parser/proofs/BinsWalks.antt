@@ -1,7 +1,6 @@
 -- Where a reader of values, sequences and options stands, from one part of a rule to the next.
-use Rattle.std.proofs.Common.{◌≡◌, ℕ, ◌+◌, ◌-◌, ◌<◌, List, [], ◌∷◌, ◌++◌, Option, Some, None, Result, Ok, Err, Bool, true, false, not, ◌&&◌, length, inl, inr, refl, sym, subst, arith, slice_range}
+use Rattle.std.proofs.Common.{◌≡◌, ℕ, ◌+◌, ◌-◌, List, [], ◌∷◌, ◌++◌, Option, Some, None, Bool, true, false, not, ◌&&◌, inl, inr, refl, sym, subst, arith, slice_range}
 use Rattle.cov_tree.specs.declared.expr.Expr.{Expr}
-use Rattle.cov_tree.specs.declared.bins.End.{End}
 use Rattle.cov_tree.specs.declared.bins.End.TheVariants.{Value, Dollar}
 use Rattle.cov_tree.specs.declared.bins.Elem.{Elem}
 use Rattle.cov_tree.specs.declared.bins.Elem.TheVariants.{One, Span}
@@ -12,7 +11,6 @@ use Rattle.cov_tree.specs.declared.bins.Right.TheVariants.{Ranges, Whole, Trans}
 use Rattle.cov_tree.specs.declared.bins.Word.{Word}
 use Rattle.cov_tree.specs.declared.bins.Size.{Size}
 use Rattle.cov_tree.specs.declared.bins.Size.TheVariants.{Scalar, Open, Fixed}
-use Rattle.cov_tree.specs.declared.bins.OptText.{OptText}
 use Rattle.cov_tree.specs.declared.bins.OptText.TheVariants.{Number, Text}
 use Rattle.cov_grammar.specs.declared.kind.Kind.{Kind}
 use Rattle.cov_grammar.specs.declared.kind.Kind.TheVariants.{Ident, Quoted, WithWord, WildcardWord, IffWord, DefaultWord, SequenceWord, OpenParen, CloseParen, OpenSquare, CloseSquare, OpenBrace, CloseBrace, Comma, Semi, Colon, Dot, Assign, FatArrow, ThinArrow, Star, DollarSign, OptionWord, TypeOptionWord}
@@ -23,12 +21,12 @@ use Rattle.cov_grammar.specs.declared.place.Standing.{Standing}
 use Rattle.cov_grammar.specs.declared.place.Standing.TheVariants.{Plain, StepEnd}
 use Rattle.cov_grammar.specs.declared.place.Stop.{Stop}
 use Rattle.cov_grammar.specs.declared.place.Stop.TheVariants.{Memory, Syntax, TooDeep}
-use Rattle.cov_grammar.specs.Rule.{Rule, In, one, word, give, here, never, offset, bind, both, either, fold, many, map_to, allow, ahead, behind, maybe}
-use Rattle.cov_grammar.specs.Parses.{Reads, Stops, Fails, Parses}
+use Rattle.cov_grammar.specs.Rule.{Rule, In, one, word, give, never, offset, bind, both, either, fold, map_to, allow, ahead, behind, maybe}
+use Rattle.cov_grammar.specs.Parses.{Reads, Stops, Fails}
 use Rattle.cov_grammar.specs.Expressions.{pair, snoc, expr, whole_expr}
 use Rattle.cov_grammar.specs.Bins.{squares, ident, guard, range_end, span, elem, elems, repetition, repeated, step, times_or_once, seq, seqs, keep, values, option_value, optset, option_of, is_some, head_of, bins_words, bins_word, bins_word_of, bins_head, BinsHead, size, size_of, is_fixed, is_scalar, default_of, default_right, bins_of_parts, bins}
 use Rattle.cov_grammar.specs.Bins.{right as bins_right}
-use Rattle.cov_grammar.proofs.Sets.{disjoint, subset, split, In_apart}
+use Rattle.cov_grammar.proofs.Sets.{disjoint, split, In_apart}
 use Rattle.cov_grammar.proofs.Facts.{never_facts}
 use Rattle.cov_grammar.proofs.Sound.{never_sound}
 use Rattle.cov_grammar.proofs.Lawful.{Lawful, Lawfuls, lawful_one, lawful_word, lawful_here, lawful_map, lawful_maybe, lawful_allow, lawful_both, lawful_either, lawful_fold, facts_of}
@@ -36,8 +34,8 @@ use Rattle.cov_grammar.proofs.Compose.{map_reads, map_fails, both_reads, both_fa
 use Rattle.cov_grammar.proofs.Steps.{Leads, leads_self, then, here_reads, right, bind_step, map_leads}
 use Rattle.cov_grammar.proofs.Steps as walk
 use Rattle.cov_grammar.proofs.ExprLaws.{expr_firsts, whole_expr_lawful, expr_lawful}
-use Rattle.cov_grammar.proofs.BinsLaws.{elem_firsts, no_comma, ident_lawful, guard_lawful, range_end_lawful, span_lawful, elem_lawful, elems_lawful, repetition_lawful, step_lawful, seq_lawful, keep_lawful, option_value_lawful, bins_word_lawful, bins_head_lawful, size_lawful, seqs_lawful, values_lawful, default_right_lawful, right_lawful, sized_head_lawful, bins_rest_lawful}
-use Rattle.cov_parser.proofs.Chains.{Chain, chain_first, chain_fails, chain_breaks, chain_ends, no_part, part}
+use Rattle.cov_grammar.proofs.BinsLaws.{no_comma, ident_lawful, guard_lawful, range_end_lawful, span_lawful, elem_lawful, elems_lawful, repetition_lawful, step_lawful, seq_lawful, keep_lawful, option_value_lawful, bins_word_lawful, bins_head_lawful, size_lawful, seqs_lawful, values_lawful, default_right_lawful, right_lawful, sized_head_lawful, bins_rest_lawful}
+use Rattle.cov_parser.proofs.Chains.{Chain, chain_fails, chain_breaks, chain_ends, no_part, part}
 
 module _ (text : List ℕ) (ts : List Marked) where
   abbrev pub w : (k : Kind) → Lawful ts (λ _. one ts (k ∷ []))

@@ -1,16 +1,16 @@
 -- Lists with separators, and parts that begin with a word of their own.
-use Rattle.std.proofs.Common.{◌≡◌, ℕ, ◌+◌, ◌-◌, ◌<◌, ◌≤◌, List, [], ◌∷◌, ◌++◌, Option, Some, None, true, false, length, refl, sym, ◌∙◌, subst, arith, append-nil}
+use Rattle.std.proofs.Common.{◌≡◌, ◌+◌, ◌-◌, ◌<◌, List, [], ◌∷◌, ◌++◌, Some, None, true, length, refl, subst, arith, append-nil}
 use Rattle.cov_grammar.specs.declared.kind.Kind.{Kind}
 use Rattle.cov_grammar.specs.declared.kind.Marked.{Marked}
 use Rattle.cov_grammar.specs.declared.place.Place.{Place}
 use Rattle.cov_grammar.specs.declared.place.Room.{Room}
 use Rattle.cov_grammar.specs.declared.place.Stop.{Stop}
 use Rattle.cov_grammar.specs.declared.place.Stop.TheVariants.{Memory, Syntax, TooDeep}
-use Rattle.cov_grammar.specs.Rule.{Rule, In, one, word, both, fold, many, map_to, ahead, maybe}
+use Rattle.cov_grammar.specs.Rule.{Rule, In, one, both, fold, many, map_to, maybe}
 use Rattle.cov_grammar.specs.Parses.{Reads, Fails}
 use Rattle.cov_grammar.specs.Expressions.{snoc}
-use Rattle.cov_grammar.proofs.Sets.{disjoint, subset, when, when-nothing}
-use Rattle.cov_grammar.proofs.Lawful.{Lawful, facts_of, reads_only, lawful_one, lawful_word, lawful_map, lawful_both}
+use Rattle.cov_grammar.proofs.Sets.{disjoint, when, when-nothing}
+use Rattle.cov_grammar.proofs.Lawful.{Lawful, facts_of, reads_only, lawful_one, lawful_map, lawful_both}
 use Rattle.cov_grammar.proofs.Compose.{map_reads, map_fails}
 use Rattle.cov_grammar.proofs.Steps.{Leads, leads_self, step, without, maybe_step, fold_starts, fold_fails, item_read, item_fails, no_item, one_next, item_falls}
 

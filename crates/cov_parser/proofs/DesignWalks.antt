@@ -1,34 +1,29 @@
 -- Where a reader of covergroups and declarations stands, from one part of a rule to the next.
-use Rattle.std.proofs.Common.{◌≡◌, ℕ, ◌+◌, ◌-◌, ◌<◌, List, [], ◌∷◌, ◌++◌, Option, Some, None, true, false, length, inl, inr, refl, sym, subst, arith}
+use Rattle.std.proofs.Common.{ℕ, ◌<◌, List, [], ◌∷◌, ◌++◌, Option, Some, None, false, refl, arith}
 use Rattle.cov_tree.specs.declared.expr.Expr.{Expr}
 use Rattle.cov_tree.specs.declared.groups.Member.{Member}
 use Rattle.cov_tree.specs.declared.groups.Member.TheVariants.{Opt}
-use Rattle.cov_tree.specs.declared.groups.Formal.{Formal}
-use Rattle.cov_tree.specs.declared.groups.EdgeText.{EdgeText}
-use Rattle.cov_tree.specs.declared.bins.OptDecl.{OptDecl}
-use Rattle.cov_tree.specs.declared.declarations.TypeText.{TypeText}
-use Rattle.cov_tree.specs.declared.declarations.Decl.{Decl}
 use Rattle.cov_grammar.specs.declared.kind.Kind.{Kind}
-use Rattle.cov_grammar.specs.declared.kind.Kind.TheVariants.{Ident, CovergroupWord, EndgroupWord, CoverpointWord, CrossWord, IffWord, Semi, Colon}
+use Rattle.cov_grammar.specs.declared.kind.Kind.TheVariants.{Ident, CoverpointWord, CrossWord, IffWord, Semi, Colon}
 use Rattle.cov_grammar.specs.declared.kind.Marked.{Marked}
 use Rattle.cov_grammar.specs.declared.place.Place.{Place}
 use Rattle.cov_grammar.specs.declared.place.Room.{Room}
 use Rattle.cov_grammar.specs.declared.place.Stop.{Stop}
 use Rattle.cov_grammar.specs.declared.place.Stop.TheVariants.{Memory, Syntax, TooDeep}
-use Rattle.cov_grammar.specs.Rule.{Rule, In, one, word, here, offset, both, bind, either, many, map_to, ahead, behind, maybe}
-use Rattle.cov_grammar.specs.Parses.{Reads, Stops, Fails}
-use Rattle.cov_grammar.specs.Expressions.{pair, snoc, expr}
+use Rattle.cov_grammar.specs.Rule.{Rule, In, one, word, offset, both, either, many, map_to, ahead, maybe}
+use Rattle.cov_grammar.specs.Parses.{Reads, Fails}
+use Rattle.cov_grammar.specs.Expressions.{pair, expr}
 use Rattle.cov_grammar.specs.Bins.{ident, optset}
 use Rattle.cov_grammar.specs.Groups.{point, cross, label, item, member}
-use Rattle.cov_grammar.specs.Designs.{list_or, edge_of, group_of, formals, edge, event, members, group_end, group}
-use Rattle.cov_grammar.proofs.Sets.{disjoint, split, In_apart}
-use Rattle.cov_grammar.proofs.Lawful.{Lawful, Lawfuls, facts_of, lawful_word, lawful_one, lawful_here, lawful_map, lawful_maybe, lawful_many, lawful_both, lawful_either}
-use Rattle.cov_grammar.proofs.Compose.{Past, many_stuck, map_reads, map_fails, both_reads, both_fails, both_then_fails, left_reads, left_fails, right_reads, right_fails, maybe_some, maybe_fails}
-use Rattle.cov_grammar.proofs.Steps.{Leads, leads_self, then, here_reads, no_start, one_fails, step, ends, bind_step, bind_ends, map_leads, without, maybe_step, left, right, many_next, many_ends, many_breaks, one_next, reads_more}
+use Rattle.cov_grammar.specs.Designs.{edge_of, edge, members}
+use Rattle.cov_grammar.proofs.Sets.{In_apart}
+use Rattle.cov_grammar.proofs.Lawful.{Lawful, Lawfuls, facts_of, lawful_word, lawful_one, lawful_here, lawful_map, lawful_maybe, lawful_both, lawful_either}
+use Rattle.cov_grammar.proofs.Compose.{Past, both_reads, both_then_fails, left_reads, left_fails, maybe_some, maybe_fails}
+use Rattle.cov_grammar.proofs.Steps.{Leads, leads_self, then, here_reads, step, ends, bind_step, bind_ends, map_leads, without, maybe_step, left, right, many_next, many_ends, one_next, reads_more}
 use Rattle.cov_grammar.proofs.ExprLaws.{expr_lawful}
 use Rattle.cov_grammar.proofs.BinsLaws.{ident_lawful, optset_lawful}
 use Rattle.cov_grammar.proofs.GroupLaws.{option_words, item_firsts, member_firsts, label_lawful, labelled_lawful, item_rest_lawful, point_lawful, cross_lawful, item_lawful, member_lawful}
-use Rattle.cov_grammar.proofs.DesignLaws.{append, edge_words, formals_lawful, event_lawful, edge_lawful, members_lawful, group_end_lawful, group_head_lawful, group_body_lawful, group_rest_lawful, group_lawful}
+use Rattle.cov_grammar.proofs.DesignLaws.{append, edge_words}
 
 -- `;` is no member
 abbrev no_member : Marked → List Member

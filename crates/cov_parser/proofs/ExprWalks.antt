@@ -12,16 +12,16 @@ use Rattle.cov_grammar.specs.declared.place.Standing.{Standing}
 use Rattle.cov_grammar.specs.declared.place.Standing.TheVariants.{Plain}
 use Rattle.cov_grammar.specs.declared.place.Stop.{Stop}
 use Rattle.cov_grammar.specs.declared.place.Stop.TheVariants.{Syntax, TooDeep}
-use Rattle.cov_grammar.specs.Rule.{In, one, word, counted, offset, here, both, either, many, ahead, behind, maybe, afresh}
+use Rattle.cov_grammar.specs.Rule.{In, one, word, counted, offset, both, either, many, ahead, behind, maybe}
 use Rattle.cov_grammar.specs.Parses.{Reads, Fails, Parses}
 use Rattle.cov_grammar.specs.Operators.{unary_kinds, level_kinds}
-use Rattle.cov_grammar.specs.Expressions.{Inner, index_kinds, number_rule, index_in, named_in, paren_in, list_in, concat_in, primary_in, signed_in, unary_in, binary_in, branches_in, expr_in, inner_at, part_expr, whole_expr, pair, snoc, spelled, literal_or, selected, before_one, joined, test_or_choice}
-use Rattle.cov_grammar.proofs.Sets.{disjoint, subset}
+use Rattle.cov_grammar.specs.Expressions.{index_kinds, number_rule, index_in, named_in, paren_in, list_in, concat_in, primary_in, signed_in, unary_in, binary_in, branches_in, expr_in, inner_at, part_expr, whole_expr, pair, snoc, spelled, literal_or, selected, before_one, joined, test_or_choice}
+use Rattle.cov_grammar.proofs.Sets.{disjoint}
 use Rattle.cov_grammar.proofs.Sound.{Under, Sound}
 use Rattle.cov_grammar.proofs.Lawful.{Lawful, Lawfuls, lawful_one, lawful_word, lawful_here, lawful_counted, lawful_map, lawful_maybe, lawful_both, lawful_either, lawful_fold}
-use Rattle.cov_grammar.proofs.Compose.{counting_anew, map_reads, map_fails, both_reads, both_fails, both_then_fails, maybe_fails, afresh_reads, afresh_fails}
+use Rattle.cov_grammar.proofs.Compose.{counting_anew, map_reads, map_fails, maybe_fails, afresh_reads, afresh_fails}
 use Rattle.cov_grammar.proofs.Steps.{Leads, leads_self, then, here_reads, both_opens, no_start, step, ends, bind_step, without, maybe_step, left, right, deep_leads, deep_sinks, fold_starts, fold_fails, item_read, item_fails, item_sinks, no_item, one_next, reads_order, item_falls}
-use Rattle.cov_grammar.proofs.ExprLaws.{on_binary, apart, no_question, inner, number_lawful, index_lawful, named_lawful, paren_lawful, concat_lawful, primary_lawful, signed_lawful, unary_lawful, binary_lawful, branches_lawful, part_expr_lawful, whole_expr_lawful}
+use Rattle.cov_grammar.proofs.ExprLaws.{on_binary, apart, no_question, inner, number_lawful, index_lawful, named_lawful, paren_lawful, concat_lawful, primary_lawful, signed_lawful, unary_lawful, binary_lawful, branches_lawful, part_expr_lawful}
 
 module _ (text : List ℕ) (ts : List Marked) where
   -- an expression of its own count

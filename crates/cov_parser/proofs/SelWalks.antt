@@ -1,27 +1,26 @@
 -- Where a reader of selections stands, from one part of a rule to the next.
-use Rattle.std.proofs.Common.{◌≡◌, ℕ, suc, ◌+◌, ◌-◌, ◌<◌, List, [], ◌∷◌, ◌++◌, Option, Some, None, IfSome, IfNone, true, false, length, refl, sym, ap, subst, inl, inr, arith}
+use Rattle.std.proofs.Common.{◌≡◌, ℕ, ◌+◌, ◌-◌, ◌<◌, List, [], ◌∷◌, Option, Some, None, IfSome, IfNone, length, refl, sym, ap, subst, inl, arith}
 use Rattle.cov_tree.specs.declared.bins.Elem.{Elem}
 use Rattle.cov_tree.specs.declared.groups.Sel.{Sel}
-use Rattle.cov_tree.specs.Exprs.{bins_of, none_of, both_of, either_of}
+use Rattle.cov_tree.specs.Exprs.{none_of, both_of, either_of}
 use Rattle.cov_grammar.specs.declared.kind.Kind.{Kind}
-use Rattle.cov_grammar.specs.declared.kind.Kind.TheVariants.{Ident, BinsofWord, IntersectWord, OpenParen, CloseParen, OpenBrace, CloseBrace, Dot, Bang, AndAnd, OrOr}
+use Rattle.cov_grammar.specs.declared.kind.Kind.TheVariants.{BinsofWord, IntersectWord, OpenParen, CloseParen, OpenBrace, CloseBrace, Dot, Bang, AndAnd, OrOr}
 use Rattle.cov_grammar.specs.declared.kind.Marked.{Marked}
 use Rattle.cov_grammar.specs.declared.place.Place.{Place}
 use Rattle.cov_grammar.specs.declared.place.Room.{Room}
 use Rattle.cov_grammar.specs.declared.place.Standing.TheVariants.{Plain}
 use Rattle.cov_grammar.specs.declared.place.Stop.{Stop}
-use Rattle.cov_grammar.specs.declared.place.Stop.TheVariants.{Syntax, TooDeep}
-use Rattle.cov_grammar.specs.Rule.{Rule, In, one, word, counted, both, bind, either, many, map_to, ahead, behind, maybe, afresh}
+use Rattle.cov_grammar.specs.declared.place.Stop.TheVariants.{TooDeep}
+use Rattle.cov_grammar.specs.Rule.{Rule, In, one, word, counted, both, bind, either, many, map_to, ahead, behind, maybe}
 use Rattle.cov_grammar.specs.Parses.{Reads, Fails}
 use Rattle.cov_grammar.specs.Expressions.{pair}
 use Rattle.cov_grammar.specs.Bins.{ident, elems}
-use Rattle.cov_grammar.specs.Groups.{SelInner, bins_of_token, binsof_in, not_in, sel_paren_in, sunary_in, sand_in, sel_in, sel_inner_at, part_sel, sel}
-use Rattle.cov_grammar.proofs.Sets.{disjoint}
-use Rattle.cov_grammar.proofs.Lawful.{Lawful, Lawfuls, lawful_word, lawful_counted, lawful_map, lawful_maybe, lawful_both, lawful_either}
-use Rattle.cov_grammar.proofs.Compose.{counting_anew, map_reads, map_fails, both_reads, both_fails, both_then_fails, afresh_reads, afresh_fails}
-use Rattle.cov_grammar.proofs.Steps.{Leads, leads_self, then, both_opens, no_start, step, ends, map_leads, without, maybe_step, left, right, deep_leads, deep_sinks, fold_starts, fold_fails, item_read, item_fails, item_sinks, no_item, one_next, reads_order, item_falls}
+use Rattle.cov_grammar.specs.Groups.{bins_of_token, binsof_in, not_in, sel_paren_in, sunary_in, sand_in, sel_in, sel_inner_at, part_sel, sel}
+use Rattle.cov_grammar.proofs.Lawful.{Lawful, lawful_word, lawful_counted, lawful_map, lawful_maybe, lawful_both, lawful_either}
+use Rattle.cov_grammar.proofs.Compose.{counting_anew, both_reads, both_fails, both_then_fails, afresh_reads, afresh_fails}
+use Rattle.cov_grammar.proofs.Steps.{Leads, leads_self, then, both_opens, step, ends, map_leads, without, maybe_step, left, right, deep_leads, deep_sinks, fold_starts, fold_fails, item_read, item_fails, item_sinks, no_item, one_next, reads_order}
 use Rattle.cov_grammar.proofs.BinsLaws.{ident_lawful, elems_lawful}
-use Rattle.cov_grammar.proofs.GroupLaws.{sel_firsts, sel_inner, dotted_lawful, binsof_lawful, not_lawful, sel_paren_lawful, sunary_lawful, sand_lawful, part_sel_lawful, sel_lawful}
+use Rattle.cov_grammar.proofs.GroupLaws.{sel_inner, dotted_lawful, binsof_lawful, not_lawful, sel_paren_lawful, sunary_lawful, sand_lawful, part_sel_lawful}
 
 -- a room with one level less
 pub one_less : (b d : Room) → b ≡ record { levels = d.levels - 1; operators = d.operators } → 0 < d.levels → b.levels + 1 ≡ d.levels

@@ -1,7 +1,7 @@
 -- Tables of spellings by their first byte.
-use Rattle.std.proofs.Common.{◌≡◌, ◌≢◌, ℕ, ◌<◌, List, [], ◌∷◌, Bool, true, false, ◌&&◌, inl, inr, cond, eqb, length, get_or, refl, sym, ◌∙◌, ap, subst, arith}
+use Rattle.std.proofs.Common.{◌≡◌, ◌≢◌, ℕ, ◌<◌, List, [], ◌∷◌, Bool, true, false, inl, inr, cond, eqb, length, get_or, refl, sym, ap, subst, arith}
 use lib.Pointwise.{pointwise}
-use Rattle.std.proofs.lemmas.Bool.{cases_Bool, eqb-true, and_parts, and_left}
+use Rattle.std.proofs.lemmas.Bool.{cases_Bool, eqb-true, and_left}
 use Rattle.cov_grammar.specs.declared.kind.Kind.{Kind}
 use Rattle.cov_grammar.specs.declared.kind.Kind.TheVariants.{OtherWord}
 use Rattle.cov_grammar.specs.Marking.{Spelling, spellings, kind_among, kind_spelled}

@@ -1,25 +1,24 @@
 -- Where a reader of types stands, from one part of a rule to the next.
-use Rattle.std.proofs.Common.{◌≡◌, ℕ, ◌+◌, ◌-◌, ◌<◌, List, [], ◌∷◌, ◌++◌, Option, Some, None, true, false, length, refl, arith}
+use Rattle.std.proofs.Common.{ℕ, List, [], ◌∷◌, ◌++◌, Option, Some, None, refl, arith}
 use Rattle.cov_tree.specs.declared.expr.Expr.{Expr}
-use Rattle.cov_tree.specs.declared.declarations.TypeText.{TypeText}
 use Rattle.cov_grammar.specs.declared.kind.Kind.{Kind}
-use Rattle.cov_grammar.specs.declared.kind.Kind.TheVariants.{Ident, SignedWord, UnsignedWord, CloseSquare, Colon}
+use Rattle.cov_grammar.specs.declared.kind.Kind.TheVariants.{Ident, CloseSquare, Colon}
 use Rattle.cov_grammar.specs.declared.kind.Marked.{Marked}
 use Rattle.cov_grammar.specs.declared.place.Place.{Place}
 use Rattle.cov_grammar.specs.declared.place.Room.{Room}
 use Rattle.cov_grammar.specs.declared.place.Stop.{Stop}
 use Rattle.cov_grammar.specs.declared.place.Stop.TheVariants.{Syntax}
-use Rattle.cov_grammar.specs.Rule.{Rule, In, one, word, both, either, map_to, ahead, behind, maybe}
+use Rattle.cov_grammar.specs.Rule.{Rule, In, one, word, both, ahead, behind, maybe}
 use Rattle.cov_grammar.specs.Parses.{Reads, Fails}
 use Rattle.cov_grammar.specs.Expressions.{pair, expr}
 use Rattle.cov_grammar.specs.Bins.{squares}
 use Rattle.cov_grammar.specs.Designs.{vector_words, fixed_words, vector_of, fixed_of, named_type, sign, vector_span, vector, fixed, built_in, type_text}
-use Rattle.cov_grammar.proofs.Sets.{disjoint, In_apart}
+use Rattle.cov_grammar.proofs.Sets.{In_apart}
 use Rattle.cov_grammar.proofs.Lawful.{Lawful, lawful_word, lawful_one, lawful_map, lawful_maybe, lawful_both}
-use Rattle.cov_grammar.proofs.Compose.{map_reads, map_fails, both_reads, both_fails, both_then_fails, left_reads, left_fails, right_reads, right_fails, maybe_some}
-use Rattle.cov_grammar.proofs.Steps.{Leads, leads_self, then, no_start, step, ends, map_leads, without, maybe_step, left, right, one_next}
+use Rattle.cov_grammar.proofs.Compose.{map_reads, both_reads, both_fails, both_then_fails, left_reads, left_fails, right_reads, maybe_some}
+use Rattle.cov_grammar.proofs.Steps.{Leads, leads_self, no_start, step, ends, without, maybe_step, one_next}
 use Rattle.cov_grammar.proofs.ExprLaws.{expr_lawful}
-use Rattle.cov_grammar.proofs.DesignLaws.{signs, sign_lawful, vector_span_lawful, vector_lawful, fixed_lawful, built_in_lawful, type_text_lawful}
+use Rattle.cov_grammar.proofs.DesignLaws.{signs, sign_lawful, vector_span_lawful, vector_lawful, fixed_lawful, built_in_lawful}
 
 module _ (text : List ℕ) (ts : List Marked) where
   abbrev w : (k : Kind) → Lawful ts (λ _. one ts (k ∷ []))

@@ -1,6 +1,6 @@
 -- Where a reader stands behind single tokens.
-use Rattle.std.proofs.Common.{◌≡◌, ℕ, ◌+◌, ◌-◌, ◌<◌, List, [], ◌∷◌, ◌++◌, refl, sym, ap, subst, arith}
-use Rattle.std.proofs.Common.{Result, Ok, Err, IfErr, true, false, not, Bool, ◌∙◌}
+use Rattle.std.proofs.Common.{◌≡◌, ℕ, ◌+◌, List, sym, ap, subst}
+use Rattle.std.proofs.Common.{Result, IfErr}
 use Rattle.std.proofs.lemmas.Result.{err_from_is_err_and}
 use Rattle.std.specs.Result.{IsErrAnd}
 use Rattle.cov_grammar.specs.declared.kind.Kind.{Kind}
@@ -10,11 +10,11 @@ use Rattle.cov_grammar.specs.declared.place.Place.{Place}
 use Rattle.cov_grammar.specs.declared.place.Room.{Room}
 use Rattle.cov_grammar.specs.declared.place.Stop.{Stop}
 use Rattle.cov_grammar.specs.declared.place.Stop.TheVariants.{Memory}
-use Rattle.cov_grammar.specs.Rule.{Rule, In, after, one, word, counted}
+use Rattle.cov_grammar.specs.Rule.{Rule, after, one, word}
 use Rattle.cov_grammar.specs.Parses.{Reads, Fails}
 use Rattle.cov_grammar.specs.Expressions.{spelled}
 use Rattle.cov_grammar.specs.Bins.{ident}
-use Rattle.cov_grammar.proofs.Lawful.{Lawful, lawful_word}
+use Rattle.cov_grammar.proofs.Lawful.{lawful_word}
 use Rattle.cov_grammar.proofs.Compose.{map_reads, map_fails}
 use Rattle.cov_grammar.proofs.Steps.{one_next}
 

@@ -1,5 +1,5 @@
 -- Nodes that are out, in a tree in which each node but 0 has a parent of a smaller number.
-use Rattle.std.specs.Prelude.{◌≡◌, ℕ, zero, ◌<◌, List, length, slice_index, slice_index_or, Bool, true, false}
+use Rattle.std.specs.Prelude.{◌≡◌, ℕ, ◌<◌, List, length, slice_index, slice_index_or, Bool, true, false}
 
 -- `IsAbove parents n m`: m is n itself, or it stands above n
 pub data IsAbove (parents : List ℕ) : ℕ → ℕ → Type 0 where

@@ -1,13 +1,13 @@
 -- Rows of ascending bins.
-use Rattle.std.proofs.Common.{◌≡◌, ℕ, ◌+◌, ◌≤◌, ◌<◌, zero, suc, List, [], ◌∷◌, ◌++◌, Bool, true, false, cond, length, get_or, set, drop, refl, sym, ap, subst, ◌∙◌, arith, inl, inr, eqb, append_assoc, Result, Ok, Err}
+use Rattle.std.proofs.Common.{◌≡◌, ℕ, ◌+◌, ◌≤◌, ◌<◌, zero, suc, List, [], ◌∷◌, ◌++◌, Bool, true, false, cond, length, get_or, set, drop, refl, sym, ap, subst, ◌∙◌, arith, inl, inr, eqb, Ok, Err}
 use Rattle.std.specs.List.Sorted.{IsBinarySearchResult, IsNonDecreasingBy}
 use Rattle.std.specs.Ordering.{nat_cmp, ordering_index}
 use Rattle.std.proofs.lemmas.Cmp.{ranked}
 use Rattle.std.proofs.lemmas.List.Sorted.{IsNonDecreasingBy-from_default}
 use Rattle.std.proofs.lemmas.Bool.Decides.{nat_tests}
-use Rattle.std.proofs.lemmas.Bool.{cases_eq, cases_lt, eq-eqb, ne_eqb, eqb-false, eqb-true, cases_Bool}
-use Rattle.std.proofs.lemmas.List.{drop_more, drop_all, get_or-set_same, get_or-set_other, length-set, get_or_default}
-use Rattle.tally.specs.Rows.{rows_from, count_in, IsAscendingFrom, Adds}
+use Rattle.std.proofs.lemmas.Bool.{cases_eq, cases_lt, eq-eqb, ne_eqb, eqb-false, eqb-true}
+use Rattle.std.proofs.lemmas.List.{drop_more, get_or-set_same, get_or-set_other, length-set, get_or_default}
+use Rattle.tally.specs.Rows.{rows_from, count_in, IsAscendingFrom}
 
 pub ascending_weaker : (low bin : ℕ) (rows : List (ℕ × ℕ)) → low ≤ bin → IsAscendingFrom bin rows → IsAscendingFrom low rows
 ascending_weaker low bin [] le h = tt

@@ -1,6 +1,5 @@
 -- Counts of bins, of which only those above 0 are kept: rows of a bin and its count.
-use Rattle.std.specs.Prelude.{◌≡◌, ℕ, suc, ◌+◌, ◌<◌, ◌≤◌, ◌==◌, List, [], ◌∷◌, length, slice_index, if◌then◌else◌}
-use Rattle.std.specs.List.{AllByRecursion}
+use Rattle.std.specs.Prelude.{◌≡◌, ℕ, ◌+◌, ◌<◌, ◌≤◌, ◌==◌, List, [], ◌∷◌, length, slice_index, if◌then◌else◌}
 
 -- the rows of the counts of the bins from `bin` on
 abbrev pub rows_from : ℕ → List ℕ → List (ℕ × ℕ)

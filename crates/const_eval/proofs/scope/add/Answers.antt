@@ -1,6 +1,6 @@
-use Rattle.std.proofs.Common.{◌≡◌, ℕ, List, refl, sym, ap, ◌∙◌, subst, false}
+use Rattle.std.proofs.Common.{◌≡◌, refl, sym, ap, ◌∙◌, subst, false}
 use Rattle.std.specs.Prelude.{is_some}
-use Rattle.const_eval.specs.Scopes.{Names, meaning_of, entry_names, added}
+use Rattle.const_eval.specs.Scopes.{meaning_of, entry_names, added}
 use Rattle.const_eval.proofs.Named.{insert_absent}
 use Rattle.const_eval.proofs.scope.add.Goals as goal
 

@@ -1,4 +1,4 @@
-use Rattle.std.proofs.Common.{◌≡◌, nat_eq, ◌∙◌}
+use Rattle.std.proofs.Common.{nat_eq, ◌∙◌}
 use Rattle.std.specs.Cmp.Lexicographic.{pointwise}
 use Rattle.const_eval.specs.Scopes.{meaning_of}
 use Rattle.const_eval.proofs.Named.{lookup_entries}

@@ -1,4 +1,4 @@
-use Rattle.std.proofs.Common.{◌≡◌, ℕ, ◌+◌, ◌*◌, ◌%◌, ◌^◌, ◌<◌, ap, sym, subst, arith}
+use Rattle.std.proofs.Common.{◌+◌, ◌*◌, ◌^◌, ◌<◌, ap, sym, subst}
 use Rattle.const_eval.proofs.Words.{joined_below, shifted_whole}
 use Rattle.const_eval.proofs.values.beside.Goals as goal
 

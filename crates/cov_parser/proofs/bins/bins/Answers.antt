@@ -1,9 +1,8 @@
-use Rattle.std.proofs.Common.{refl, [], ◌∷◌}
+use Rattle.std.proofs.Common.{refl}
 use Rattle.cov_grammar.specs.declared.kind.Kind.TheVariants.{Assign, Semi}
 use Rattle.cov_grammar.proofs.Lawful.{lawful_word, lawful_maybe}
 use Rattle.cov_grammar.proofs.Compose.{both_reads, both_fails, both_then_fails}
-use Rattle.cov_grammar.proofs.Steps.{exits, step, ends}
-use Rattle.cov_grammar.specs.Bins.{BinsHead}
+use Rattle.cov_grammar.proofs.Steps.{exits}
 use Rattle.cov_grammar.proofs.BinsLaws.{guard_lawful, right_lawful}
 use Rattle.cov_parser.proofs.BinsWalks.{bins_unread, bins_breaks, bins_leads, answer_lawful, guard_end_lawful}
 use Rattle.cov_parser.proofs.bins.bins.Goals as goal

@@ -1,8 +1,3 @@
-use Rattle.std.proofs.Common.{refl, [], ◌∷◌}
-use Rattle.cov_grammar.specs.declared.kind.Kind.TheVariants.{WildcardWord}
-use Rattle.cov_grammar.proofs.Lawful.{lawful_word, lawful_maybe}
-use Rattle.cov_grammar.proofs.Compose.{both_reads, both_fails, both_then_fails}
-use Rattle.cov_grammar.proofs.Steps.{exits, step, ends}
 use Rattle.cov_parser.proofs.Walks.{exits_if}
 use Rattle.cov_parser.proofs.BinsWalks.{head_unread, head_breaks, head_reads}
 use Rattle.cov_parser.proofs.bins.bins_head.Goals as goal

@@ -1,8 +1,3 @@
-use Rattle.std.proofs.Common.{refl, [], ◌∷◌}
-use Rattle.cov_grammar.specs.declared.kind.Kind.TheVariants.{Comma}
-use Rattle.cov_grammar.proofs.Lawful.{lawful_word, lawful_maybe}
-use Rattle.cov_grammar.proofs.Compose.{both_reads, both_fails, both_then_fails}
-use Rattle.cov_grammar.proofs.Steps.{exits, step, ends}
 use Rattle.cov_grammar.proofs.Steps.{one_fails}
 use Rattle.cov_parser.proofs.BinsWalks.{bins_word_reads, bins_word_fails}
 use Rattle.cov_parser.proofs.bins.bins_word.Goals as goal

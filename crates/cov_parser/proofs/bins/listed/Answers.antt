@@ -1,8 +1,4 @@
-use Rattle.std.proofs.Common.{refl, [], ◌∷◌}
-use Rattle.cov_grammar.specs.declared.kind.Kind.TheVariants.{OpenParen}
-use Rattle.cov_grammar.proofs.Lawful.{lawful_word, lawful_maybe}
-use Rattle.cov_grammar.proofs.Compose.{both_reads, both_fails, both_then_fails}
-use Rattle.cov_grammar.proofs.Steps.{exits, step, ends}
+use Rattle.cov_grammar.proofs.Steps.{exits}
 use Rattle.std.proofs.Common.{not, sym, ap, ◌∙◌}
 use Rattle.cov_grammar.proofs.Steps.{leads_parses}
 use Rattle.cov_parser.proofs.BinsWalks.{only_values, rather_values, rather_seqs}

@@ -1,9 +1,3 @@
-use Rattle.std.proofs.Common.{refl, [], ◌∷◌}
-use Rattle.cov_grammar.specs.declared.kind.Kind.TheVariants.{DefaultWord}
-use Rattle.cov_grammar.proofs.Lawful.{lawful_word, lawful_maybe}
-use Rattle.cov_grammar.proofs.Compose.{both_reads, both_fails, both_then_fails}
-use Rattle.cov_grammar.proofs.Steps.{exits, step, ends}
-use Rattle.std.proofs.Common.{sym, ◌∙◌}
 use Rattle.cov_grammar.proofs.Steps.{leads_parses}
 use Rattle.cov_parser.proofs.BinsWalks.{not_default, no_default, default_part, default_reads}
 use Rattle.cov_parser.proofs.bins.right.Goals as goal

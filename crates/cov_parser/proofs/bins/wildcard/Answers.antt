@@ -1,8 +1,4 @@
-use Rattle.std.proofs.Common.{refl, [], ◌∷◌}
-use Rattle.cov_grammar.specs.declared.kind.Kind.TheVariants.{WildcardWord}
-use Rattle.cov_grammar.proofs.Lawful.{lawful_word, lawful_maybe}
-use Rattle.cov_grammar.proofs.Compose.{both_reads, both_fails, both_then_fails}
-use Rattle.cov_grammar.proofs.Steps.{exits, step, ends}
+use Rattle.std.proofs.Common.{refl, []}
 use Rattle.std.proofs.Common.{Some, None}
 use Rattle.cov_parser.proofs.BinsWalks.{has_wildcard, no_wildcard}
 use Rattle.cov_parser.proofs.bins.wildcard.Goals as goal

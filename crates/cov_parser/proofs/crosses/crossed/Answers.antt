@@ -1,4 +1,4 @@
-use Rattle.std.proofs.Common.{arith, refl, ◌-◌}
+use Rattle.std.proofs.Common.{refl}
 use Rattle.cov_grammar.specs.declared.kind.Kind.TheVariants.{Comma}
 use Rattle.std.proofs.Common.{[], ◌∷◌}
 use Rattle.cov_grammar.specs.declared.place.Room.{Room}

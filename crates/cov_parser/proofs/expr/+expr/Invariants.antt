@@ -1,4 +1,4 @@
-use Rattle.std.proofs.Common.{ℕ, ◌+◌, ◌-◌, ◌*◌, length}
+use Rattle.std.proofs.Common.{◌+◌, ◌-◌, ◌*◌, length}
 use Rattle.cov_parser.proofs.ExprWalks.{Joins, Lists}
 use Rattle.cov_parser.proofs.expr.+expr.Given as goal
 

@@ -1,4 +1,4 @@
-use Rattle.std.proofs.Common.{◌≡◌, ◌++◌, ℕ, length}
+use Rattle.std.proofs.Common.{◌≡◌, ◌++◌, length}
 use Rattle.cov_grammar.specs.Marking.{marked, marked_from}
 use Rattle.cov_parser.proofs.marks.marks.Given as goal
 

@@ -1,8 +1,8 @@
-use Rattle.std.proofs.Common.{refl, [], ◌∷◌}
+use Rattle.std.proofs.Common.{refl}
 use Rattle.cov_grammar.specs.declared.kind.Kind.TheVariants.{Dot, Assign, Semi}
-use Rattle.cov_grammar.proofs.Lawful.{lawful_word, lawful_maybe}
+use Rattle.cov_grammar.proofs.Lawful.{lawful_word}
 use Rattle.cov_grammar.proofs.Compose.{both_reads, both_fails, both_then_fails}
-use Rattle.cov_grammar.proofs.Steps.{exits, step, ends}
+use Rattle.cov_grammar.proofs.Steps.{exits}
 use Rattle.cov_grammar.proofs.Lawful.{lawful_one}
 use Rattle.cov_grammar.proofs.Steps.{one_fails}
 use Rattle.cov_grammar.proofs.BinsLaws.{ident_lawful, option_value_lawful}

@@ -1,4 +1,4 @@
-use Rattle.std.proofs.Common.{◌-◌, arith}
+use Rattle.std.proofs.Common.{arith}
 use Rattle.cov_grammar.proofs.Whole.{stands_first, stands_next, decl_inside, whole_derives, decl_fails}
 use Rattle.cov_grammar.specs.Fault.{limits}
 use Rattle.cov_parser.proofs.DeclWalks.{err_given}

@@ -1,11 +1,10 @@
-use Rattle.std.proofs.Common.{refl, sym, ◌∙◌, [], ◌∷◌, ◌-◌}
+use Rattle.std.proofs.Common.{refl, sym, ◌∙◌, [], ◌∷◌}
 use Rattle.cov_grammar.specs.declared.kind.Kind.TheVariants.{WildcardWord, BinsWord, IllegalBinsWord, IgnoreBinsWord, OptionWord, TypeOptionWord, CloseBrace}
 use Rattle.cov_grammar.specs.Bins.{bins}
-use Rattle.cov_grammar.specs.Groups.{cross_bins}
 use Rattle.cov_grammar.proofs.Sets.{In_apart}
 use Rattle.cov_grammar.proofs.Steps.{exits}
 use Rattle.cov_grammar.proofs.BinsLaws.{bins_lawful, optset_lawful}
-use Rattle.cov_grammar.proofs.GroupLaws.{option_words, cross_bins_lawful, point_entry_lawful, cross_entry_lawful}
+use Rattle.cov_grammar.proofs.GroupLaws.{option_words, point_entry_lawful}
 use Rattle.cov_parser.proofs.GroupWalks.{is_of, is_not_of, body_semi, no_body, body_opens, option_read, option_fails, bins_read, bins_fail, body_closes, entry_falls}
 use Rattle.cov_parser.proofs.points.body.Goals as goal
 

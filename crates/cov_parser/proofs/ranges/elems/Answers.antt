@@ -1,8 +1,6 @@
-use Rattle.std.proofs.Common.{refl, [], ◌∷◌}
+use Rattle.std.proofs.Common.{[], ◌∷◌}
 use Rattle.cov_grammar.specs.declared.kind.Kind.TheVariants.{Comma}
-use Rattle.cov_grammar.proofs.Lawful.{lawful_word, lawful_maybe}
-use Rattle.cov_grammar.proofs.Compose.{both_reads, both_fails, both_then_fails}
-use Rattle.cov_grammar.proofs.Steps.{exits, step, ends}
+use Rattle.cov_grammar.proofs.Steps.{exits}
 use Rattle.cov_grammar.proofs.BinsLaws.{elem_lawful, no_comma}
 use Rattle.cov_parser.proofs.Chains.{chain_first, chain_next, chain_falls}
 use Rattle.cov_parser.proofs.BinsWalks.{elems_fails, elems_breaks, elems_ends}

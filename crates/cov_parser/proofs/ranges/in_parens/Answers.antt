@@ -1,8 +1,8 @@
-use Rattle.std.proofs.Common.{refl, [], ◌∷◌}
+use Rattle.std.proofs.Common.{refl}
 use Rattle.cov_grammar.specs.declared.kind.Kind.TheVariants.{OpenParen, CloseParen}
-use Rattle.cov_grammar.proofs.Lawful.{lawful_word, lawful_maybe}
+use Rattle.cov_grammar.proofs.Lawful.{lawful_word}
 use Rattle.cov_grammar.proofs.Compose.{both_reads, both_fails, both_then_fails}
-use Rattle.cov_grammar.proofs.Steps.{exits, step, ends}
+use Rattle.cov_grammar.proofs.Steps.{exits}
 use Rattle.cov_grammar.proofs.ExprLaws.{expr_lawful}
 use Rattle.cov_parser.proofs.BinsWalks.{close_lawful}
 use Rattle.cov_parser.proofs.ranges.in_parens.Goals as goal

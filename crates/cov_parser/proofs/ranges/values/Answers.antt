@@ -1,8 +1,8 @@
-use Rattle.std.proofs.Common.{refl, [], ◌∷◌}
+use Rattle.std.proofs.Common.{refl}
 use Rattle.cov_grammar.specs.declared.kind.Kind.TheVariants.{OpenBrace, CloseBrace}
 use Rattle.cov_grammar.proofs.Lawful.{lawful_word, lawful_maybe}
 use Rattle.cov_grammar.proofs.Compose.{both_reads, both_fails, both_then_fails}
-use Rattle.cov_grammar.proofs.Steps.{exits, step, ends}
+use Rattle.cov_grammar.proofs.Steps.{exits}
 use Rattle.cov_grammar.proofs.BinsLaws.{ident_lawful, keep_lawful, elems_lawful}
 use Rattle.cov_grammar.specs.declared.place.Standing.TheVariants.{Plain}
 use Rattle.cov_parser.proofs.BinsWalks.{named_leads, ranges_leads, keep_unread, keep_breaks, keep_reads, elems_close_lawful, braces_lawful}

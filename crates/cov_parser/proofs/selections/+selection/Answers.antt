@@ -1,4 +1,4 @@
-use Rattle.std.proofs.Common.{arith, refl, ◌-◌}
+use Rattle.std.proofs.Common.{arith}
 use Rattle.cov_grammar.proofs.Steps.{exits, leads_parses}
 use Rattle.cov_grammar.proofs.GroupLaws.{sunary_lawful, sand_lawful}
 use Rattle.cov_parser.proofs.SelWalks.{one_less, same_operators, ors_start, ors_fail, or_next, or_breaks, or_full, ors_end, ands_start, ands_fail, and_next, and_breaks, and_full, ands_end, less_left, negated, no_room_to_negate, enclosed, no_room_to_enclose, closes, inside_fails, no_paren}

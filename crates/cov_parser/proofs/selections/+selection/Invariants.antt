@@ -1,4 +1,4 @@
-use Rattle.std.proofs.Common.{ℕ, ◌+◌, ◌-◌, ◌*◌, length}
+use Rattle.std.proofs.Common.{◌+◌, ◌-◌, ◌*◌, length}
 use Rattle.cov_parser.proofs.SelWalks.{Ors, Ands}
 use Rattle.cov_parser.proofs.selections.+selection.Given as goal
 

@@ -1,8 +1,3 @@
-use Rattle.std.proofs.Common.{refl, [], ◌∷◌}
-use Rattle.cov_grammar.specs.declared.kind.Kind.TheVariants.{Colon}
-use Rattle.cov_grammar.proofs.Lawful.{lawful_word, lawful_maybe}
-use Rattle.cov_grammar.proofs.Compose.{both_reads, both_fails, both_then_fails}
-use Rattle.cov_grammar.proofs.Steps.{exits, step, ends}
 use Rattle.cov_grammar.proofs.ExprLaws.{expr_lawful}
 use Rattle.cov_parser.proofs.Chains.{read_again, fails_no_more}
 use Rattle.cov_parser.proofs.steps.high_end.Goals as goal

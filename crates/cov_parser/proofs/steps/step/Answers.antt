@@ -1,8 +1,4 @@
-use Rattle.std.proofs.Common.{refl, [], ◌∷◌}
-use Rattle.cov_grammar.specs.declared.kind.Kind.TheVariants.{Comma}
-use Rattle.cov_grammar.proofs.Lawful.{lawful_word, lawful_maybe}
-use Rattle.cov_grammar.proofs.Compose.{both_reads, both_fails, both_then_fails}
-use Rattle.cov_grammar.proofs.Steps.{exits, step, ends}
+use Rattle.cov_grammar.proofs.Steps.{exits}
 use Rattle.cov_parser.proofs.BinsWalks.{step_fails, step_breaks, step_reads}
 use Rattle.cov_parser.proofs.steps.step.Goals as goal
 

@@ -1,8 +1,6 @@
 use Rattle.std.proofs.Common.{refl, [], ◌∷◌}
 use Rattle.cov_grammar.specs.declared.kind.Kind.TheVariants.{FatArrow}
-use Rattle.cov_grammar.proofs.Lawful.{lawful_word, lawful_maybe}
-use Rattle.cov_grammar.proofs.Compose.{both_reads, both_fails, both_then_fails}
-use Rattle.cov_grammar.proofs.Steps.{exits, step, ends}
+use Rattle.cov_grammar.proofs.Steps.{exits}
 use Rattle.cov_grammar.proofs.BinsLaws.{step_lawful}
 use Rattle.cov_parser.proofs.Chains.{chain_first, chain_fails, chain_next, chain_breaks, chain_ends, chain_falls}
 use Rattle.cov_parser.proofs.steps.steps.Goals as goal

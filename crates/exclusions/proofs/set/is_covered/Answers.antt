@@ -1,4 +1,4 @@
-use Rattle.std.proofs.Common.{◌≡◌, ◌<◌, refl, arith}
+use Rattle.std.proofs.Common.{◌<◌, refl, arith}
 use Rattle.exclusions.proofs.Parents.{covered_up, covered_down, covered_here}
 use Rattle.exclusions.proofs.set.is_covered.Goals as goal
 

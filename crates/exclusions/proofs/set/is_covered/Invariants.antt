@@ -1,5 +1,4 @@
 use Rattle.std.proofs.Common.{◌<◌, length}
-use Rattle.std.specs.Prelude.{◌↔◌}
 use Rattle.exclusions.specs.Above.{IsCovered}
 use Rattle.exclusions.proofs.set.is_covered.Given as goal
 

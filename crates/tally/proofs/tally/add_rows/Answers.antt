@@ -1,4 +1,4 @@
-use Rattle.std.proofs.Common.{◌≡◌, ℕ, ◌+◌, List, ◌∷◌, get_or, drop, subst, arith}
+use Rattle.std.proofs.Common.{◌≡◌, ℕ, ◌+◌, List, ◌∷◌, get_or, drop, subst}
 use Rattle.std.proofs.lemmas.List.{drop_more}
 use Rattle.tally.specs.Rows.{IsAscendingFrom}
 use Rattle.tally.proofs.RowLemmas.{Added, add_row, ascending_drop}
