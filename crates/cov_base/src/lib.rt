@@ -17,8 +17,9 @@ mod sink;
 mod source;
 
 pub use book::Book;
+pub use cov_ground::Memory;
 pub use door::Door;
-pub use failed::{Failed, Memory};
+pub use failed::Failed;
 pub use gate::{Gate, OpenGate};
 pub use int::Int;
 pub use link::{Link, Pair};

@@ -9,17 +9,16 @@ mod expr;
 mod groups;
 mod list;
 mod literal;
-mod memory;
 mod name;
 
 pub use bins::{BinsDecl, Elem, End, OptDecl, OptText, Right, Size, Step, Times, Word};
 pub use boxed::Boxed;
+pub use cov_ground::Memory;
 pub use declarations::{Decl, DesignText, TypeText};
 pub use expr::{BinOp, Expr, UnOp};
 pub use groups::{CrossBins, CrossDecl, EdgeKind, EdgeText, Formal, Member, PointDecl, Sel};
 pub use list::List;
 pub use literal::Literal;
-pub use memory::Memory;
 pub use name::Name;
 
 #[cfg(test)]

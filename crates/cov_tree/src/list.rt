@@ -1,6 +1,8 @@
 //! A list of any type.
-ghost use Rattle.std.specs.Prelude.{◌≡◌};
+ghost use Rattle.std.specs.Prelude.{◌≡◌, OnOk, ◌++◌, ◌∷◌, []};
 
+use crate::Memory;
+use std::alloc::Global;
 use std::marker::Model;
 
 /// Elements in order.
@@ -21,6 +23,15 @@ impl<T> Model for List<T> {
 }
 
 impl<T> List<T> {
+    /// A list without elements. It takes no memory.
+    pub fn new(alloc: Global) -> List<T>
+        ensures { result ≡ [] }
+    {
+        List {
+            items: Vec::new(alloc),
+        }
+    }
+
     /// The elements themselves. It takes no memory.
     pub fn of(items: Vec<T>) -> List<T>
         ensures { result ≡ items.items }
@@ -40,5 +51,24 @@ impl<T> List<T> {
         ensures { result.items ≡ self }
     {
         self.items
+    }
+}
+
+impl<T: Drop> List<T> {
+    /// One more element at the end.
+    pub fn push(&mut self, item: T) -> Result<(), Memory>
+        ensures { OnOk result (self.new ≡ self.old ++ item ∷ []) }
+    {
+        self.items.push(item)?;
+        Ok(())
+    }
+
+    /// The elements of another list behind its own.
+    pub fn append(&mut self, other: List<T>) -> Result<(), Memory>
+        ensures { OnOk result (self.new ≡ self.old ++ other) }
+    {
+        let mut items = other.items;
+        self.items.append(&mut items)?;
+        Ok(())
     }
 }

@@ -36,6 +36,13 @@ impl Name {
         Name { bytes }
     }
 
+    /// The same bytes once more.
+    pub fn copy(&self, alloc: Global) -> Result<Name, Memory>
+        ensures { IfOk result (λ copy. copy ≡ self.now) }
+    {
+        Name::of(alloc, self.as_slice())
+    }
+
     /// Its bytes.
     pub fn as_slice(&self) -> &[u8]
         ensures { result.now ≡ self.now }

@@ -81,14 +81,6 @@ impl<T: Drop> From<AllocFailed<T>> for CompileFault {
     }
 }
 
-impl From<cov_tree::Memory> for CompileFault {
-    ghost from_gives = { λ _ e. e ≡ Memory };
-
-    fn from(_: cov_tree::Memory) -> Self {
-        CompileFault::Memory
-    }
-}
-
 impl From<cov_base::Memory> for CompileFault {
     ghost from_gives = { λ _ e. e ≡ Memory };
 

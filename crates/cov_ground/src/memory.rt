@@ -1,5 +1,5 @@
 //! Want of memory.
-use std::alloc::AllocError;
+use std::alloc::{AllocError, AllocFailed};
 use thiserror::Error;
 
 /// Memory ran out. What was lent to the call is as before.
@@ -9,6 +9,12 @@ pub struct Memory;
 
 impl From<AllocError> for Memory {
     fn from(_: AllocError) -> Self {
+        Memory
+    }
+}
+
+impl<T: Drop> From<AllocFailed<T>> for Memory {
+    fn from(_: AllocFailed<T>) -> Self {
         Memory
     }
 }
