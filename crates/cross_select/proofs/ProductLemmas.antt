@@ -5,7 +5,8 @@ use Rattle.std.specs.List.{list_any}
 use Rattle.std.proofs.lemmas.Bool.{ne_eqb}
 use Rattle.std.proofs.lemmas.Bool.Decides.{nat_tests}
 use Rattle.std.proofs.lemmas.List.{drop_more}
-use Rattle.cross_select.specs.Products.{product_of, counted, most}
+use Rattle.cov_ground.specs.Limits.{most_products}
+use Rattle.cross_select.specs.Products.{product_of, product_count}
 
 abbrev pub has_zero : List ℕ → Bool
 has_zero sizes = list_any (λ size. nat_eq size 0) sizes
@@ -42,11 +43,11 @@ next_product count i total sizes lt e = regroup count (get_or sizes i 0) (produc
     regroup a b c = grind arith
 
 -- a front whose product is above the most
-pub too_many : (count i : ℕ) (sizes : List ℕ) → has_zero sizes ≡ false → 1048576 < count → count * product_of (drop i sizes) ≡ product_of sizes → None ≡ counted sizes
+pub too_many : (count i : ℕ) (sizes : List ℕ) → has_zero sizes ≡ false → most_products < count → count * product_of (drop i sizes) ≡ product_of sizes → None ≡ product_count sizes
 too_many count i sizes none above e = over (product_of sizes) (raised count (product_of (drop i sizes)) (product_of sizes) (none_zero (drop i sizes) (none_left i sizes none)) above e)
   where
-    raised : (a b n : ℕ) → 1 ≤ b → 1048576 < a → a * b ≡ n → 1048576 < n
+    raised : (a b n : ℕ) → 1 ≤ b → most_products < a → a * b ≡ n → most_products < n
     raised a b n h above e = grind arith
 
-    over : (n : ℕ) → 1048576 < n → ◌≡◌ {A = Option ℕ} None (if nat_lt most n then None else Some n)
+    over : (n : ℕ) → most_products < n → ◌≡◌ {A = Option ℕ} None (if nat_lt most_products n then None else Some n)
     over n lt = grind (arith, nat_tests)

@@ -2,31 +2,31 @@
 ghost use Rattle.std.specs.Prelude.{◌≡◌};
 ghost use Rattle.cross_select.specs.Selections.{is_selected, is_chosen_at};
 
-use cov_tree::List;
+use cov_tree::{Boxed, List};
 
 /// A selection of products. A product is one bin of each crossed point, by its number.
 #[derive(Drop, Debug)]
 pub enum Select {
-    /// The products whose bin at the place `axis` is chosen; `chosen` says so for each bin number of that point.
+    /// The products whose bin at the index `axis` is chosen; `chosen` says so for each bin number of that point.
     Bins { axis: u16, chosen: List<bool> },
     /// The products that the selection doesn't select.
-    Not(Box<Select>),
+    Not(Boxed<Select>),
     /// The products that both select.
-    And(Box<Select>, Box<Select>),
+    And(Boxed<Select>, Boxed<Select>),
     /// The products that at least one selects.
-    Or(Box<Select>, Box<Select>),
+    Or(Boxed<Select>, Boxed<Select>),
 }
 
-/// Whether the selection selects the product. A `Bins` whose axis is no place of the product, or for which the bin
-/// number there is no place of `chosen`, selects nothing. It takes no memory.
+/// Whether the selection selects the product. A `Bins` whose axis is no index of the product, or for which the bin
+/// number there is no index of `chosen`, selects nothing. It takes no memory.
 pub fn selects(select: &Select, product: &[u32]) -> bool
     ensures { result ≡ is_selected select.now product.now }
 {
     match select {
         Select::Bins { axis, chosen } => is_chosen(*axis, chosen.as_slice(), product),
-        Select::Not(inner) => !selects(inner, product),
-        Select::And(left, right) => selects(left, product) && selects(right, product),
-        Select::Or(left, right) => selects(left, product) || selects(right, product),
+        Select::Not(inner) => !selects(inner.get(), product),
+        Select::And(left, right) => selects(left.get(), product) && selects(right.get(), product),
+        Select::Or(left, right) => selects(left.get(), product) || selects(right.get(), product),
     }
 }
 

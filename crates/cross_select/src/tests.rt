@@ -1,29 +1,47 @@
 use crate::{Select, count_products, selects};
-use cov_tree::List;
-use std::alloc::{AllocError, Global};
+use cov_tree::{Boxed, List, Memory};
+use std::alloc::Global;
 use std::test::Fail;
 
-fn bins(alloc: Global, axis: u16, chosen: &[bool]) -> Result<Select, AllocError> {
+fn bins(alloc: Global, axis: u16, chosen: &[bool]) -> Result<Select, Memory> {
     Ok(Select::Bins {
         axis,
         chosen: List::of(Vec::from_slice(alloc, chosen)?),
     })
 }
 
+fn not(alloc: Global, inner: Select) -> Result<Select, Memory> {
+    Ok(Select::Not(Boxed::of(alloc, inner)?))
+}
+
+fn and(alloc: Global, left: Select, right: Select) -> Result<Select, Memory> {
+    Ok(Select::And(Boxed::of(alloc, left)?, Boxed::of(alloc, right)?))
+}
+
+fn or(alloc: Global, left: Select, right: Select) -> Result<Select, Memory> {
+    Ok(Select::Or(Boxed::of(alloc, left)?, Boxed::of(alloc, right)?))
+}
+
+fn first(alloc: Global) -> Result<Select, Memory> {
+    bins(alloc, 0, &[true, false])
+}
+
+fn second(alloc: Global) -> Result<Select, Memory> {
+    bins(alloc, 1, &[false, true, true])
+}
+
+fn nowhere(alloc: Global) -> Result<Select, Memory> {
+    bins(alloc, 2, &[true, true, true])
+}
+
 #[test]
 fn selects_by_the_tree(rt: HostRuntime) -> Result<(), Fail> {
     let alloc = rt.alloc();
-    let first = || bins(alloc, 0, &[true, false]);
-    let second = || bins(alloc, 1, &[false, true, true]);
-    let nowhere = || bins(alloc, 2, &[true, true, true]);
-    let both = Select::And(Box::new(alloc, first()?)?, Box::new(alloc, second()?)?);
-    let either = Select::Or(Box::new(alloc, first()?)?, Box::new(alloc, second()?)?);
-    let neither = Select::Not(Box::new(
-        alloc,
-        Select::Or(Box::new(alloc, first()?)?, Box::new(alloc, second()?)?),
-    )?);
-    let no_place = nowhere()?;
-    let not_no_place = Select::Not(Box::new(alloc, nowhere()?)?);
+    let both = and(alloc, first(alloc)?, second(alloc)?)?;
+    let either = or(alloc, first(alloc)?, second(alloc)?)?;
+    let neither = not(alloc, or(alloc, first(alloc)?, second(alloc)?)?)?;
+    let no_axis = nowhere(alloc)?;
+    let not_no_axis = not(alloc, nowhere(alloc)?)?;
     // The product, then whether each of the five selects it.
     let rows: [([u32; 2], [bool; 5]); 6] = [
         ([0, 0], [false, true, false, false, true]),
@@ -38,8 +56,8 @@ fn selects_by_the_tree(rt: HostRuntime) -> Result<(), Fail> {
             selects(&both, &product),
             selects(&either, &product),
             selects(&neither, &product),
-            selects(&no_place, &product),
-            selects(&not_no_place, &product),
+            selects(&no_axis, &product),
+            selects(&not_no_axis, &product),
         ];
         assert_eq!(rt; got, wanted, "{product:?}");
     }
