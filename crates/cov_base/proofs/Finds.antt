@@ -10,7 +10,7 @@ use Rattle.cov_base.specs.Intervals.{low_at, Ascends}
 use Rattle.cov_base.proofs.Normal.{covers-below}
 use Rattle.cov_base.proofs.Members.{is_in-written}
 
-low_least : (low : ℤ) (rs : List (ℤ × ℤ)) (i : ℕ) → IsNormalFrom low rs → i < length rs → low ≤ℤ low_at rs i
+pub low_least : (low : ℤ) (rs : List (ℤ × ℤ)) (i : ℕ) → IsNormalFrom low rs → i < length rs → low ≤ℤ low_at rs i
 low_least low [] i n h = absurd (omega arith)
 low_least low (r ∷ rs) zero n h = n.0
 low_least low (r ∷ rs) (suc i) n h = omega (arith, ints, n.0, n.1, low_least (r.1 +ℤ pos 2) rs i n.2 (omega arith))

@@ -8,5 +8,6 @@ pub mod Merges
 pub mod Normal
 pub mod Runs
 pub mod Search
+pub mod Skips
 pub mod Sorts
 pub mod Steps

@@ -18,7 +18,7 @@ int_le_not a b h = grind (arith, ints)
 int_lt_is : (a b : ℤ) → a <ℤ b → int_lt a b ≡ true
 int_lt_is a b h = grind (arith, ints)
 
-int_lt_not : (a b : ℤ) → b ≤ℤ a → int_lt a b ≡ false
+pub int_lt_not : (a b : ℤ) → b ≤ℤ a → int_lt a b ≡ false
 int_lt_not a b h = grind (arith, ints)
 
 grows : (xs : List (ℤ × ℤ)) (r d : ℤ × ℤ) (m : ℕ) → length xs ≡ suc m → r.0 ≤ℤ ((get_or xs m d).1 +ℤ pos 1)

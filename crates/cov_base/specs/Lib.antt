@@ -4,6 +4,8 @@ pub mod Memory
 pub mod Plan
 pub mod Sets
 pub mod Stored
+pub use Rattle.bin_spec.specs.Types
+pub use Rattle.cov_ground.specs.Limits
 pub use Rattle.cov_spec.specs.Causes
 pub use Rattle.cov_spec.specs.Coverage
 pub use Rattle.cov_spec.specs.Files

@@ -1,7 +1,8 @@
 -- What the objects in memory hold.
-use Rattle.std.specs.Prelude.{ℕ, List, map, string_bytes, String, Option}
+use Rattle.std.specs.Prelude.{◌≡◌, ℕ, List, length, map, min, string_bytes, String, Option, Result, Ok, IfOk, is_ok, is_err, false, if◌then◌else◌}
 use Rattle.std.specs.Global.{Vec, Global}
-use Rattle.cov_base.specs.Plan.{Plan}
+use Rattle.cov_base.specs.Plan.{Plan, called, refused, is_due}
+use Rattle.cov_base.specs.declared.failed.Failed.{Failed}
 
 -- a source: the bytes still to come, and the most that it hands over in one call
 pub record Feed : Type 0 where
@@ -14,6 +15,22 @@ pub record PlannedFeed : Type 0 where
   pub piece : ℕ
   pub plan : Plan
 
+-- what a source may hand over into so much room
+abbrev pub most_into : List ℕ → ℕ → ℕ → ℕ
+most_into left piece room = min (min (length left) piece) room
+
+-- a call of a source that doesn't fail: it hands over all that may be handed over into so much room
+pub record Feeds (old : Feed) (room : ℕ) (result : Result ℕ Failed) (new : Feed) : Type 0 where
+  pub count : result ≡ Ok (most_into old.left old.piece room)
+  pub piece : new.piece ≡ old.piece
+
+-- the same where calls fail by a plan
+pub record FeedsByPlan (old : PlannedFeed) (room : ℕ) (result : Result ℕ Failed) (new : PlannedFeed) : Type 0 where
+  pub due : is_err result ≡ is_due old.plan
+  pub plan : new.plan ≡ called old.plan
+  pub count : IfOk result (λ n. n ≡ most_into old.left old.piece room)
+  pub piece : new.piece ≡ old.piece
+
 -- a sink: the bytes written, unless memory ran out for them, and the most that it takes in one call
 pub record Store : Type 0 where
   pub written : Option (List ℕ)
@@ -24,6 +41,18 @@ pub record PlannedStore : Type 0 where
   pub written : List ℕ
   pub piece : ℕ
   pub plan : Plan
+
+-- a call of a sink that doesn't fail: it takes a piece of so many bytes
+pub record Takes (old : Store) (bytes : ℕ) (result : Result ℕ Failed) (new : Store) : Type 0 where
+  pub count : result ≡ Ok (min old.piece bytes)
+  pub piece : new.piece ≡ old.piece
+
+-- the same where calls fail by a plan, and where memory runs out
+pub record TakesByPlan (old : PlannedStore) (bytes : ℕ) (result : Result ℕ Failed) (new : PlannedStore) : Type 0 where
+  pub due : IfOk result (λ _. is_due old.plan ≡ false)
+  pub plan : new.plan ≡ (if is_ok result then called old.plan else refused old.plan)
+  pub count : IfOk result (λ n. n ≡ min old.piece bytes)
+  pub piece : new.piece ≡ old.piece
 
 -- a shelf whose calls fail by a plan
 pub record PlannedFiles : Type 0 where

@@ -84,6 +84,10 @@ runs (x ∷ xs) = extend x (runs xs)
 unfoldable pub set_of : List ℤ → List (ℤ × ℤ)
 set_of numbers = runs (ascending numbers)
 
+-- two ranges are the same
+abbrev pub is_same_range : ℤ × ℤ → ℤ × ℤ → Bool
+is_same_range a b = int_eq a.0 b.0 && int_eq a.1 b.1
+
 -- intervals from `low` on, in order, none empty, with a number between any two that is in neither
 abbrev pub IsNormalFrom : ℤ → List (ℤ × ℤ) → Type 0
 IsNormalFrom low [] = Unit {0}

@@ -42,6 +42,15 @@ impl Int {
         Some(Int { number })
     }
 
+    /// The number, which is in the range.
+    #[inline(always)]
+    pub const fn of(number: i128) -> Int
+        requires { IsInt number }
+        ensures { result ≡ number }
+    {
+        Int { number }
+    }
+
     /// The number.
     #[inline(always)]
     pub const fn get(self) -> i128
@@ -71,7 +80,7 @@ impl Int {
     }
 
     /// The number that is so much higher.
-    pub(crate) fn plus(self, offset: u128) -> Int
+    pub fn plus(self, offset: u128) -> Int
         requires { (self +ℤ pos offset) ≤ℤ greatest }
         ensures { result ≡ self +ℤ pos offset }
     {

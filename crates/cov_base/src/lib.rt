@@ -11,6 +11,7 @@ mod gate;
 mod int;
 mod link;
 mod memory;
+mod numbers;
 mod sets;
 mod shelf;
 mod sink;
@@ -28,10 +29,8 @@ pub use memory::link::{MemLink, SureLink};
 pub use memory::shelf::{MemShelf, SureShelf};
 pub use memory::sink::{MemSink, SureSink};
 pub use memory::source::{MemSource, SureSource};
+pub use numbers::{highest_of, lowest_of, power_of_two, size_of};
 pub use sets::ValueSet;
 pub use shelf::{Shelf, ShelfRefusal};
 pub use sink::Sink;
 pub use source::Source;
-
-#[cfg(test)]
-mod tests;

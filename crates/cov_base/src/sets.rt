@@ -34,6 +34,29 @@ impl Model for ValueSet {
     ghost invariant = { λ set. IsStored set.intervals.items set.counts.starts.items set.counts.total };
 }
 
+impl PartialEq for ValueSet {
+    ghost use Rattle.std.specs.Prelude.{ℤ};
+    ghost use Rattle.std.specs.Cmp.{partial_equiv_from_equiv, and_equiv, on_equiv, int_eq_equiv};
+    ghost use Rattle.std.specs.Cmp.Lexicographic.{pointwise, lists_equiv};
+    ghost use Rattle.cov_base.specs.Sets.{is_same_range};
+
+    ghost eq = { pointwise is_same_range };
+
+    ghost laws = { partial_equiv_from_equiv (lists_equiv (and_equiv (on_equiv (λ (r : ℤ × ℤ). r.0) int_eq_equiv) (on_equiv (λ (r : ℤ × ℤ). r.1) int_eq_equiv))) };
+
+    fn eq(&self, other: &ValueSet) -> bool {
+        self.intervals.as_slice() == other.intervals.as_slice()
+    }
+}
+
+impl Eq for ValueSet {
+    ghost use Rattle.std.specs.Prelude.{ℤ};
+    ghost use Rattle.std.specs.Cmp.{and_equiv, on_equiv, int_eq_equiv};
+    ghost use Rattle.std.specs.Cmp.Lexicographic.{lists_equiv};
+
+    ghost laws = { lists_equiv (and_equiv (on_equiv (λ (r : ℤ × ℤ). r.0) int_eq_equiv) (on_equiv (λ (r : ℤ × ℤ). r.1) int_eq_equiv)) };
+}
+
 /// A set of intervals in normal form, with their counts.
 fn counted(alloc: Global, intervals: Vec<(Int, Int)>) -> Result<ValueSet, Memory>
     requires { IsNormalForm intervals.items }
@@ -142,6 +165,3 @@ impl ValueSet {
         })
     }
 }
-
-#[cfg(test)]
-mod tests;

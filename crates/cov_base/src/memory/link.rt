@@ -1,10 +1,10 @@
 //! Links in memory.
-ghost use Rattle.std.specs.Prelude.{◌≡◌, ◌<◌, ◌≤◌, [], length, min, Some, IfOk, is_err, is_ok, if◌then◌else◌, option_map, true, false};
+ghost use Rattle.std.specs.Prelude.{◌≡◌, ◌<◌, ◌≤◌, [], length, Some, IfOk, option_map};
 ghost use Rattle.std.specs.Io.{ReadsAtMost};
-ghost use Rattle.std.specs.Io.KnownBytes.{ReadConsumes};
 ghost use Rattle.cov_spec.specs.Causes.{HasCause};
-ghost use Rattle.cov_spec.specs.Told.{Writes};
-ghost use Rattle.cov_base.specs.Plan.{planned, called, refused, is_due};
+ghost use Rattle.cov_spec.specs.Told.{Reads, Writes};
+ghost use Rattle.cov_base.specs.Memory.{Feeds, FeedsByPlan, Takes, TakesByPlan};
+ghost use Rattle.cov_base.specs.Plan.{planned};
 
 use crate::{Failed, Link, MemSink, MemSource, Sink, Source, SureSink, SureSource};
 use std::alloc::Global;
@@ -57,11 +57,9 @@ impl Link for SureLink {
     fn read(&mut self, into: &mut [u8]) -> Result<usize, Failed>
         requires { 0 < length into.old }
         ensures bound { ReadsAtMost result into.new }
-        ensures bytes { ReadConsumes (Some self.old.source.left) (Some self.new.source.left) result into.new }
+        ensures bytes { Reads (Some self.old.source.left) (Some self.new.source.left) result into.new }
         ensures cause { HasCause 0 0 result }
-        ensures sure { is_ok result ≡ true }
-        ensures count { IfOk result (λ n. n ≡ min (min (length self.old.source.left) self.old.source.piece) (length into.old)) }
-        ensures piece { self.new.source.piece ≡ self.old.source.piece }
+        ensures call { Feeds self.old.source (length into.old) result self.new.source }
         ensures sink { self.new.sink ≡ self.old.sink }
     {
         self.source.read(into)
@@ -72,8 +70,7 @@ impl Link for SureLink {
         ensures bound { IfOk result (λ n. (0 < n) × (n ≤ length bytes.now)) }
         ensures bytes { Writes self.old.sink.written self.new.sink.written result bytes.now }
         ensures cause { HasCause 0 0 result }
-        ensures count { result ≡ Ok (min self.old.sink.piece (length bytes.now)) }
-        ensures piece { self.new.sink.piece ≡ self.old.sink.piece }
+        ensures call { Takes self.old.sink (length bytes.now) result self.new.sink }
         ensures source { self.new.source ≡ self.old.source }
     {
         self.sink.write(bytes)
@@ -136,12 +133,9 @@ impl Link for MemLink {
     fn read(&mut self, into: &mut [u8]) -> Result<usize, Failed>
         requires { 0 < length into.old }
         ensures bound { ReadsAtMost result into.new }
-        ensures bytes { ReadConsumes (Some self.old.source.left) (Some self.new.source.left) result into.new }
+        ensures bytes { Reads (Some self.old.source.left) (Some self.new.source.left) result into.new }
         ensures cause { HasCause self.old.source.plan.faults self.new.source.plan.faults result }
-        ensures due { is_err result ≡ is_due self.old.source.plan }
-        ensures plan { self.new.source.plan ≡ called self.old.source.plan }
-        ensures count { IfOk result (λ n. n ≡ min (min (length self.old.source.left) self.old.source.piece) (length into.old)) }
-        ensures piece { self.new.source.piece ≡ self.old.source.piece }
+        ensures call { FeedsByPlan self.old.source (length into.old) result self.new.source }
         ensures sink { self.new.sink ≡ self.old.sink }
     {
         self.source.read(into)
@@ -152,10 +146,7 @@ impl Link for MemLink {
         ensures bound { IfOk result (λ n. (0 < n) × (n ≤ length bytes.now)) }
         ensures bytes { Writes (Some self.old.sink.written) (Some self.new.sink.written) result bytes.now }
         ensures cause { HasCause self.old.sink.plan.faults self.new.sink.plan.faults result }
-        ensures due { IfOk result (λ _. is_due self.old.sink.plan ≡ false) }
-        ensures plan { self.new.sink.plan ≡ (if is_ok result then called self.old.sink.plan else refused self.old.sink.plan) }
-        ensures count { IfOk result (λ n. n ≡ min self.old.sink.piece (length bytes.now)) }
-        ensures piece { self.new.sink.piece ≡ self.old.sink.piece }
+        ensures call { TakesByPlan self.old.sink (length bytes.now) result self.new.sink }
         ensures source { self.new.source ≡ self.old.source }
     {
         self.sink.write(bytes)

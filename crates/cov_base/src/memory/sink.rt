@@ -1,8 +1,9 @@
 //! Sinks in memory.
-ghost use Rattle.std.specs.Prelude.{◌≡◌, ◌<◌, ◌≤◌, [], length, min, Some, IfOk, is_ok, if◌then◌else◌, option_map, false};
+ghost use Rattle.std.specs.Prelude.{◌≡◌, ◌<◌, ◌≤◌, [], length, Some, IfOk, option_map};
 ghost use Rattle.cov_spec.specs.Causes.{HasCause};
 ghost use Rattle.cov_spec.specs.Told.{Writes};
-ghost use Rattle.cov_base.specs.Plan.{planned, called, refused, is_due};
+ghost use Rattle.cov_base.specs.Memory.{Takes, TakesByPlan};
+ghost use Rattle.cov_base.specs.Plan.{planned};
 
 use crate::memory::plan::Failing;
 use crate::{Failed, Sink};
@@ -58,13 +59,14 @@ impl Sink for SureSink {
 
     ghost faults = { λ s. 0 };
 
+    ghost write_gives = { λ old bytes result new. Takes old (length bytes) result new };
+
     fn write(&mut self, bytes: &[u8]) -> Result<usize, Failed>
         requires { 0 < length bytes.now }
         ensures bound { IfOk result (λ n. (0 < n) × (n ≤ length bytes.now)) }
         ensures bytes { Writes self.old.written self.new.written result bytes.now }
         ensures cause { HasCause 0 0 result }
-        ensures count { result ≡ Ok (min self.old.piece (length bytes.now)) }
-        ensures piece { self.new.piece ≡ self.old.piece }
+        ensures gives { Takes self.old (length bytes.now) result self.new }
     {
         let count = self.piece.min(bytes.len());
         if self.contents.extend_from_slice(&bytes[..count]).is_err() {
@@ -120,15 +122,14 @@ impl Sink for MemSink {
 
     ghost faults = { λ s. s.plan.faults };
 
+    ghost write_gives = { λ old bytes result new. TakesByPlan old (length bytes) result new };
+
     fn write(&mut self, bytes: &[u8]) -> Result<usize, Failed>
         requires { 0 < length bytes.now }
         ensures bound { IfOk result (λ n. (0 < n) × (n ≤ length bytes.now)) }
         ensures bytes { Writes (Some self.old.written) (Some self.new.written) result bytes.now }
         ensures cause { HasCause self.old.plan.faults self.new.plan.faults result }
-        ensures due { IfOk result (λ _. is_due self.old.plan ≡ false) }
-        ensures plan { self.new.plan ≡ (if is_ok result then called self.old.plan else refused self.old.plan) }
-        ensures count { IfOk result (λ n. n ≡ min self.old.piece (length bytes.now)) }
-        ensures piece { self.new.piece ≡ self.old.piece }
+        ensures gives { TakesByPlan self.old (length bytes.now) result self.new }
     {
         self.plan.call()?;
         let count = self.piece.min(bytes.len());

@@ -1,9 +1,10 @@
 //! Sources in memory.
-ghost use Rattle.std.specs.Prelude.{◌≡◌, ◌<◌, length, min, take, Some, IfOk, is_err, is_ok, true};
+ghost use Rattle.std.specs.Prelude.{◌≡◌, ◌<◌, length, min, take, Some};
 ghost use Rattle.std.specs.Io.{ReadsAtMost};
-ghost use Rattle.std.specs.Io.KnownBytes.{ReadConsumes};
 ghost use Rattle.cov_spec.specs.Causes.{HasCause};
-ghost use Rattle.cov_base.specs.Plan.{planned, called, is_due};
+ghost use Rattle.cov_spec.specs.Told.{Reads};
+ghost use Rattle.cov_base.specs.Memory.{Feeds, FeedsByPlan};
+ghost use Rattle.cov_base.specs.Plan.{planned};
 
 use crate::memory::plan::Failing;
 use crate::{Failed, Source};
@@ -57,14 +58,14 @@ impl Source for SureSource {
 
     ghost faults = { λ s. 0 };
 
+    ghost read_gives = { λ old room result new _. Feeds old (length room) result new };
+
     fn read(&mut self, into: &mut [u8]) -> Result<usize, Failed>
         requires { 0 < length into.old }
         ensures bound { ReadsAtMost result into.new }
-        ensures bytes { ReadConsumes (Some self.old.left) (Some self.new.left) result into.new }
+        ensures bytes { Reads (Some self.old.left) (Some self.new.left) result into.new }
         ensures cause { HasCause 0 0 result }
-        ensures sure { is_ok result ≡ true }
-        ensures count { IfOk result (λ n. n ≡ min (min (length self.old.left) self.old.piece) (length into.old)) }
-        ensures piece { self.new.piece ≡ self.old.piece }
+        ensures gives { Feeds self.old (length into.old) result self.new }
     {
         let count = hand_over(&self.contents[self.at..], self.piece, into);
         self.at += count;
@@ -106,15 +107,14 @@ impl Source for MemSource {
 
     ghost faults = { λ s. s.plan.faults };
 
+    ghost read_gives = { λ old room result new _. FeedsByPlan old (length room) result new };
+
     fn read(&mut self, into: &mut [u8]) -> Result<usize, Failed>
         requires { 0 < length into.old }
         ensures bound { ReadsAtMost result into.new }
-        ensures bytes { ReadConsumes (Some self.old.left) (Some self.new.left) result into.new }
+        ensures bytes { Reads (Some self.old.left) (Some self.new.left) result into.new }
         ensures cause { HasCause self.old.plan.faults self.new.plan.faults result }
-        ensures due { is_err result ≡ is_due self.old.plan }
-        ensures plan { self.new.plan ≡ called self.old.plan }
-        ensures count { IfOk result (λ n. n ≡ min (min (length self.old.left) self.old.piece) (length into.old)) }
-        ensures piece { self.new.piece ≡ self.old.piece }
+        ensures gives { FeedsByPlan self.old (length into.old) result self.new }
     {
         self.plan.call()?;
         self.inner.read(into)

@@ -1,11 +1,12 @@
 //! How many numbers stand before each interval.
-ghost use Rattle.std.specs.Prelude.{◌≡◌, ℕ, ◌<◌, ◌≤◌, ◌≤ℤ◌, IfOk, length, slice_index, slice_get};
-ghost use Rattle.cov_base.specs.Sets.{IsNormalForm, size, written};
+ghost use Rattle.std.specs.Prelude.{◌≡◌, ℕ, ◌<◌, ◌≤◌, IfOk, length, slice_index, slice_get};
+ghost use Rattle.cov_base.specs.Sets.{IsNormalForm, written};
 ghost use Rattle.cov_base.specs.Stored.{IsStored};
 ghost use Rattle.cov_base.specs.Intervals.{starts, total};
 
 use crate::Memory;
 use crate::int::Int;
+use crate::numbers::size_of;
 use std::alloc::Global;
 
 /// For each interval how many numbers stand before it, and how many there are.
@@ -13,14 +14,6 @@ use std::alloc::Global;
 pub(super) struct Counts {
     pub(super) starts: Vec<u128>,
     pub(super) total: u128,
-}
-
-/// How many numbers stand from `low` to `high`.
-pub(super) fn size_of(low: Int, high: Int) -> u128
-    requires { low ≤ℤ high }
-    ensures { result ≡ size (low, high) }
-{
-    (high.get() - low.get() + 1) as u128
 }
 
 /// Counts the numbers of intervals in normal form.

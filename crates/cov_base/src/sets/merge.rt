@@ -1,9 +1,11 @@
 //! Intervals joined and cut: what makes the normal form, in one pass over intervals in order of their low ends.
 ghost use Rattle.std.specs.Prelude.{◌≡◌, IfOk, OnOk, ◌++◌, []};
+ghost use Rattle.cov_base.specs.Sets.{IsNormalForm};
 ghost use Rattle.cov_base.specs.Intervals.{joined, joins, before, after, merged, front, pieces, beyond, less};
 
 use crate::Memory;
 use crate::int::Int;
+use crate::sets::search::place_of;
 use std::alloc::Global;
 
 /// Adds an interval that begins no earlier than those before it: it grows the last one where it overlaps or touches
@@ -105,16 +107,34 @@ fn cut<'a>(
     Ok(&holes[holes.len()..])
 }
 
+/// The holes without those that end before the intervals begin, both in normal form. It takes a binary search.
+fn reaching<'a>(intervals: &[(Int, Int)], holes: &'a [(Int, Int)]) -> &'a [(Int, Int)]
+    requires intervals { IsNormalForm intervals.now }
+    requires holes { IsNormalForm holes.now }
+    ensures { less intervals.now result.now ≡ less intervals.now holes.now }
+{
+    if intervals.is_empty() {
+        return holes;
+    }
+    if holes.is_empty() {
+        return holes;
+    }
+    let first = intervals[0];
+    &holes[place_of(holes, first.0)..]
+}
+
 /// What is left of intervals without the holes, both in normal form.
 pub(super) fn without(
     alloc: Global,
     intervals: &[(Int, Int)],
     holes: &[(Int, Int)],
 ) -> Result<Vec<(Int, Int)>, Memory>
+    requires intervals { IsNormalForm intervals.now }
+    requires holes { IsNormalForm holes.now }
     ensures { IfOk result (λ left. left.items ≡ less intervals.now holes.now) }
 {
     let mut out = Vec::new(alloc);
-    let mut rest = holes;
+    let mut rest = reaching(intervals, holes);
     for range in intervals {
         rest = cut(&mut out, *range, rest)?;
     }

@@ -1,0 +1,57 @@
+//! How many numbers a range and a type have, and the ends of a type.
+ghost use Rattle.std.specs.Prelude.{◌≡◌, ℕ, ◌<◌, ◌≤◌, ◌*◌, ◌^◌, pos, ◌+ℤ◌, ◌≤ℤ◌};
+ghost use Rattle.bin_spec.specs.Types.{lowest, highest};
+ghost use Rattle.cov_ground.specs.Limits.{most_bits};
+ghost use Rattle.cov_base.specs.Sets.{size, greatest};
+
+use crate::Int;
+
+/// How many numbers stand from the low to the high end: none where the ends are the wrong way round, and at most
+/// 2^64 + 2^63.
+pub fn size_of(low: Int, high: Int) -> u128
+    ensures size { result ≡ size (low, high) }
+    ensures bound { result ≤ 3 * 2 ^ 63 }
+    ensures reach { (offset : ℕ) → offset < result → (low +ℤ pos offset) ≤ℤ greatest }
+{
+    let low = low.get();
+    let high = high.get();
+    if low <= high {
+        (high - low + 1) as u128
+    } else {
+        0
+    }
+}
+
+/// Two to the power of a number of bits: how many numbers so many bits have.
+pub fn power_of_two(bits: u8) -> u128
+    requires { bits ≤ most_bits }
+    ensures { result ≡ 2 ^ bits }
+{
+    1 << bits
+}
+
+/// The least number of a type of so many bits, in two's complement where it is signed (IEEE 1800-2017, 6.11).
+pub fn lowest_of(width: u8, signed: bool) -> Int
+    requires narrowest { 1 ≤ width }
+    requires widest { width ≤ most_bits }
+    ensures { result ≡ lowest width signed }
+{
+    if signed {
+        Int::of(-(1 << (width - 1)))
+    } else {
+        Int::of(0)
+    }
+}
+
+/// The greatest number of a type of so many bits, in two's complement where it is signed (IEEE 1800-2017, 6.11).
+pub fn highest_of(width: u8, signed: bool) -> Int
+    requires narrowest { 1 ≤ width }
+    requires widest { width ≤ most_bits }
+    ensures { result ≡ highest width signed }
+{
+    if signed {
+        Int::of((1 << (width - 1)) - 1)
+    } else {
+        Int::of((1 << width) - 1)
+    }
+}
