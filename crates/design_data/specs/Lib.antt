@@ -1,0 +1,5 @@
+pub mod Bins
+pub mod Crosses
+pub mod Left
+pub mod Limits
+pub mod Laws

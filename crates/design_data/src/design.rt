@@ -1,0 +1,67 @@
+//! A design.
+ghost use Rattle.std.specs.Prelude.{◌≡◌};
+ghost use Rattle.design_data.specs.Limits.{IsDesign, IsDesign-prop};
+
+use crate::{GroupInfo, InstInfo, Signal};
+use cov_tree::List;
+
+/// A design. It is always within its limits: whoever makes one shows them.
+#[derive(Drop, Debug)]
+pub struct Design {
+    pub signals: List<Signal>,
+    pub groups: List<GroupInfo>,
+    pub instances: List<InstInfo>,
+    pub bin_count: u32,
+    pub ghost within: { IsDesign signals groups instances bin_count } by { IsDesign-prop signals groups instances bin_count },
+}
+
+impl Design {
+    /// The design of these parts, of which the caller knows that they are one. It tests nothing and takes no memory.
+    pub fn of(
+        signals: List<Signal>,
+        groups: List<GroupInfo>,
+        instances: List<InstInfo>,
+        bin_count: u32,
+    ) -> Design
+        requires { IsDesign signals groups instances bin_count }
+        ensures signals { result.signals ≡ signals }
+        ensures groups { result.groups ≡ groups }
+        ensures instances { result.instances ≡ instances }
+        ensures bin_count { result.bin_count ≡ bin_count }
+    {
+        Design {
+            signals,
+            groups,
+            instances,
+            bin_count,
+        }
+    }
+
+    /// The signals, in order of declaration.
+    pub fn signals(&self) -> &[Signal]
+        ensures { result.now ≡ self.now.signals }
+    {
+        self.signals.as_slice()
+    }
+
+    /// The groups, in order of declaration, those without instances too.
+    pub fn groups(&self) -> &[GroupInfo]
+        ensures { result.now ≡ self.now.groups }
+    {
+        self.groups.as_slice()
+    }
+
+    /// The instances, in order of declaration.
+    pub fn instances(&self) -> &[InstInfo]
+        ensures { result.now ≡ self.now.instances }
+    {
+        self.instances.as_slice()
+    }
+
+    /// How many bins it has. Their numbers are those below this.
+    pub fn bin_count(&self) -> u32
+        ensures { result ≡ self.now.bin_count }
+    {
+        self.bin_count
+    }
+}

@@ -1,0 +1,127 @@
+//! The parts of a design.
+
+use const_eval::Bound;
+use cov_base::ValueSet;
+use cov_tree::{List, Name};
+use cross_select::Select;
+use trans_seq::Seq;
+use wildcard_bins::Pattern;
+
+/// A signal, or an argument of a group's sample function (IEEE 1800-2017, 19.8.1).
+#[derive(Drop, Debug)]
+pub struct Signal {
+    pub name: Name,
+    /// Its bits, 1 to 64.
+    pub width: u8,
+    /// Whether its bits are read in two's complement.
+    pub signed: bool,
+}
+
+/// A covergroup, with what its type options say (19.7.1).
+#[derive(Drop, Debug)]
+pub struct GroupInfo {
+    pub name: Name,
+    /// `type_option.weight`
+    pub weight: u32,
+    /// `type_option.goal`, in per cent.
+    pub goal: u32,
+    /// `type_option.merge_instances`
+    pub merge: bool,
+}
+
+/// An instance of a covergroup, with what its options say (19.7).
+#[derive(Drop, Debug)]
+pub struct InstInfo {
+    pub name: Name,
+    /// The index of its group in the design.
+    pub group: u32,
+    /// `option.weight`
+    pub weight: u32,
+    /// `option.goal`, in per cent.
+    pub goal: u32,
+    /// Whether it is reported by itself (`option.per_instance`).
+    pub print: bool,
+    /// The arguments of the group's sample function, in order.
+    pub args: List<Signal>,
+    /// Its coverpoints and crosses, in order.
+    pub items: List<ItemInfo>,
+}
+
+/// A coverpoint (19.5) or a cross (19.6) of an instance.
+#[derive(Drop, Debug)]
+pub struct ItemInfo {
+    pub name: Name,
+    /// `option.weight`
+    pub weight: u32,
+    /// `type_option.weight`
+    pub type_weight: u32,
+    /// `option.goal`, in per cent.
+    pub goal: u32,
+    /// How often a bin has to be hit to be covered, at least 1.
+    pub at_least: u32,
+    /// Its guard `iff`.
+    pub guard: Option<Bound>,
+    pub shape: ItemShape,
+    /// The number of its first bin; the others follow.
+    pub first_bin: u32,
+    /// Its bins, in order.
+    pub bins: List<BinInfo>,
+    /// The sequences of a point's ignore bins (19.5.5), in order as declared, those of arrays not expanded.
+    pub ignored: List<Seq>,
+    /// The same of its illegal bins (19.5.6).
+    pub illegal: List<Seq>,
+}
+
+/// What an item counts.
+#[derive(Drop, Debug)]
+pub enum ItemShape {
+    /// The values of an expression.
+    Point(Bound),
+    /// Products of coverage bins of the points at these indexes of the instance.
+    Cross(List<u32>),
+}
+
+/// A bin.
+#[derive(Drop, Debug)]
+pub struct BinInfo {
+    pub name: Name,
+    pub kind: BinKind,
+    pub rule: BinRule,
+    /// Its guard `iff`.
+    pub guard: Option<Bound>,
+}
+
+/// The kind of a bin: the word that declares it, or that it is a default bin.
+#[derive(Clone, Copy, Debug, PartialEq, Eq)]
+pub enum BinKind {
+    /// A bin that counts for coverage.
+    CvgBin,
+    /// `illegal_bins` (19.5.6)
+    IllegalBin,
+    /// `ignore_bins` (19.5.5)
+    IgnoreBin,
+    /// `default` or `default sequence` under the word `bins`
+    DefaultBin,
+}
+
+/// What a bin counts.
+#[derive(Drop, Debug)]
+pub enum BinRule {
+    /// A value of this set (19.5.1), which is what removal has left.
+    Values(ValueSet),
+    /// A value that agrees with one of these patterns (19.5.4).
+    Patterns(List<Pattern>),
+    /// A window that is a list of one of these sequences (19.5.2).
+    Trans(List<Seq>),
+    /// `default`: a value that no set of the point lists (19.5.1).
+    Default,
+    /// One number of a `default` array: it isn't listed by this.
+    DefaultValues(ValueSet),
+    /// `default sequence`: no transition of the point ends here (19.5.2).
+    DefaultSequence,
+    /// A declared bin of a cross (19.6.1): the products that the selection selects.
+    Picked(Select),
+    /// An automatic bin of a cross (19.6): the product of the coverage bins of these numbers, one of each crossed
+    /// point, counted from 0.
+    Product(List<u32>),
+}

@@ -1,0 +1,9 @@
+//! A design as data: what is sampled, and which bins are counted (IEEE 1800-2017, clause 19). Contracts see each type
+//! as the value itself.
+#![tactic(auto)]
+
+mod design;
+mod infos;
+
+pub use design::Design;
+pub use infos::{BinInfo, BinKind, BinRule, GroupInfo, InstInfo, ItemInfo, ItemShape, Signal};
