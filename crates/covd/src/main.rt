@@ -1,14 +1,16 @@
 //! The program `covd`: its words, files and standard streams.
 #![tactic(auto)]
 
+mod ending;
 mod help;
-mod outside;
 
+use cov_net::{FileShelf, StdSink, StdSource};
 use covd_core::{Status, run};
+use ending::{ended, given};
 use help::early_text;
-use outside::shelf::FileShelf;
-use outside::streams::{StdSink, StdSource};
 use std::process::ExitCode;
+use std::rt::Files;
+use std::thread::Threads;
 use std::{env, io};
 
 /// The words after the program's name.
@@ -20,31 +22,27 @@ fn words_of(rt: &HostRuntime) -> io::Result<Vec<String>> {
     Ok(words)
 }
 
-/// Prints a text in place of a command.
-fn print(rt: &HostRuntime, text: &str) -> Status {
-    match rt.print(text) {
-        Ok(()) => Status::Done,
-        Err(_) => Status::WriteFault,
-    }
-}
-
 /// Does what the words say over the files of the system and the standard streams.
-fn run_words(rt: &HostRuntime, words: &[String]) -> Status {
+fn run_words<R: Threads + Sync + Files + Input + Print + AllocGlobal>(
+    rt: &R,
+    words: &[String],
+) -> Status {
     let mut shelf = FileShelf::new(rt);
     let mut source = StdSource::new(rt.reader());
     let mut sink = StdSink::new(io::writer(rt));
-    run(rt.alloc(), words, &mut shelf, &mut source, &mut sink)
+    run(rt, rt.alloc(), words, &mut shelf, &mut source, &mut sink)
 }
 
 fn main(rt: HostRuntime) -> ExitCode {
-    let status = match words_of(&rt) {
+    let status = match given(rt.alloc(), words_of(&rt)) {
         Ok(words) => match early_text(&words) {
-            Some(text) => print(&rt, text),
+            Some(text) => ended(&rt.print(text)),
             None => run_words(&rt, &words),
         },
-        Err(error) if error.kind() == io::ErrorKind::OutOfMemory => Status::Memory,
-        // Words that are no UTF-8 are no command.
-        Err(_) => run_words(&rt, &[]),
+        Err(status) => status,
     };
-    ExitCode::from(status as u8)
+    ExitCode::from(status.number())
 }
+
+#[cfg(test)]
+mod tests;

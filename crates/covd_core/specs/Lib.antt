@@ -6,6 +6,7 @@ pub mod Form
 pub mod Histogram
 pub mod Lines
 pub mod Shape
+pub mod Statuses
 pub mod Steps
 pub mod Tally
 pub use Rattle.cov_base.specs.Loads

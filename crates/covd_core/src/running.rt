@@ -10,6 +10,7 @@ use crate::lines::bad_words;
 use crate::writing::write_all;
 use cov_base::{Memory, Shelf, Sink, Source};
 use std::alloc::Global;
+use std::thread::Threads;
 
 // The name behind `check`.
 fn check_words(words: &[String]) -> Option<&str>
@@ -67,8 +68,9 @@ fn answer<F: Shelf>(alloc: Global, words: &[String], shelf: &mut F) -> Result<An
 ///
 /// The words are those after the program's name. The commands are `check DESIGN`, which prints the bins of the design,
 /// and `count DESIGN RECORD`, which prints how often the record hits each of them. The text is built whole before its
-/// first byte is written. The source isn't touched.
-pub fn run<F: Shelf, S: Source, K: Sink>(
+/// first byte is written. The source isn't touched, and no thread is started.
+pub fn run<R: Threads + Sync, F: Shelf, S: Source, K: Sink>(
+    rt: &R,
     alloc: Global,
     words: &[String],
     shelf: &mut F,
@@ -84,6 +86,7 @@ pub fn run<F: Shelf, S: Source, K: Sink>(
     ensures source { source.new ≡ source.old }
     ensures sink_faults { K.faults sink.old ≤ K.faults sink.new }
 {
+    let _runtime = rt;
     let _source = source;
     match answer(alloc, words, shelf) {
         Err(_) => Status::Memory,

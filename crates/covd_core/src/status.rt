@@ -1,22 +1,42 @@
 //! How a command ended.
+ghost use Rattle.std.specs.Prelude.{◌≡◌};
+ghost use Rattle.covd_core.specs.Statuses.{number_of};
 
-/// The exit status of a command; `status as u8` is its number.
+/// The exit status of a command.
 #[derive(Clone, Copy, Debug, PartialEq, Eq)]
 pub enum Status {
     /// The text was printed whole.
-    Done = 0,
+    Done,
     /// Memory ran out; nothing was printed.
-    Memory = 1,
+    Memory,
     /// The words are no command.
-    BadWords = 2,
+    BadWords,
     /// The design text is refused.
-    DesignRefused = 3,
+    DesignRefused,
     /// A record is refused: it doesn't decode, or doesn't fit the design.
-    RecordRefused = 4,
+    RecordRefused,
     /// The text could not be written whole.
-    WriteFault = 7,
+    WriteFault,
     /// A file could not be read.
-    ShelfFault = 8,
+    ShelfFault,
     /// A file is longer than its limit.
-    FileTooLong = 12,
+    FileTooLong,
+}
+
+impl Status {
+    /// The number with which the program ends.
+    pub const fn number(self) -> u8
+        ensures { result ≡ number_of self }
+    {
+        match self {
+            Status::Done => 0,
+            Status::Memory => 1,
+            Status::BadWords => 2,
+            Status::DesignRefused => 3,
+            Status::RecordRefused => 4,
+            Status::WriteFault => 7,
+            Status::ShelfFault => 8,
+            Status::FileTooLong => 12,
+        }
+    }
 }

@@ -6,6 +6,7 @@ use cov_base::{MemShelf, MemSink, MemSource, SureShelf, SureSink, SureSource};
 use std::alloc::Global;
 use std::process::Abort;
 use std::test::*;
+use std::thread::Threads;
 
 const DESIGN: &[u8] =
     b"bit [7:0] v; covergroup g; p: coverpoint v { bins a = {0}; bins b = {1, 2}; } endgroup g i = new;";
@@ -48,7 +49,7 @@ fn with_events(alloc: Global, events: &[u8]) -> Result<Vec<u8>, Fail> {
 
 // Runs the words over `d` and `r`, with a sink that takes three bytes a call.
 fn check(
-    rt: &(impl Abort + AllocGlobal),
+    rt: &(impl Abort + AllocGlobal + Threads + Sync),
     design: &[u8],
     rec: &[u8],
     all: &[&str],
@@ -60,7 +61,7 @@ fn check(
     let mut source = MemSource::new(Vec::new(alloc), 1, Vec::new(alloc));
     let mut sink = MemSink::new(alloc, 3, Vec::new(alloc));
     let all = words(alloc, all)?;
-    let answered = run(alloc, &all, &mut shelf, &mut source, &mut sink);
+    let answered = run(rt, alloc, &all, &mut shelf, &mut source, &mut sink);
     assert_eq!(rt; answered, status);
     assert_eq!(rt; sink.contents(), text);
     Ok(())
@@ -103,7 +104,7 @@ fn counts_known_values_once(rt: HostRuntime) -> Result<(), Fail> {
 
 // Runs `check` over a design text.
 fn check_design(
-    rt: &(impl Abort + AllocGlobal),
+    rt: &(impl Abort + AllocGlobal + Threads + Sync),
     design: &[u8],
     status: Status,
     text: &[u8],
@@ -253,7 +254,11 @@ fn with_middle(alloc: Global, from: usize, to: usize, middle: &[u8]) -> Result<V
     Ok(bytes)
 }
 
-fn check_record(rt: &(impl Abort + AllocGlobal), rec: &[u8], text: &[u8]) -> Result<(), Fail> {
+fn check_record(
+    rt: &(impl Abort + AllocGlobal + Threads + Sync),
+    rec: &[u8],
+    text: &[u8],
+) -> Result<(), Fail> {
     let words = ["count", "d", "r"];
     check(rt, DESIGN, rec, &words, Status::RecordRefused, text)
 }
@@ -428,7 +433,7 @@ fn sure_ends_do_the_same(rt: HostRuntime) -> Result<(), Fail> {
     let mut source = SureSource::new(Vec::new(alloc), 1);
     let mut sink = SureSink::new(alloc, 7);
     let all = words(alloc, &["count", "d", "q"])?;
-    let status = run(alloc, &all, &mut shelf, &mut source, &mut sink);
+    let status = run(&rt, alloc, &all, &mut shelf, &mut source, &mut sink);
     assert_eq!(rt; status, Status::ShelfFault);
     let text = sink.contents().ok_or("memory ran out")?;
     assert_eq!(rt; text, b"cannot read q\n".as_slice());
@@ -446,13 +451,13 @@ fn failing_ends(rt: HostRuntime) -> Result<(), Fail> {
     );
     let mut source = MemSource::new(Vec::new(alloc), 1, Vec::new(alloc));
     let mut sink = MemSink::new(alloc, 3, Vec::new(alloc));
-    let status = run(alloc, &all, &mut shelf, &mut source, &mut sink);
+    let status = run(&rt, alloc, &all, &mut shelf, &mut source, &mut sink);
     assert_eq!(rt; status, Status::ShelfFault);
     assert_eq!(rt; sink.contents(), b"cannot read r\n".as_slice());
     // The third write fails: six bytes were written.
     let mut shelf = MemShelf::new(files(alloc, DESIGN, &RECORD)?, Vec::new(alloc));
     let mut sink = MemSink::new(alloc, 3, Vec::from_slice(alloc, &[2])?);
-    let status = run(alloc, &all, &mut shelf, &mut source, &mut sink);
+    let status = run(&rt, alloc, &all, &mut shelf, &mut source, &mut sink);
     assert_eq!(rt; status, Status::WriteFault);
     assert_eq!(rt; sink.contents(), b"test t".as_slice());
     Ok(())

@@ -1,0 +1,186 @@
+//! Files of the system.
+ghost use Rattle.std.specs.Prelude.{◌≡◌, ◌≢◌, ◌+◌, ◌<◌, ◌≤◌, ℕ, List, Option, None, IfOk, IfErr, OnOk, length, ◌++◌, vec_len};
+ghost use Rattle.std.specs.IoError.{error_kind};
+ghost use Rattle.std.specs.Io.KnownBytes.{Consumes, IsAtEnd};
+ghost use Rattle.cov_base.specs.Loads.{Loads};
+ghost use Rattle.cov_net.specs.Sizes.{IsSize};
+ghost use Rattle.cov_net.specs.Counted.{CountedLoad, IsUntoldRefusal};
+
+use crate::again::read_again;
+use cov_base::{Shelf, ShelfRefusal};
+use std::alloc::Global;
+use std::fs::{File, Metadata, OpenFile};
+use std::io;
+use std::io::{ErrorKind, Read};
+use std::marker::Model;
+use std::rt::Files;
+
+/// The bytes that one read asks for.
+const PIECE: usize = 65_536;
+
+/// Why a file can't be had after such an error.
+fn refusal_of(error: &io::Error) -> ShelfRefusal
+    ensures memory { error_kind error.now ≡ ErrorKind.OutOfMemory → result ≡ ShelfRefusal.Memory }
+    ensures failed { error_kind error.now ≢ ErrorKind.OutOfMemory → result ≡ ShelfRefusal.Failed }
+{
+    if error.kind() == ErrorKind::OutOfMemory {
+        ShelfRefusal::Memory
+    } else {
+        ShelfRefusal::Failed
+    }
+}
+
+/// Opens the file to be read. An interrupted call is made again.
+fn open<R: Files>(rt: &R, name: &str) -> io::Result<R::File>
+    ensures { IfErr result (λ e. error_kind e ≢ ErrorKind.Interrupted) }
+{
+    for _ in 0..u64::MAX {
+        match File::open(rt, name) {
+            Ok(file) => return Ok(file),
+            Err(error) if error.kind() == ErrorKind::Interrupted => {}
+            Err(error) => return Err(error),
+        }
+    }
+    Err(io::Error::from(ErrorKind::TimedOut))
+}
+
+/// What the system says of the file. An interrupted call is made again.
+fn metadata_of<F: OpenFile>(file: &F) -> io::Result<Metadata>
+    ensures { IfErr result (λ e. error_kind e ≢ ErrorKind.Interrupted) }
+{
+    for _ in 0..u64::MAX {
+        match file.metadata() {
+            Ok(metadata) => return Ok(metadata),
+            Err(error) if error.kind() == ErrorKind::Interrupted => {}
+            Err(error) => return Err(error),
+        }
+    }
+    Err(io::Error::from(ErrorKind::TimedOut))
+}
+
+/// The bytes that the system says that the file has. A directory can't be read.
+fn size_of(metadata: &Metadata, most: u64) -> Result<u64, ShelfRefusal>
+    ensures size { IsSize metadata.now most result }
+    ensures refusal { IfErr result (λ cause. IsUntoldRefusal most cause) }
+{
+    if metadata.is_dir() {
+        return Err(ShelfRefusal::Failed);
+    }
+    let size = metadata.len();
+    if size > most {
+        return Err(ShelfRefusal::TooLong { size });
+    }
+    Ok(size)
+}
+
+/// Appends what one read brings, and says how many bytes that was.
+fn append_piece<F: Read>(
+    file: &mut F,
+    room: &mut [u8],
+    bytes: &mut Vec<u8>,
+    most: u64,
+) -> Result<usize, ShelfRefusal>
+    requires room { 0 < length room.old }
+    requires most { vec_len bytes.old ≤ most }
+    ensures room { length room.new ≡ length room.old }
+    ensures bound { IfOk result (λ n. vec_len bytes.new ≤ most) }
+    ensures refusal { IfErr result (λ cause. IsUntoldRefusal most cause) }
+    ensures bytes { IfOk result (λ n. (piece : List ℕ) × (length piece ≡ n) × (bytes.new.items ≡ bytes.old.items ++ piece) × Consumes (F.remaining file.old) (F.remaining file.new) piece) }
+    ensures end { IfOk result (λ n. n ≡ 0 → IsAtEnd (F.remaining file.new)) }
+{
+    let count = read_again(file, room).map_err(|error| refusal_of(&error))?;
+    let seen = bytes.len() as u64 + count as u64;
+    if seen > most {
+        return Err(ShelfRefusal::TooLong { size: seen });
+    }
+    match bytes.extend_from_slice(&room[..count]) {
+        Ok(()) => Ok(count),
+        Err(_) => Err(ShelfRefusal::Memory),
+    }
+}
+
+/// All bytes that the file has left, `size` of them as the system says. No more than `most` bytes are kept.
+pub(crate) fn read_whole<F: Read>(
+    file: &mut F,
+    alloc: Global,
+    size: u64,
+    most: u64,
+) -> Result<Vec<u8>, ShelfRefusal>
+    ensures bound { IfOk result (λ bytes. length bytes.items ≤ most) }
+    ensures refusal { IfErr result (λ cause. IsUntoldRefusal most cause) }
+    ensures bytes { IfOk result (λ bytes. Consumes (F.remaining file.old) (F.remaining file.new) bytes.items) }
+    ensures end { OnOk result (IsAtEnd (F.remaining file.new)) }
+{
+    let capacity = size.min(most) as usize;
+    let mut bytes = Vec::with_capacity(alloc, capacity).map_err(|_| ShelfRefusal::Memory)?;
+    let mut room = Vec::new(alloc);
+    room.resize(PIECE, 0u8).map_err(|_| ShelfRefusal::Memory)?;
+    for _ in 0..u64::MAX {
+        if append_piece(file, room.as_mut_slice(), &mut bytes, most)? == 0 {
+            return Ok(bytes);
+        }
+    }
+    Err(ShelfRefusal::Failed)
+}
+
+/// The file's bytes. Where the system says that it has more than `most`, none is read.
+fn read_file<R: Files>(
+    rt: &R,
+    alloc: Global,
+    name: &str,
+    most: u64,
+) -> Result<Vec<u8>, ShelfRefusal>
+    ensures bound { IfOk result (λ bytes. length bytes.items ≤ most) }
+    ensures refusal { IfErr result (λ cause. IsUntoldRefusal most cause) }
+{
+    let mut file = open(rt, name).map_err(|error| refusal_of(&error))?;
+    let metadata = metadata_of(&file).map_err(|error| refusal_of(&error))?;
+    let size = size_of(&metadata, most)?;
+    read_whole(&mut file, alloc, size, most)
+}
+
+/// The files of the system, each by its path. A directory can't be read. Contracts see how often a load failed.
+#[derive(Drop)]
+pub struct FileShelf<'a, R> {
+    rt: &'a R,
+    faults: u64,
+}
+
+impl<'a, R> Model for FileShelf<'a, R> {
+    ghost use Rattle.std.specs.Prelude.{ℕ};
+
+    ghost Value = { ℕ };
+
+    ghost view = { λ s. s.faults };
+}
+
+impl<'a, R> FileShelf<'a, R> {
+    /// A shelf that hasn't failed yet.
+    pub fn new(rt: &'a R) -> Self
+        ensures { result ≡ 0 }
+    {
+        FileShelf { rt, faults: 0 }
+    }
+}
+
+impl<R: Files> Shelf for FileShelf<'_, R> {
+    ghost files = { λ s. None };
+
+    ghost faults = { λ s. s };
+
+    fn load(&mut self, alloc: Global, name: &str, most: u64) -> Result<Vec<u8>, ShelfRefusal>
+        ensures same { ◌≡◌ {A = Option (List (List ℕ × List ℕ))} None None }
+        ensures later { self.old ≤ self.new }
+        ensures bound { IfOk result (λ bytes. length bytes.items ≤ most) }
+        ensures loads { Loads None self.old self.new name.now most result }
+        ensures count { CountedLoad self.old self.new result }
+        ensures refusal { IfErr result (λ cause. IsUntoldRefusal most cause) }
+    {
+        let answer = read_file(self.rt, alloc, name, most);
+        match answer {
+            Ok(_) | Err(ShelfRefusal::Memory) => {}
+            Err(_) => self.faults = self.faults.saturating_add(1),
+        }
+        answer
+    }
+}

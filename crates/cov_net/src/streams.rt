@@ -1,0 +1,112 @@
+//! Standard input and standard output, or any other reader and writer.
+ghost use Rattle.std.specs.Prelude.{◌≡◌, ◌<◌, ◌≤◌, ℕ, List, None, IfOk, length};
+ghost use Rattle.std.specs.Io.{ReadsAtMost};
+ghost use Rattle.std.specs.Io.KnownBytes.{ReadConsumes, WriteAppends};
+ghost use Rattle.cov_base.specs.Causes.{HasCause};
+ghost use Rattle.cov_base.specs.Told.{Writes};
+ghost use Rattle.cov_net.specs.Counted.{Counted};
+
+use crate::again::{read_again, write_again};
+use cov_base::{Failed, Sink, Source};
+use std::io::{Read, Write};
+use std::marker::Model;
+
+/// A reader as a source. An interrupted read is made again.
+#[derive(Drop)]
+pub struct StdSource<R> {
+    inner: R,
+    faults: u64,
+}
+
+impl<R> Model for StdSource<R> {
+    ghost use Rattle.cov_net.specs.Edge.{Edge, edge_code};
+
+    ghost Value = { Edge R };
+
+    ghost coded = { edge_code R.code };
+
+    ghost view = { λ s. record { inner = s.inner; faults = s.faults } };
+}
+
+impl<R> StdSource<R> {
+    /// A source that hasn't failed yet.
+    pub fn new(inner: R) -> Self
+        ensures inner { result.inner ≡ inner }
+        ensures faults { result.faults ≡ 0 }
+    {
+        StdSource { inner, faults: 0 }
+    }
+}
+
+impl<R: Read> Source for StdSource<R> {
+    ghost left = { λ s. None };
+
+    ghost faults = { λ s. s.faults };
+
+    fn read(&mut self, into: &mut [u8]) -> Result<usize, Failed>
+        requires { 0 < length into.old }
+        ensures bound { ReadsAtMost result into.new }
+        ensures bytes { ReadConsumes None None result into.new }
+        ensures cause { HasCause self.old.faults self.new.faults result }
+        ensures count { Counted self.old.faults self.new.faults result }
+        ensures inner { ReadConsumes (R.remaining self.old.inner) (R.remaining self.new.inner) result into.new }
+    {
+        match read_again(&mut self.inner, into) {
+            Ok(count) => Ok(count),
+            Err(_) => {
+                self.faults = self.faults.saturating_add(1);
+                Err(Failed)
+            }
+        }
+    }
+}
+
+/// A writer as a sink. An interrupted write is made again, and one that takes no byte is a failure.
+#[derive(Drop)]
+pub struct StdSink<W> {
+    inner: W,
+    faults: u64,
+}
+
+impl<W> Model for StdSink<W> {
+    ghost use Rattle.cov_net.specs.Edge.{Edge, edge_code};
+
+    ghost Value = { Edge W };
+
+    ghost coded = { edge_code W.code };
+
+    ghost view = { λ s. record { inner = s.inner; faults = s.faults } };
+}
+
+impl<W> StdSink<W> {
+    /// A sink that hasn't failed yet.
+    pub fn new(inner: W) -> Self
+        ensures inner { result.inner ≡ inner }
+        ensures faults { result.faults ≡ 0 }
+    {
+        StdSink { inner, faults: 0 }
+    }
+}
+
+impl<W: Write> Sink for StdSink<W> {
+    ghost written = { λ s. None };
+
+    ghost faults = { λ s. s.faults };
+
+    fn write(&mut self, bytes: &[u8]) -> Result<usize, Failed>
+        requires { 0 < length bytes.now }
+        ensures bound { IfOk result (λ n. (0 < n) × (n ≤ length bytes.now)) }
+        ensures bytes { Writes None None result bytes.now }
+        ensures cause { HasCause self.old.faults self.new.faults result }
+        ensures count { Counted self.old.faults self.new.faults result }
+        ensures inner { WriteAppends (W.contents self.old.inner) (W.contents self.new.inner) result bytes.now }
+    {
+        match write_again(&mut self.inner, bytes) {
+            Ok(count) if count > 0 => Ok(count),
+            _ => {
+                self.faults = self.faults.saturating_add(1);
+                Err(Failed)
+            }
+        }
+    }
+}
