@@ -3,7 +3,7 @@ ghost use Rattle.std.specs.Prelude.{◌≡◌, ◌<◌, ◌≤◌, ℕ, List, No
 ghost use Rattle.std.specs.Io.{ReadsAtMost};
 ghost use Rattle.std.specs.Io.KnownBytes.{ReadConsumes, WriteAppends};
 ghost use Rattle.cov_base.specs.Causes.{HasCause};
-ghost use Rattle.cov_base.specs.Told.{Writes};
+ghost use Rattle.cov_base.specs.Told.{Reads, Writes};
 ghost use Rattle.cov_net.specs.Counted.{Counted};
 
 use crate::again::{read_again, write_again};
@@ -46,7 +46,7 @@ impl<R: Read> Source for StdSource<R> {
     fn read(&mut self, into: &mut [u8]) -> Result<usize, Failed>
         requires { 0 < length into.old }
         ensures bound { ReadsAtMost result into.new }
-        ensures bytes { ReadConsumes None None result into.new }
+        ensures bytes { Reads None None result into.new }
         ensures cause { HasCause self.old.faults self.new.faults result }
         ensures count { Counted self.old.faults self.new.faults result }
         ensures inner { ReadConsumes (R.remaining self.old.inner) (R.remaining self.new.inner) result into.new }
