@@ -1,7 +1,11 @@
 //! Numbers as bits, and bits as numbers.
 ghost use Rattle.std.specs.Prelude.{◌≡◌, ◌≤◌, ◌<◌, ◌-◌, ◌^◌};
 ghost use Rattle.cov_base.specs.Sets.{IsInt};
+ghost use Rattle.const_eval.specs.Typs.{HasWidth};
 ghost use Rattle.const_eval.specs.Values.{bits_of, read, cut as cut_of};
+
+use crate::Typ;
+use cov_base::Int;
 
 /// So many ones.
 #[inline(always)]
@@ -25,9 +29,20 @@ pub(crate) fn low_bits(width: u8, number: i128) -> u64
     word & ones(width)
 }
 
+/// The number that bits of a type stand for: they are read without a sign, or in two's complement (IEEE 1800-2017,
+/// 6.11.3).
+#[inline(always)]
+pub fn number_of(typ: Typ, bits: u64) -> Int
+    requires width { HasWidth typ }
+    requires below { bits < 2 ^ typ.width }
+    ensures { result ≡ read typ.width typ.signed bits }
+{
+    Int::new(read_bits(typ.width, typ.signed, bits)).unwrap()
+}
+
 /// Bits read without a sign, or in two's complement.
 #[inline(always)]
-pub(crate) fn number_of(width: u8, signed: bool, bits: u64) -> i128
+pub(crate) fn read_bits(width: u8, signed: bool, bits: u64) -> i128
     requires least { 1 ≤ width }
     requires most { width ≤ 64 }
     requires below { bits < 2 ^ width }
@@ -52,5 +67,5 @@ pub(crate) fn cut(width: u8, signed: bool, number: i128) -> i128
     ensures value { result ≡ cut_of width signed number }
     ensures range { IsInt result }
 {
-    number_of(width, signed, low_bits(width, number))
+    read_bits(width, signed, low_bits(width, number))
 }

@@ -3,10 +3,11 @@ ghost use Rattle.std.specs.Prelude.{◌≡◌, ◌+◌, ◌≤◌, IfOk};
 ghost use Rattle.const_eval.specs.Typs.{HasWidth};
 ghost use Rattle.const_eval.specs.Terms as term;
 ghost use Rattle.const_eval.specs.Terms.{typ_in};
-ghost use Rattle.const_eval.specs.Nodes.{IsWithin};
+ghost use Rattle.const_eval.specs.Nodes.{IsWithin, IsTyped, term_of};
 
 use crate::typs::{ONE_BIT, common, either_typ, typ_of_binary};
 use crate::{Meaning, Typ};
+use cov_base::Memory;
 use cov_tree::{BinOp, UnOp};
 use std::alloc::{AllocError, Global};
 use std::marker::Model;
@@ -56,6 +57,14 @@ impl Model for Bound {
 }
 
 impl Bound {
+    /// The same expression once more.
+    pub fn copy(&self, alloc: Global) -> Result<Bound, Memory>
+        ensures { IfOk result (λ copy. copy ≡ self.now) }
+    {
+        let typed = self.typed.copy(alloc)?;
+        Ok(Bound { typed })
+    }
+
     /// A number of so many bits.
     pub(crate) fn number(bits: u64, typ: Typ) -> Bound
         requires { HasWidth typ }
@@ -199,5 +208,93 @@ impl Bound {
                 node: Node::Cond(test, first, second),
             },
         })
+    }
+}
+
+impl Typed {
+    /// The same expression once more.
+    fn copy(&self, alloc: Global) -> Result<Typed, AllocError>
+        requires { IsTyped self.now }
+        ensures typ { IfOk result (λ copy. copy.typ ≡ self.now.typ) }
+        ensures term { IfOk result (λ copy. term_of copy ≡ term_of self.now) }
+        ensures sound { IfOk result (λ copy. IsTyped copy) }
+    {
+        let typ = self.typ;
+        match &self.node {
+            Node::Number { bits } => Ok(Typed {
+                typ,
+                node: Node::Number { bits: *bits },
+            }),
+            Node::Name { meaning, at } => Ok(Typed {
+                typ,
+                node: Node::Name {
+                    meaning: *meaning,
+                    at: *at,
+                },
+            }),
+            Node::Part { meaning, skip, at } => Ok(Typed {
+                typ,
+                node: Node::Part {
+                    meaning: *meaning,
+                    skip: *skip,
+                    at: *at,
+                },
+            }),
+            Node::Alone(inner) => {
+                let inner = Box::new(alloc, inner.copy(alloc)?)?;
+                Ok(Typed {
+                    typ,
+                    node: Node::Alone(inner),
+                })
+            }
+            Node::Joined(front, last) => {
+                let front = Box::new(alloc, front.copy(alloc)?)?;
+                let last = Box::new(alloc, last.copy(alloc)?)?;
+                Ok(Typed {
+                    typ,
+                    node: Node::Joined(front, last),
+                })
+            }
+            Node::Unary(op, inner) => {
+                let inner = Box::new(alloc, inner.copy(alloc)?)?;
+                Ok(Typed {
+                    typ,
+                    node: Node::Unary(*op, inner),
+                })
+            }
+            Node::Binary(op, left, right) => {
+                let left = Box::new(alloc, left.copy(alloc)?)?;
+                let right = Box::new(alloc, right.copy(alloc)?)?;
+                Ok(Typed {
+                    typ,
+                    node: Node::Binary(*op, left, right),
+                })
+            }
+            Node::And(left, right) => {
+                let left = Box::new(alloc, left.copy(alloc)?)?;
+                let right = Box::new(alloc, right.copy(alloc)?)?;
+                Ok(Typed {
+                    typ,
+                    node: Node::And(left, right),
+                })
+            }
+            Node::Or(left, right) => {
+                let left = Box::new(alloc, left.copy(alloc)?)?;
+                let right = Box::new(alloc, right.copy(alloc)?)?;
+                Ok(Typed {
+                    typ,
+                    node: Node::Or(left, right),
+                })
+            }
+            Node::Cond(test, first, second) => {
+                let test = Box::new(alloc, test.copy(alloc)?)?;
+                let first = Box::new(alloc, first.copy(alloc)?)?;
+                let second = Box::new(alloc, second.copy(alloc)?)?;
+                Ok(Typed {
+                    typ,
+                    node: Node::Cond(test, first, second),
+                })
+            }
+        }
     }
 }

@@ -14,6 +14,7 @@ mod typs;
 mod values;
 
 pub use binding::{bind, constant, place};
+pub use bits::number_of;
 pub use bound::Bound;
 pub use fault::BindFault;
 pub use meaning::{ITEM, Meaning};

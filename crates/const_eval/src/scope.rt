@@ -1,29 +1,30 @@
-//! Names with what they stand for, found by their bytes.
-ghost use Rattle.std.specs.Prelude.{◌≡◌, [], is_none, IfOk, OnOk, OnErr};
-ghost use Rattle.const_eval.specs.Scopes.{meaning_of, names_of, added, entry_names, item_names, first_of};
+//! Names with what they stand for, at three levels.
+ghost use Rattle.std.specs.Prelude.{◌≡◌, [], List, ℕ, is_none, IfOk, OnOk, OnErr};
+ghost use Rattle.const_eval.specs.Scopes.{meaning_of, names_of, with_name, with_names, item_names, first_of};
 
 use crate::{ITEM, Meaning, Typ};
 use cov_base::Memory;
-use cov_tree::Name;
-use indexmap::IndexMap;
+use cov_tree::{List, Name};
+use name_map::NameMap;
 use std::alloc::Global;
 use std::marker::Model;
+use std::mem;
 
 /// Names with what they stand for: `item` of a `with`, inner names, as the formals of a group, and outer names, as those
 /// of the design. An inner name hides an outer one of the same text, and `item` hides both.
 #[derive(Drop)]
 pub struct Scope {
     item: Option<Typ>,
-    inner: IndexMap<Vec<u8>, Meaning>,
-    outer: IndexMap<Vec<u8>, Meaning>,
+    inner: NameMap<Meaning>,
+    outer: NameMap<Meaning>,
 }
 
 impl Model for Scope {
-    ghost use Rattle.const_eval.specs.Scopes.{Levels, entry_names};
+    ghost use Rattle.const_eval.specs.Scopes.{Levels};
 
     ghost Value = { Levels };
 
-    ghost view = { λ scope. record { item = scope.item; inner = entry_names scope.inner.entries; outer = entry_names scope.outer.entries } };
+    ghost view = { λ scope. record { item = scope.item; inner = scope.inner; outer = scope.outer } };
 }
 
 impl Scope {
@@ -33,9 +34,24 @@ impl Scope {
     {
         Scope {
             item: None,
-            inner: IndexMap::new(alloc),
-            outer: IndexMap::new(alloc),
+            inner: NameMap::new(alloc),
+            outer: NameMap::new(alloc),
         }
+    }
+
+    /// The names of a list of pairs as outer names; the first pair of a name counts.
+    pub fn of(alloc: Global, names: List<(Name, Meaning)>) -> Result<Scope, Memory>
+        ensures value { IfOk result
+            (λ scope. scope ≡ record { item = None; inner = []; outer = with_names [] names }) }
+        ensures meaning { IfOk result
+            (λ scope. (name : List ℕ) → meaning_of (names_of scope) name ≡ meaning_of names name) }
+    {
+        let outer = NameMap::of(alloc, names.into_vec())?;
+        Ok(Scope {
+            item: None,
+            inner: NameMap::new(alloc),
+            outer,
+        })
     }
 
     /// What the name stands for. It takes no memory.
@@ -50,19 +66,29 @@ impl Scope {
     /// Adds an outer name. Answers whether it is a new one; where it isn't, the first meaning stays.
     pub fn declare(&mut self, name: Name, meaning: Meaning) -> Result<bool, Memory>
         ensures new { IfOk result (λ is_new. is_new ≡ is_none (meaning_of self.old.outer name)) }
-        ensures added { OnOk result (self.new ≡ record self.old { outer = added self.old.outer name meaning }) }
+        ensures added { OnOk result
+            (self.new ≡ record self.old { outer = with_name self.old.outer name meaning }) }
         ensures err { OnErr result (self.new ≡ self.old) }
     {
-        add(&mut self.outer, name, meaning)
+        self.outer.declare(name, meaning)
     }
 
     /// Adds an inner name. Answers whether it is a new one among these; where it isn't, the first meaning stays.
     pub fn declare_inner(&mut self, name: Name, meaning: Meaning) -> Result<bool, Memory>
         ensures new { IfOk result (λ is_new. is_new ≡ is_none (meaning_of self.old.inner name)) }
-        ensures added { OnOk result (self.new ≡ record self.old { inner = added self.old.inner name meaning }) }
+        ensures added { OnOk result
+            (self.new ≡ record self.old { inner = with_name self.old.inner name meaning }) }
         ensures err { OnErr result (self.new ≡ self.old) }
     {
-        add(&mut self.inner, name, meaning)
+        self.inner.declare(name, meaning)
+    }
+
+    /// Puts other inner names in the place of those that there are, and answers these. It takes no memory.
+    pub fn replace_inner(&mut self, names: NameMap<Meaning>) -> NameMap<Meaning>
+        ensures names { result ≡ self.old.inner }
+        ensures scope { self.new ≡ record self.old { inner = names } }
+    {
+        mem::replace(&mut self.inner, names)
     }
 
     /// Forgets the inner names. It takes no memory.
@@ -81,25 +107,10 @@ impl Scope {
 }
 
 /// The meaning of the name among these.
-#[tactic(auto, unfolding(crate::specs::Scopes::meaning_of))]
-fn found(map: &IndexMap<Vec<u8>, Meaning>, name: &[u8]) -> Option<Meaning>
-    ensures { result ≡ meaning_of (entry_names map.now.entries) name.now }
+fn found(names: &NameMap<Meaning>, name: &[u8]) -> Option<Meaning>
+    ensures { result ≡ meaning_of names.now name.now }
 {
-    map.get(name).copied()
-}
-
-/// Adds a name, unless it is there.
-#[tactic(auto, unfolding(crate::specs::Scopes::meaning_of))]
-fn add(map: &mut IndexMap<Vec<u8>, Meaning>, name: Name, meaning: Meaning) -> Result<bool, Memory>
-    ensures new { IfOk result (λ is_new. is_new ≡ is_none (meaning_of (entry_names map.old.entries) name)) }
-    ensures added { OnOk result (entry_names map.new.entries ≡ added (entry_names map.old.entries) name meaning) }
-    ensures err { OnErr result (map.new.entries ≡ map.old.entries) }
-{
-    if found(map, name.as_slice()).is_some() {
-        return Ok(false);
-    }
-    map.insert(name.into_vec(), meaning)?;
-    Ok(true)
+    names.get(name).copied()
 }
 
 /// The first of the two that is there.
