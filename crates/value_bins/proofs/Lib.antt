@@ -1,3 +1,4 @@
+pub mod Clipping
 pub mod Keeping
 pub mod Runs
 pub mod Taking

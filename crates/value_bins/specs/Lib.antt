@@ -1,2 +1,3 @@
+pub mod Clips
 pub mod Listed
 pub use Rattle.bin_spec.specs.Parts

@@ -8,6 +8,7 @@ mod elems;
 mod faults;
 mod filter;
 mod ranges;
+mod within;
 
 pub use arrays::spread;
 pub use distinct::singles;
