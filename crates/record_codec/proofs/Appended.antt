@@ -2,7 +2,9 @@
 use Rattle.std.proofs.Common.{◌≡◌, ℕ, List, [], ◌∷◌, ◌++◌, ap, ◌∙◌, append_assoc, Ok}
 use Rattle.std.specs.Int.{w64, to_be_bytes}
 use Rattle.record_codec.specs.declared.record.Record.{Record}
-use Rattle.record_codec.specs.Spelling.{text, head, front, signal_table, instance_table, event_list, spelling, fields_of}
+use Rattle.record_codec.specs.declared.record.Fields.{Fields}
+use Rattle.record_codec.specs.Bytes.{text, head, front, signal_table, instance_table, event_list, bytes_of}
+use Rattle.record_codec.specs.Spelling.{spelling, fields_of}
 use Rattle.record_codec.specs.Reading.{reading}
 use Rattle.record_codec.proofs.RecordLaws.{read_again}
 
@@ -13,9 +15,9 @@ behind old mid new a b p q = q ∙ ap (λ (l : List ℕ). l ++ b) p ∙ append_a
 six : (a b c d e f g : List ℕ) → (a ++ (b ++ (c ++ (d ++ (e ++ f))))) ++ g ≡ a ++ (b ++ (c ++ (d ++ (e ++ (f ++ g)))))
 six a b c d e f g = simp append_assoc
 
-pub in_parts : (r : Record) → front r ++ (signal_table r.signals ++ (instance_table r.instances ++ event_list r.events)) ≡ spelling r
-unfolding spelling
-in_parts r = six head (text r.id) (r.status ∷ []) (to_be_bytes w64 r.seed) (to_be_bytes w64 r.time) (text r.user) (signal_table r.signals ++ (instance_table r.instances ++ event_list r.events))
+pub in_parts : (r : Fields) → front r ++ (signal_table r.signals ++ (instance_table r.version r.instances ++ event_list r.events)) ≡ bytes_of r
+unfolding bytes_of
+in_parts r = six (head r.version) (text r.id) (r.status ∷ []) (to_be_bytes w64 r.seed) (to_be_bytes w64 r.time) (text r.user) (signal_table r.signals ++ (instance_table r.version r.instances ++ event_list r.events))
 
 pub reads_back : (r : Record) (bytes : List ℕ) → bytes ≡ spelling r → reading bytes ≡ Ok (fields_of r)
 reads_back r bytes e = ap reading e ∙ read_again r

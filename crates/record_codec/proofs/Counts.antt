@@ -2,8 +2,8 @@
 use Rattle.std.proofs.Common.{◌≡◌, ℕ, zero, suc, List, [], ◌∷◌, ◌++◌, length, Ok, refl, ap, subst, ◌∙◌, append_assoc}
 use Rattle.std.specs.List.{flat_map, AllByRecursion}
 use Rattle.std.proofs.lemmas.List.Concat.{flat_map-cons}
-use Rattle.record_codec.specs.Reading.{counted}
-use Rattle.record_codec.proofs.Readers.{Reader, IsBytes, bind_ok, ok_is, Takes, Takes-then, IsField}
+use Rattle.record_codec.specs.Reading.{Reader, counted}
+use Rattle.record_codec.proofs.Readers.{IsBytes, bind_ok, ok_is, Takes, Takes-then, IsField}
 
 -- what was read is spelled so, is as many, and each is within its limits
 pub record ReadAll {A : Type 0} (spelled : A → List ℕ) (Fits : A → Type 0) (count : ℕ) (bytes : List ℕ) (x : List A × List ℕ) : Type 0 where

@@ -1,21 +1,22 @@
 -- What follows from reading all of the bytes.
-use Rattle.std.proofs.Common.{◌≡◌, ℕ, List, [], length, Result, Ok, Err, refl, sym, ap, ◌∙◌}
+use Rattle.std.proofs.Common.{◌≡◌, ℕ, ◌≤◌, List, length, Result, Ok, Err, refl, sym, ap, ◌∙◌}
 use Rattle.record_codec.specs.declared.fault.Fault.{Fault}
 use Rattle.record_codec.specs.declared.fault.Fault.TheVariants.{Short, BadMagic, BadVersion, BadField, TooManyEvents, Trailing, Memory}
 use Rattle.record_codec.specs.declared.fault.RecordFault.TheVariants as refusals
 use Rattle.record_codec.specs.declared.record.Record.{Record}
 use Rattle.record_codec.specs.declared.record.Fields.{Fields}
+use Rattle.record_codec.specs.Bytes.{bytes_of}
 use Rattle.record_codec.specs.Spelling.{fields_of, Encodes}
 use Rattle.record_codec.specs.Reading.{Fails, whole, told, from_front, reading, HasRead}
 use Rattle.record_codec.proofs.Readers.{IsBytes}
-use Rattle.record_codec.proofs.RecordLaws.{alone, record_and, whole_takes, whole_again}
+use Rattle.record_codec.proofs.RecordLaws.{whole_takes, is_within, whole_again}
 
 pub read_is : (bytes : List ℕ) (fields : Fields) (r : Record) → whole bytes ≡ Ok fields → fields_of r ≡ fields → reading bytes ≡ Ok (fields_of r)
 unfolding reading
 read_is bytes fields r e same = ap (from_front (length bytes)) (e ∙ ap Ok (sym same))
 
 pub encodes : (bytes : List ℕ) (fields : Fields) (r : Record) → IsBytes bytes → whole bytes ≡ Ok fields → fields_of r ≡ fields → Encodes r bytes
-encodes bytes fields r fits e same = record { spelled = (whole_takes bytes fields fits e).parts ∙ ap (λ (f : Fields). record_and f []) (sym same) ∙ alone r }
+encodes bytes fields r fits e same = record { spelled = (whole_takes bytes fields fits e).parts ∙ ap bytes_of (sym same) }
 
 fault_is : (bytes : List ℕ) (f : Fault) → whole bytes ≡ Err f → reading bytes ≡ Err (told (length bytes) f)
 unfolding reading
@@ -52,8 +53,8 @@ read_whole : (bytes : List ℕ) (f : Fields) → reading bytes ≡ Ok f → whol
 unfolding reading
 read_whole bytes f e = back (length bytes) (whole bytes) f e
 
-pub read_record : (bytes : List ℕ) (f : Fields) → IsBytes bytes → reading bytes ≡ Ok f → (r : Record) × (fields_of r ≡ f) × Encodes r bytes
-read_record bytes f fits e =
+pub read_record : (bytes : List ℕ) (f : Fields) → IsBytes bytes → length bytes ≤ 8388608 → reading bytes ≡ Ok f → (r : Record) × (fields_of r ≡ f) × Encodes r bytes
+read_record bytes f fits short e =
     let found = whole_takes bytes f fits (read_whole bytes f e) in
-    let r : Record = record { id = f.id; status = f.status; seed = f.seed; time = f.time; user = f.user; signals = f.signals; instances = f.instances; events = f.events; within = found.within } in
-    (r, refl, record { spelled = found.parts ∙ alone r })
+    let r : Record = record { version = f.version; id = f.id; status = f.status; seed = f.seed; time = f.time; user = f.user; signals = f.signals; instances = f.instances; events = f.events; within = is_within bytes f found short } in
+    (r, refl, record { spelled = found.parts })

@@ -6,6 +6,7 @@ pub mod Loops
 pub mod Numbers
 pub mod Readers
 pub mod RecordLaws
-pub mod Tables
+pub mod TableLaws
 pub mod Texts
 pub mod Under
+pub mod ValueLoops

@@ -4,7 +4,7 @@ use Rattle.std.proofs.lemmas.List.{append-nil}
 use Rattle.record_codec.specs.declared.fault.Fault.{Fault}
 use Rattle.record_codec.specs.declared.fault.Fault.TheVariants.{Short, BadMagic, BadVersion, BadField, TooManyEvents, Trailing, Memory}
 use Rattle.record_codec.specs.Reading.{◌>>=◌, Fails, counted}
-use Rattle.record_codec.proofs.Readers.{Reader}
+use Rattle.record_codec.specs.Reading.{Reader}
 
 -- what was read before, and what is still read
 abbrev pub with_front : {A : Type 0} → List A → Result (List A × List ℕ) Fault → Result (List A × List ℕ) Fault
@@ -14,7 +14,7 @@ with_front front read = read >>= λ x. Ok (front ++ x.0, x.1)
 pub record SoFar {A : Type 0} (read : Reader A) (bytes : List ℕ) (count : ℕ) (front : List A) (rest : List ℕ) (i : ℕ) : Type 0 where
   pub so_far : with_front front (counted read (count - i) rest) ≡ counted read count bytes
 
-regroup : {A : Type 0} (front : List A) (x : A) (read : Result (List A × List ℕ) Fault) → with_front front (read >>= λ y. Ok (x ∷ y.0, y.1)) ≡ with_front (front ++ x ∷ []) read
+pub regroup : {A : Type 0} (front : List A) (x : A) (read : Result (List A × List ℕ) Fault) → with_front front (read >>= λ y. Ok (x ∷ y.0, y.1)) ≡ with_front (front ++ x ∷ []) read
 regroup front x (Ok y) = ap (λ (xs : List _). Ok (xs, y.1)) (simp append_assoc)
 regroup front x (Err f) = refl
 

@@ -82,7 +82,7 @@ pub record IsWithin (least limit n : ℕ) : Type 0 where
   pub low : least ≤ n
   pub high : n < limit
 
-both : (a b : Bool) → (a && b) ≡ true → (a ≡ true) × (b ≡ true)
+pub both : (a b : Bool) → (a && b) ≡ true → (a ≡ true) × (b ≡ true)
 both true b e = (refl, e)
 both false b e = absurd cc
 

@@ -3,10 +3,7 @@ use Rattle.std.proofs.Common.{◌≡◌, ℕ, ◌<◌, ◌+◌, Bool, true, fals
 use Rattle.std.proofs.lemmas.Bool.{cases_lt}
 use Rattle.std.proofs.lemmas.List.{length-take, get_or-drop, get_or-take, get_or_past}
 use Rattle.record_codec.specs.declared.fault.Fault.{Fault}
-use Rattle.record_codec.specs.Reading.{◌>>=◌}
-
-abbrev pub Reader : Type 0 → Type 0
-Reader A = List ℕ → Result (A × List ℕ) Fault
+use Rattle.record_codec.specs.Reading.{◌>>=◌, Reader}
 
 abbrev pub IsBytes : List ℕ → Type 0
 IsBytes bytes = (i : ℕ) → get_or bytes i 0 < 256

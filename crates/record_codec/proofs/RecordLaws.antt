@@ -1,7 +1,9 @@
 -- The whole record: what is read is spelled so and within its limits, and what is spelled so is read.
-use Rattle.std.proofs.Common.{◌≡◌, ℕ, ◌^◌, ◌<◌, eqb, List, [], ◌++◌, length, Result, Ok, refl, sym, ap, subst, ◌∙◌, append_assoc, arith}
+use Rattle.std.proofs.Common.{true, ◌≡◌, ℕ, ◌^◌, ◌<◌, ◌≤◌, eqb, ltb, leb, List, [], ◌++◌, length, Result, Ok, refl, sym, ap, subst, ◌∙◌, append_assoc, arith}
 use Rattle.std.specs.Int.{w8, w16, w32, w64, to_be_bytes}
-use Rattle.std.proofs.lemmas.Bool.{eqb-true}
+use Rattle.std.specs.List.{AllByRecursion}
+use mathlib.Core.Bool.{◌&&◌}
+use Rattle.std.proofs.lemmas.Bool.{eqb-true, leb-true, ltb-true, le-leb, lt-ltb}
 use Rattle.std.proofs.lemmas.List.{append-nil, nil_from_length}
 use mathlib.Core.HLevel.{is_prop→PathP}
 use Rattle.record_codec.specs.declared.fault.Fault.{Fault}
@@ -13,40 +15,48 @@ use Rattle.record_codec.specs.declared.record.TestRow.{TestRow}
 use Rattle.record_codec.specs.declared.record.SignalRow.{SignalRow}
 use Rattle.record_codec.specs.declared.record.InstRow.{InstRow}
 use Rattle.record_codec.specs.declared.record.Event.{Event}
-use Rattle.record_codec.specs.Limits.{IsText, IsSignalRow, IsInstRow, IsEvent, IsWithinLimits, IsWithinLimits-prop}
-use Rattle.record_codec.specs.Spelling.{text, head, signal_table, instance_table, event_list, spelling, fields_of, Encodes}
+use Rattle.record_codec.specs.Limits.{IsText, IsSignalRow, IsInstRow, IsEvent, IsStart, IsWithinLimits, IsWithinLimits-prop}
+use Rattle.record_codec.specs.Bytes.{text, head, signal_table, instance_table, event_list, bytes_of}
+use Rattle.record_codec.specs.Spelling.{spelling, fields_of, Encodes}
 use Rattle.record_codec.specs.Reading.{number_at, number_within, text_at, version_at, head_at, test_at, signals_at, instances_at, events_at, record_at, whole, from_front, reading, HasFault}
 use Rattle.record_codec.proofs.Readers.{IsBytes, bind_ok, let_pass, ok_is, Takes, Takes-then, Read, last}
-use Rattle.record_codec.proofs.Numbers.{IsWithin, one_byte, wide8, wide16, wide32, wide64, number_field, within_field}
+use Rattle.record_codec.proofs.Numbers.{IsWithin, both, one_byte, wide8, wide16, wide32, wide64, number_field, within_field}
 use Rattle.record_codec.proofs.Texts.{text_field}
-use Rattle.record_codec.proofs.Tables.{AreRows, signals_field, instances_field}
+use Rattle.record_codec.proofs.TableLaws.{AreRows, signals_field, instances_field}
 use Rattle.record_codec.proofs.EventLaws.{events_field}
 
 -- ---- the letters and the version
 
-version_takes : (bytes rest : List ℕ) → IsBytes bytes → version_at bytes ≡ Ok rest → Takes bytes (to_be_bytes w16 1) rest
+version_takes : (bytes : List ℕ) (x : ℕ × List ℕ) → IsBytes bytes → version_at bytes ≡ Ok x → Read (to_be_bytes w16) (IsWithin 1 3) bytes x
 unfolding version_at
-version_takes bytes rest fits e =
-    let a = bind_ok (number_at w16 bytes) _ rest e in
-    let g = let_pass (eqb a.0.0 1) (BadVersion a.0.0) (Ok a.0.1) rest a.2 in
-    let same : a.0.0 ≡ 1 = eqb-true _ _ g.0 in
+version_takes bytes x fits e =
+    let a = bind_ok (number_at w16 bytes) _ x e in
+    let g = let_pass (leb 1 a.0.0 && ltb a.0.0 3) (BadVersion a.0.0) (Ok a.0) x a.2 in
+    let t = both _ _ g.0 in
     let found = (number_field wide16).takes bytes a.0 fits a.1 in
-    subst (λ (r : List ℕ). Takes bytes (to_be_bytes w16 1) r) {x = a.0.1} (ok_is a.0.1 rest g.1) (subst (λ (n : ℕ). Takes bytes (to_be_bytes w16 n) a.0.1) same found.takes)
+    subst (λ (y : ℕ × List ℕ). Read (to_be_bytes w16) (IsWithin 1 3) bytes y) (ok_is a.0 x g.1) (record { takes = found.takes; fits = record { low = leb-true _ _ t.0; high = ltb-true _ _ t.1 } })
 
-head_takes : (bytes rest : List ℕ) → IsBytes bytes → head_at bytes ≡ Ok rest → Takes bytes head rest
+head_takes : (bytes : List ℕ) (x : ℕ × List ℕ) → IsBytes bytes → head_at bytes ≡ Ok x → Read head (IsWithin 1 3) bytes x
 unfolding head_at
-head_takes bytes rest fits e =
-    let a = bind_ok (number_at w32 bytes) _ rest e in
-    let g = let_pass (eqb a.0.0 0x43565243) BadMagic (version_at a.0.1) rest a.2 in
+head_takes bytes x fits e =
+    let a = bind_ok (number_at w32 bytes) _ x e in
+    let g = let_pass (eqb a.0.0 0x43565243) BadMagic (version_at a.0.1) x a.2 in
     let same : a.0.0 ≡ 0x43565243 = eqb-true _ _ g.0 in
     let found = (number_field wide32).takes bytes a.0 fits a.1 in
-    Takes-then (subst (λ (n : ℕ). Takes bytes (to_be_bytes w32 n) a.0.1) same found.takes) (version_takes a.0.1 rest found.takes.rest_fits g.1)
+    let letters = subst (λ (n : ℕ). Takes bytes (to_be_bytes w32 n) a.0.1) same found.takes in
+    let version = version_takes a.0.1 x found.takes.rest_fits g.1 in
+    record { takes = Takes-then letters version.takes; fits = version.fits }
 
-head_again : (rest : List ℕ) → head_at (head ++ rest) ≡ Ok rest
-unfolding head_at version_at
-head_again rest =
-    last (number_field wide32) 0x43565243 (to_be_bytes w16 1 ++ rest) _ (omega arith)
-    ∙ last (number_field wide16) 1 rest _ (omega arith)
+version_again : (version : ℕ) (rest : List ℕ) → IsWithin 1 3 version → version_at (to_be_bytes w16 version ++ rest) ≡ Ok (version, rest)
+unfolding version_at
+version_again version rest within =
+    let low : leb 1 version ≡ true = le-leb _ _ within.low in
+    let high : ltb version 3 ≡ true = lt-ltb _ _ within.high in
+    last (number_field wide16) version rest _ (omega (arith, within.high)) ∙ rw (low, high) refl
+
+head_again : (version : ℕ) (rest : List ℕ) → IsWithin 1 3 version → head_at (head version ++ rest) ≡ Ok (version, rest)
+unfolding head_at
+head_again version rest within = last (number_field wide32) 0x43565243 (to_be_bytes w16 version ++ rest) _ (omega arith) ∙ version_again version rest within
 
 -- ---- the test
 
@@ -107,34 +117,57 @@ test_again t rest fits =
 abbrev test_of : Fields → TestRow
 test_of r = record { id = r.id; status = r.status; seed = r.seed; time = r.time; user = r.user }
 
--- the spelling of a record, with what follows
+-- the spelling of the fields, with what follows
 abbrev pub record_and : Fields → List ℕ → List ℕ
-record_and r rest = head ++ test_and (test_of r) (signal_table r.signals ++ (instance_table r.instances ++ (event_list r.events ++ rest)))
+record_and r rest = head r.version ++ test_and (test_of r) (signal_table r.signals ++ (instance_table r.version r.instances ++ (event_list r.events ++ rest)))
+
+nine : (a b c d e f g h i more : List ℕ) → (a ++ (b ++ (c ++ (d ++ (e ++ (f ++ (g ++ (h ++ i)))))))) ++ more ≡ a ++ (b ++ (c ++ (d ++ (e ++ (f ++ (g ++ (h ++ (i ++ more))))))))
+nine a b c d e f g h i more = simp append_assoc
+
+pub followed : (r : Fields) (more : List ℕ) → bytes_of r ++ more ≡ record_and r more
+unfolding bytes_of
+followed r more = nine (head r.version) (text r.id) (one_byte r.status) (to_be_bytes w64 r.seed) (to_be_bytes w64 r.time) (text r.user) (signal_table r.signals) (instance_table r.version r.instances) (event_list r.events) more
+
+pub alone : (r : Fields) → record_and r [] ≡ bytes_of r
+alone r = sym (followed r []) ∙ append-nil (bytes_of r)
+
+-- within its limits, however many its bytes are
+pub record IsOfAnyLength (r : Fields) : Type 0 where
+  pub start : IsStart r
+  pub event_count : length r.events ≤ 1048576
+  pub events : AllByRecursion (IsEvent r.signals r.instances) r.events
+
+pub of_any_length : (r : Fields) → IsWithinLimits r → IsOfAnyLength r
+of_any_length r within = record { start = within.start; event_count = within.event_count; events = within.events }
 
 pub record Found (bytes : List ℕ) (x : Fields × List ℕ) : Type 0 where
   pub parts : bytes ≡ record_and x.0 x.1
-  pub within : IsWithinLimits x.0
+  pub within : IsOfAnyLength x.0
 
-record_made : (bytes a b c d e : List ℕ) (t : TestRow) (signals : List SignalRow) (instances : List InstRow) (events : List Event)
-    → Takes bytes head a → Read test_row IsTestRow a (t, b) → Read signal_table (AreRows IsSignalRow 4096) b (signals, c)
-    → Read instance_table (AreRows IsInstRow 1024) c (instances, d) → Read event_list (AreRows (IsEvent signals (length instances)) 1048576) d (events, e)
-    → Found bytes (record { id = t.id; status = t.status; seed = t.seed; time = t.time; user = t.user; signals = signals; instances = instances; events = events }, e)
-record_made bytes a b c d e t signals instances events letters test s i v =
-    let tables : b ≡ signal_table signals ++ (instance_table instances ++ (event_list events ++ e)) =
-    s.takes.parts ∙ ap (λ (l : List ℕ). signal_table signals ++ l) (i.takes.parts ∙ ap (λ (l : List ℕ). instance_table instances ++ l) v.takes.parts) in
+record_made : (bytes a b c d e : List ℕ) (version : ℕ) (t : TestRow) (signals : List SignalRow) (instances : List InstRow) (events : List Event)
+    → Read head (IsWithin 1 3) bytes (version, a) → Read test_row IsTestRow a (t, b) → Read signal_table (AreRows IsSignalRow 4096) b (signals, c)
+    → Read (instance_table version) (AreRows (IsInstRow version) 1024) c (instances, d) → Read event_list (AreRows (IsEvent signals instances) 1048576) d (events, e)
+    → Found bytes (record { version = version; id = t.id; status = t.status; seed = t.seed; time = t.time; user = t.user; signals = signals; instances = instances; events = events }, e)
+record_made bytes a b c d e version t signals instances events letters test s i v =
+    let tables : b ≡ signal_table signals ++ (instance_table version instances ++ (event_list events ++ e)) =
+    s.takes.parts ∙ ap (λ (l : List ℕ). signal_table signals ++ l) (i.takes.parts ∙ ap (λ (l : List ℕ). instance_table version instances ++ l) v.takes.parts) in
     let behind : a ≡ test_and t b = test.takes.parts ∙ flat (text t.id) (one_byte t.status) (to_be_bytes w64 t.seed) (to_be_bytes w64 t.time) (text t.user) b in
     record {
-      parts = letters.parts ∙ ap (λ (l : List ℕ). head ++ l) (behind ∙ ap (test_and t) tables);
+      parts = letters.takes.parts ∙ ap (λ (l : List ℕ). head version ++ l) (behind ∙ ap (test_and t) tables);
       within = record {
-        id = test.fits.id;
-        status = test.fits.status;
-        seed = test.fits.seed;
-        time = test.fits.time;
-        user = test.fits.user;
-        signal_count = s.fits.count;
-        signals = s.fits.all;
-        instance_count = i.fits.count;
-        instances = i.fits.all;
+        start = record {
+          some = letters.fits.low;
+          version = letters.fits.high;
+          id = test.fits.id;
+          status = test.fits.status;
+          seed = test.fits.seed;
+          time = test.fits.time;
+          user = test.fits.user;
+          signal_count = s.fits.count;
+          signals = s.fits.all;
+          instance_count = i.fits.count;
+          instances = i.fits.all;
+        };
         event_count = v.fits.count;
         events = v.fits.all;
       };
@@ -144,51 +177,39 @@ record_takes : (bytes : List ℕ) (x : Fields × List ℕ) → IsBytes bytes →
 unfolding record_at
 record_takes bytes x fits e =
     let a = bind_ok (head_at bytes) _ x e in
-    let b = bind_ok (test_at a.0) _ x a.2 in
+    let b = bind_ok (test_at a.0.1) _ x a.2 in
     let c = bind_ok (signals_at b.0.1) _ x b.2 in
-    let d = bind_ok (instances_at c.0.1) _ x c.2 in
-    let f = bind_ok (events_at c.0.0 (length d.0.0) d.0.1) _ x d.2 in
+    let d = bind_ok (instances_at a.0.0 c.0.1) _ x c.2 in
+    let f = bind_ok (events_at c.0.0 d.0.0 d.0.1) _ x d.2 in
     let letters = head_takes bytes a.0 fits a.1 in
-    let test = test_takes a.0 b.0 letters.rest_fits b.1 in
+    let test = test_takes a.0.1 b.0 letters.takes.rest_fits b.1 in
     let signals = signals_field.takes b.0.1 c.0 test.takes.rest_fits c.1 in
-    let instances = instances_field.takes c.0.1 d.0 signals.takes.rest_fits d.1 in
-    let events = (events_field c.0.0 (length d.0.0) signals.fits instances.fits.count).takes d.0.1 f.0 instances.takes.rest_fits f.1 in
-    let r : Fields = record { id = b.0.0.id; status = b.0.0.status; seed = b.0.0.seed; time = b.0.0.time; user = b.0.0.user; signals = c.0.0; instances = d.0.0; events = f.0.0 } in
+    let instances = (instances_field a.0.0).takes c.0.1 d.0 signals.takes.rest_fits d.1 in
+    let events = (events_field c.0.0 a.0.0 d.0.0 signals.fits instances.fits).takes d.0.1 f.0 instances.takes.rest_fits f.1 in
+    let r : Fields = record { version = a.0.0; id = b.0.0.id; status = b.0.0.status; seed = b.0.0.seed; time = b.0.0.time; user = b.0.0.user; signals = c.0.0; instances = d.0.0; events = f.0.0 } in
     subst (λ (y : Fields × List ℕ). Found bytes y) {x = (r, f.0.1)} (ok_is (r, f.0.1) x f.2)
-    (record_made bytes a.0 b.0.1 c.0.1 d.0.1 f.0.1 b.0.0 c.0.0 d.0.0 f.0.0 letters test signals instances events)
+    (record_made bytes a.0.1 b.0.1 c.0.1 d.0.1 f.0.1 a.0.0 b.0.0 c.0.0 d.0.0 f.0.0 letters test signals instances events)
 
-record_again : (r : Fields) (rest : List ℕ) → IsWithinLimits r → record_at (record_and r rest) ≡ Ok (r, rest)
+record_again : (r : Fields) (rest : List ℕ) → IsOfAnyLength r → record_at (record_and r rest) ≡ Ok (r, rest)
 unfolding record_at
 record_again r rest within =
-    let signals : AreRows IsSignalRow 4096 r.signals = record { count = within.signal_count; all = within.signals } in
-    let instances : AreRows IsInstRow 1024 r.instances = record { count = within.instance_count; all = within.instances } in
-    let events : AreRows (IsEvent r.signals (length r.instances)) 1048576 r.events = record { count = within.event_count; all = within.events } in
-    let from_instances : List ℕ = instance_table r.instances ++ (event_list r.events ++ rest) in
+    let start = within.start in
+    let signals : AreRows IsSignalRow 4096 r.signals = record { count = start.signal_count; all = start.signals } in
+    let instances : AreRows (IsInstRow r.version) 1024 r.instances = record { count = start.instance_count; all = start.instances } in
+    let events : AreRows (IsEvent r.signals r.instances) 1048576 r.events = record { count = within.event_count; all = within.events } in
+    let from_instances : List ℕ = instance_table r.version r.instances ++ (event_list r.events ++ rest) in
     let from_signals : List ℕ = signal_table r.signals ++ from_instances in
-    let test : IsTestRow (test_of r) = record { id = within.id; status = within.status; seed = within.seed; time = within.time; user = within.user } in
-    rw (head_again (test_and (test_of r) from_signals), test_again (test_of r) from_signals test)
+    let test : IsTestRow (test_of r) = record { id = start.id; status = start.status; seed = start.seed; time = start.time; user = start.user } in
+    rw (head_again r.version (test_and (test_of r) from_signals) (record { low = start.some; high = start.version }), test_again (test_of r) from_signals test)
     (last signals_field r.signals from_instances _ signals
-    ∙ last instances_field r.instances (event_list r.events ++ rest) _ instances
-    ∙ last (events_field r.signals (length r.instances) signals within.instance_count) r.events rest _ events)
+    ∙ last (instances_field r.version) r.instances (event_list r.events ++ rest) _ instances
+    ∙ last (events_field r.signals r.version r.instances signals instances) r.events rest _ events)
 
 -- ---- all of the bytes
 
--- the fields spelled, and nothing behind them
-pub alone : (r : Record) → record_and (fields_of r) [] ≡ spelling r
-unfolding spelling
-alone r = ap (λ (events : List ℕ). head ++ test_and (test_of (fields_of r)) (signal_table r.signals ++ (instance_table r.instances ++ events))) (append-nil (event_list r.events))
-
-nine : (a b c d e f g h i more : List ℕ) → (a ++ (b ++ (c ++ (d ++ (e ++ (f ++ (g ++ (h ++ i)))))))) ++ more ≡ a ++ (b ++ (c ++ (d ++ (e ++ (f ++ (g ++ (h ++ (i ++ more))))))))
-nine a b c d e f g h i more = simp append_assoc
-
--- with what follows
-pub followed : (r : Record) (more : List ℕ) → spelling r ++ more ≡ record_and (fields_of r) more
-unfolding spelling
-followed r more = nine head (text r.id) (one_byte r.status) (to_be_bytes w64 r.seed) (to_be_bytes w64 r.time) (text r.user) (signal_table r.signals) (instance_table r.instances) (event_list r.events) more
-
 pub record HasFields (bytes : List ℕ) (r : Fields) : Type 0 where
-  pub parts : bytes ≡ record_and r []
-  pub within : IsWithinLimits r
+  pub parts : bytes ≡ bytes_of r
+  pub within : IsOfAnyLength r
 
 pub whole_takes : (bytes : List ℕ) (r : Fields) → IsBytes bytes → whole bytes ≡ Ok r → HasFields bytes r
 unfolding whole
@@ -197,15 +218,23 @@ whole_takes bytes r fits e =
     let g = let_pass (eqb (length a.0.1) 0) (Trailing (length a.0.1)) (Ok a.0.0) r a.2 in
     let nothing : a.0.1 ≡ [] = nil_from_length a.0.1 (eqb-true _ _ g.0) in
     let found = record_takes bytes a.0 fits a.1 in
-    subst (λ (x : Fields). HasFields bytes x) {x = a.0.0} (ok_is a.0.0 r g.1) (record { parts = found.parts ∙ ap (record_and a.0.0) nothing; within = found.within })
+    subst (λ (x : Fields). HasFields bytes x) {x = a.0.0} (ok_is a.0.0 r g.1) (record { parts = found.parts ∙ ap (record_and a.0.0) nothing ∙ alone a.0.0; within = found.within })
+
+pub is_within : (bytes : List ℕ) (r : Fields) → HasFields bytes r → length bytes ≤ 8388608 → IsWithinLimits r
+is_within bytes r has le = record { start = has.within.start; event_count = has.within.event_count; events = has.within.events; short = omega (arith, ap length has.parts) }
+
+-- the fields and what follows
+pub front_again : (r : Fields) (more : List ℕ) → IsOfAnyLength r → record_at (bytes_of r ++ more) ≡ Ok (r, more)
+front_again r more within = ap record_at (followed r more) ∙ record_again r more within
 
 pub whole_again : (r : Record) → whole (spelling r) ≡ Ok (fields_of r)
 unfolding whole
-whole_again r = rw (← alone r, record_again (fields_of r) [] r.within) refl
+whole_again r = rw (← alone (fields_of r), record_again (fields_of r) [] (of_any_length (fields_of r) r.within)) refl
 
 -- two records of the same fields are equal
 pub same_record : (r q : Record) → fields_of r ≡ fields_of q → r ≡ q
 same_record r q e = λ i. record {
+  version = (e i).version;
   id = (e i).id;
   status = (e i).status;
   seed = (e i).seed;
@@ -243,6 +272,7 @@ ok_pair x y e = cc
 -- no record's bytes are the front of another's
 pub no_front : (r q : Record) (more : List ℕ) → spelling r ++ more ≡ spelling q → (r ≡ q) × (more ≡ [])
 no_front r q more e =
-    let behind : record_and (fields_of r) more ≡ record_and (fields_of q) [] = sym (followed r more) ∙ e ∙ sym (alone q) in
-    let same = ok_pair (fields_of r, more) (fields_of q, []) (sym (record_again (fields_of r) more r.within) ∙ ap record_at behind ∙ record_again (fields_of q) [] q.within) in
+    let one : record_at (spelling r ++ more) ≡ Ok (fields_of r, more) = front_again (fields_of r) more (of_any_length (fields_of r) r.within) in
+    let other : record_at (spelling q ++ []) ≡ Ok (fields_of q, []) = front_again (fields_of q) [] (of_any_length (fields_of q) q.within) in
+    let same = ok_pair (fields_of r, more) (fields_of q, []) (sym one ∙ ap record_at (e ∙ sym (append-nil (spelling q))) ∙ other) in
     (same_record r q (ap (λ (x : Fields × List ℕ). x.0) same), ap (λ (x : Fields × List ℕ). x.1) same)

@@ -7,7 +7,7 @@ use Rattle.std.proofs.lemmas.Bool.{ltb-false, leb-false, le-ltb, lt-leb}
 use Rattle.std.proofs.lemmas.List.{take_at, drop_at, take-append-drop, length-append, length-take}
 use Rattle.record_codec.specs.declared.fault.Fault.TheVariants.{Short}
 use Rattle.record_codec.specs.Limits.{IsText}
-use Rattle.record_codec.specs.Spelling.{text}
+use Rattle.record_codec.specs.Bytes.{text}
 use Rattle.record_codec.specs.Reading.{number_within, is_bad, unless_bad, text_at}
 use Rattle.record_codec.proofs.Readers.{IsBytes, IsBytes-drop, bind_ok, not_refused, ok_is, Takes, Takes-then, Read, IsField}
 use Rattle.record_codec.proofs.Numbers.{wide16, within_field}

@@ -1,5 +1,5 @@
 -- An event by the greatest values of its signals is the event by their widths.
-use Rattle.std.proofs.Common.{◌≡◌, ℕ, ◌+◌, ◌-◌, ◌^◌, ◌<◌, ◌≤◌, Bool, true, false, cond, eqb, ltb, leb, List, length, take, drop, Option, Some, None, Result, Ok, Err, refl, sym, ap, subst, ◌∙◌, arith, inl, inr}
+use Rattle.std.proofs.Common.{◌≡◌, ℕ, ◌+◌, ◌-◌, ◌^◌, ◌<◌, ◌≤◌, Bool, true, false, cond, eqb, ltb, leb, zero, suc, List, [], ◌∷◌, length, take, drop, Option, Some, None, Result, Ok, Err, refl, sym, ap, subst, ◌∙◌, arith, inl, inr}
 use Rattle.std.specs.Prelude.{slice_get, ok_or, if◌then◌else◌}
 use mathlib.Core.Bool.{◌&&◌}
 use Rattle.std.specs.Option.{option_map}
@@ -10,9 +10,11 @@ use Rattle.std.proofs.lemmas.Option.{slice_get-map}
 use Rattle.record_codec.specs.declared.fault.Fault.{Fault}
 use Rattle.record_codec.specs.declared.fault.Fault.TheVariants.{Short, BadField}
 use Rattle.record_codec.specs.declared.record.SignalRow.{SignalRow}
+use Rattle.record_codec.specs.declared.record.ArgRow.{ArgRow}
+use Rattle.record_codec.specs.declared.record.InstRow.{InstRow}
 use Rattle.record_codec.specs.declared.record.Event.{Event}
 use Rattle.record_codec.specs.declared.record.Event.TheVariants.{Set, Sample}
-use Rattle.record_codec.specs.Reading.{◌>>=◌, number_at, number_within, known_at, value_at, set_at, sample_at, event_at}
+use Rattle.record_codec.specs.Reading.{◌>>=◌, number_at, number_within, counted, known_at, value_at, values_at, set_at, sample_at, event_at}
 use Rattle.record_codec.specs.Under.{greatest, limits_of, known_under, value_under, set_under, event_under}
 use Rattle.record_codec.proofs.EventLaws.{chosen}
 use Rattle.record_codec.proofs.Readers.{IsBytes, IsBytes-take, bind_ok, let_pass, ok_is}
@@ -56,7 +58,7 @@ known_same : (width : ℕ) (bytes : List ℕ) → IsBytes bytes → known_under 
 unfolding known_under known_at
 known_same width bytes fits = ap (λ (r : Result (ℕ × List ℕ) Fault). r >>= λ (bits : ℕ × List ℕ). Ok (Some bits.0, bits.1)) (range_same width bytes fits)
 
-value_same : (width : ℕ) (bytes : List ℕ) → IsBytes bytes → value_under (greatest width) bytes ≡ value_at width bytes
+pub value_same : (width : ℕ) (bytes : List ℕ) → IsBytes bytes → value_under (greatest width) bytes ≡ value_at width bytes
 unfolding value_under value_at
 value_same width bytes fits = bind_same (number_within w8 0 2 bytes) _ _ (λ known e.
     let found = (within_field wide8 0 2 (omega arith)).takes bytes known fits e in
@@ -77,7 +79,7 @@ set_same signals bytes fits = bind_same (number_at w16 bytes) _ _ (λ signal e.
     let found = (number_field wide16).takes bytes signal fits e in
     rw (slice_get-map (λ (row : SignalRow). greatest row.width) signals signal.0) (rest_of signal.0 (slice_get signals signal.0) bytes signal.1 found.takes.rest_fits))
 
-pub event_same : (signals : List SignalRow) (instances : ℕ) (bytes : List ℕ) → IsBytes bytes → event_under (limits_of signals) instances bytes ≡ event_at signals instances bytes
+pub event_same : (signals : List SignalRow) (instances : List InstRow) (bytes : List ℕ) → IsBytes bytes → event_under (limits_of signals) instances bytes ≡ event_at signals instances bytes
 unfolding event_under event_at
 event_same signals instances bytes fits = bind_same (number_within w8 1 3 bytes) _ _ (λ tag e.
     let found = (within_field wide8 1 3 (omega arith)).takes bytes tag fits e in
@@ -98,7 +100,7 @@ known_rest most bytes x fits e =
     let a = bind_ok (number_within w64 0 (most + 1) bytes) _ x e in
     subst (λ (y : Option ℕ × List ℕ). IsBytes y.1) {x = (Some a.0.0, a.0.1)} (ok_is (Some a.0.0, a.0.1) x a.2) (within_rest wide64 0 (most + 1) bytes a.0 fits a.1)
 
-value_rest : (most : ℕ) (bytes : List ℕ) (x : Option ℕ × List ℕ) → IsBytes bytes → value_under most bytes ≡ Ok x → IsBytes x.1
+pub value_rest : (most : ℕ) (bytes : List ℕ) (x : Option ℕ × List ℕ) → IsBytes bytes → value_under most bytes ≡ Ok x → IsBytes x.1
 unfolding value_under
 value_rest most bytes x fits e =
     let a = bind_ok (number_within w8 0 2 bytes) _ x e in
@@ -117,13 +119,25 @@ set_rest limits bytes x fits e =
     let left = value_rest b.0 a.0.1 v.0 ((number_field wide16).takes bytes a.0 fits a.1).takes.rest_fits v.1 in
     subst (λ (y : Event × List ℕ). IsBytes y.1) {x = (Set a.0.0 v.0.0, v.0.1)} (ok_is (Set a.0.0 v.0.0, v.0.1) x v.2) left
 
-sample_rest : (instances : ℕ) (bytes : List ℕ) (x : Event × List ℕ) → IsBytes bytes → sample_at instances bytes ≡ Ok x → IsBytes x.1
+values_rest : (rows : List ArgRow) (bytes : List ℕ) (x : List (Option ℕ) × List ℕ) → IsBytes bytes → values_at rows bytes ≡ Ok x → IsBytes x.1
+unfolding values_at
+values_rest [] bytes x fits e = subst (λ (y : List (Option ℕ) × List ℕ). IsBytes y.1) {x = ([], bytes)} (ok_is ([], bytes) x e) fits
+values_rest (row ∷ rows) bytes x fits e =
+    let a = bind_ok (value_at row.width bytes) _ x e in
+    let b = bind_ok (values_at rows a.0.1) _ x a.2 in
+    let left = values_rest rows a.0.1 b.0 (value_rest (greatest row.width) bytes a.0 fits (value_same row.width bytes fits ∙ a.1)) b.1 in
+    subst (λ (y : List (Option ℕ) × List ℕ). IsBytes y.1) {x = (a.0.0 ∷ b.0.0, b.0.1)} (ok_is (a.0.0 ∷ b.0.0, b.0.1) x b.2) left
+
+sample_rest : (instances : List InstRow) (bytes : List ℕ) (x : Event × List ℕ) → IsBytes bytes → sample_at instances bytes ≡ Ok x → IsBytes x.1
 unfolding sample_at
 sample_rest instances bytes x fits e =
-    let a = bind_ok (number_within w16 0 instances bytes) _ x e in
-    subst (λ (y : Event × List ℕ). IsBytes y.1) {x = (Sample a.0.0, a.0.1)} (ok_is (Sample a.0.0, a.0.1) x a.2) (within_rest wide16 0 instances bytes a.0 fits a.1)
+    let a = bind_ok (number_at w16 bytes) _ x e in
+    let b = bind_ok (ok_or (slice_get instances a.0.0) (BadField (length bytes))) _ x a.2 in
+    let c = bind_ok (values_at b.0.args a.0.1) _ x b.2 in
+    let left = values_rest b.0.args a.0.1 c.0 ((number_field wide16).takes bytes a.0 fits a.1).takes.rest_fits c.1 in
+    subst (λ (y : Event × List ℕ). IsBytes y.1) {x = (Sample a.0.0 c.0.0, c.0.1)} (ok_is (Sample a.0.0 c.0.0, c.0.1) x c.2) left
 
-pub event_rest : (limits : List ℕ) (instances : ℕ) (bytes : List ℕ) (x : Event × List ℕ) → IsBytes bytes → event_under limits instances bytes ≡ Ok x → IsBytes x.1
+pub event_rest : (limits : List ℕ) (instances : List InstRow) (bytes : List ℕ) (x : Event × List ℕ) → IsBytes bytes → event_under limits instances bytes ≡ Ok x → IsBytes x.1
 unfolding event_under
 event_rest limits instances bytes x fits e =
     let a = bind_ok (number_within w8 1 3 bytes) _ x e in
@@ -132,3 +146,14 @@ event_rest limits instances bytes x fits e =
       | inl h ↦ set_rest limits a.0.1 x left h.1
       | inr h ↦ sample_rest instances a.0.1 x left h.1
     ]
+
+-- ---- so many events
+
+pub events_same : (signals : List SignalRow) (instances : List InstRow) (count : ℕ) (bytes : List ℕ) → IsBytes bytes → counted (event_under (limits_of signals) instances) count bytes ≡ counted (event_at signals instances) count bytes
+unfolding counted
+events_same signals instances zero bytes fits = refl
+events_same signals instances (suc n) bytes fits =
+    ap (λ (r : Result (Event × List ℕ) Fault). r >>= λ (first : Event × List ℕ). counted (event_under (limits_of signals) instances) n first.1 >>= λ (others : List Event × List ℕ). Ok (first.0 ∷ others.0, others.1)) (event_same signals instances bytes fits)
+    ∙ bind_same (event_at signals instances bytes) _ _ (λ first e.
+    let left = event_rest (limits_of signals) instances bytes first fits (event_same signals instances bytes fits ∙ e) in
+    ap (λ (r : Result (List Event × List ℕ) Fault). r >>= λ (others : List Event × List ℕ). Ok (first.0 ∷ others.0, others.1)) (events_same signals instances n first.1 left))

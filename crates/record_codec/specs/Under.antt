@@ -1,12 +1,12 @@
 -- Reading events by the greatest value of each signal in place of its width.
-use Rattle.std.specs.Prelude.{ℕ, ◌+◌, ◌-◌, ◌^◌, List, length, map, slice_get, Option, Some, None, Result, Ok, nat_le, ◌==◌, if◌then◌else◌, ok_or}
+use Rattle.std.specs.Prelude.{ℕ, ◌+◌, ◌-◌, ◌^◌, List, length, map, slice_get, Option, Some, None, Ok, nat_le, ◌==◌, if◌then◌else◌, ok_or}
 use Rattle.std.specs.Int.{w8, w16, w64}
-use Rattle.record_codec.specs.declared.fault.Fault.{Fault}
 use Rattle.record_codec.specs.declared.fault.Fault.TheVariants.{BadField}
 use Rattle.record_codec.specs.declared.record.SignalRow.{SignalRow}
+use Rattle.record_codec.specs.declared.record.InstRow.{InstRow}
 use Rattle.record_codec.specs.declared.record.Event.{Event}
 use Rattle.record_codec.specs.declared.record.Event.TheVariants.{Set}
-use Rattle.record_codec.specs.Reading.{◌>>=◌, number_at, number_within, sample_at}
+use Rattle.record_codec.specs.Reading.{◌>>=◌, Reader, number_at, number_within, sample_at}
 
 -- the greatest value of so many bits, of 64 at most
 abbrev pub greatest : ℕ → ℕ
@@ -15,24 +15,24 @@ greatest width = if nat_le 64 width then 2 ^ 64 - 1 else 2 ^ width - 1
 abbrev pub limits_of : List SignalRow → List ℕ
 limits_of signals = map (λ (row : SignalRow). greatest row.width) signals
 
-unfoldable pub known_under : ℕ → List ℕ → Result (Option ℕ × List ℕ) Fault
+unfoldable pub known_under : ℕ → Reader (Option ℕ)
 known_under most bytes = do
   bits ← number_within w64 0 (most + 1) bytes
   Ok (Some bits.0, bits.1)
 
-unfoldable pub value_under : ℕ → List ℕ → Result (Option ℕ × List ℕ) Fault
+unfoldable pub value_under : ℕ → Reader (Option ℕ)
 value_under most bytes = do
   known ← number_within w8 0 2 bytes
   if known.0 == 0 then Ok (None, known.1) else known_under most known.1
 
-unfoldable pub set_under : List ℕ → List ℕ → Result (Event × List ℕ) Fault
+unfoldable pub set_under : List ℕ → Reader Event
 set_under limits bytes = do
   signal ← number_at w16 bytes
   most ← ok_or (slice_get limits signal.0) (BadField (length bytes))
   value ← value_under most signal.1
   Ok (Set signal.0 value.0, value.1)
 
-unfoldable pub event_under : List ℕ → ℕ → List ℕ → Result (Event × List ℕ) Fault
+unfoldable pub event_under : List ℕ → List InstRow → Reader Event
 event_under limits instances bytes = do
   tag ← number_within w8 1 3 bytes
   if tag.0 == 1 then set_under limits tag.1 else sample_at instances tag.1

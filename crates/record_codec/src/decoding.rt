@@ -1,5 +1,6 @@
 //! A record from its bytes.
 ghost use Rattle.std.specs.Prelude.{◌≡◌, ◌-◌, ◌≤◌, length, IfOk, IfErr, Err};
+ghost use Rattle.cov_ground.specs.Limits.{longest_record};
 ghost use Rattle.record_codec.specs.declared.record.Record.{Record};
 ghost use Rattle.record_codec.specs.Limits.{IsWithinLimits};
 ghost use Rattle.record_codec.specs.Reading.{told, reading, HasRead};
@@ -13,7 +14,7 @@ use std::alloc::Global;
 
 // The place where so many bytes are left, counted from the front.
 fn place(total: usize, left: usize) -> u32
-    requires { total ≤ 8388608 }
+    requires { total ≤ longest_record }
     ensures { result ≡ total - left }
 {
     total.saturating_sub(left) as u32
@@ -21,7 +22,7 @@ fn place(total: usize, left: usize) -> u32
 
 // The fault with its place counted from the front.
 fn fault_told(total: usize, fault: Fault) -> RecordFault
-    requires { total ≤ 8388608 }
+    requires { total ≤ longest_record }
     ensures { result ≡ told total fault }
 {
     match fault {
@@ -47,6 +48,7 @@ fn record_of(fields: Fields) -> Record
     ensures { fields_of result ≡ fields }
 {
     Record {
+        version: fields.version,
         id: fields.id,
         status: fields.status,
         seed: fields.seed,
@@ -59,9 +61,9 @@ fn record_of(fields: Fields) -> Record
 }
 
 /// The record that the bytes spell, all of them; or the first fault in reading order, with its place. The bytes are at
-/// most 8,388,608.
+/// most 8,388,608, and spell a record of version 1 or 2.
 pub fn decode(alloc: Global, bytes: &[u8]) -> Result<Record, RecordFault>
-    requires { length bytes.now ≤ 8388608 }
+    requires { length bytes.now ≤ longest_record }
     // The result is that of reading the bytes.
     ensures told { HasRead result (reading bytes.now) }
     ensures read { IfOk result (λ r. Encodes r bytes.now) }

@@ -1,17 +1,20 @@
 //! A record as its bytes.
 ghost use Rattle.std.specs.Prelude.{◌≡◌, ◌++◌, ◌<◌, ◌^◌, ◌≤◌, length, OnOk, IfOk, Ok};
-ghost use Rattle.std.specs.List.{AllByRecursion};
+ghost use Rattle.std.specs.List.{AllByRecursion, flat_map};
+ghost use Rattle.cov_ground.specs.Limits.{longest_record, most_events, most_signals, most_instances, most_arguments};
 ghost use Rattle.record_codec.specs.Limits.{IsSignalRow, IsInstRow};
-ghost use Rattle.record_codec.specs.Spelling.{text, signal_row, inst_row, event, signal_table, instance_table, event_list, front, spelling, fields_of};
+ghost use Rattle.record_codec.specs.Bytes.{text, arg_row, signal_row, arg_table, inst_row, set_value, event};
+ghost use Rattle.record_codec.specs.Bytes.{signal_table, instance_table, event_list, front};
+ghost use Rattle.record_codec.specs.Spelling.{spelling, fields_of};
 ghost use Rattle.record_codec.specs.Reading.{reading};
 
-use crate::{Event, InstRow, Record, SignalRow};
+use crate::{ArgRow, Event, InstRow, Record, SignalRow};
 use cov_base::Memory;
 use cov_tree::Name;
 use std::alloc::Global;
 
-/// The letters CVRC and the version.
-const HEAD: [u8; 6] = [0x43, 0x56, 0x52, 0x43, 0, 1];
+/// The letters CVRC.
+const LETTERS: [u8; 4] = [0x43, 0x56, 0x52, 0x43];
 
 #[inline]
 fn append(out: &mut Vec<u8>, bytes: &[u8]) -> Result<(), Memory>
@@ -30,20 +33,71 @@ fn append_text(out: &mut Vec<u8>, name: &Name) -> Result<(), Memory>
     append(out, bytes)
 }
 
+// A width and a sign.
+fn append_form(out: &mut Vec<u8>, width: u8, signed: bool) -> Result<(), Memory>
+    ensures { OnOk result (out.new.items ≡ out.old.items ++ arg_row (record { width = width; signed = signed })) }
+{
+    append(out, &[width, signed as u8])
+}
+
 fn append_signal(out: &mut Vec<u8>, row: &SignalRow) -> Result<(), Memory>
     requires { IsSignalRow row.now }
     ensures { OnOk result (out.new.items ≡ out.old.items ++ signal_row row.now) }
 {
     append_text(out, &row.name)?;
-    append(out, &[row.width, row.signed as u8])
+    append_form(out, row.width, row.signed)
 }
 
-fn append_instance(out: &mut Vec<u8>, row: &InstRow) -> Result<(), Memory>
-    requires { IsInstRow row.now }
-    ensures { OnOk result (out.new.items ≡ out.old.items ++ inst_row row.now) }
+fn append_forms(out: &mut Vec<u8>, rows: &[ArgRow]) -> Result<(), Memory>
+    ensures { OnOk result (out.new.items ≡ out.old.items ++ flat_map arg_row rows.now) }
+{
+    for row in rows {
+        append_form(out, row.width, row.signed)?;
+    }
+    Ok(())
+}
+
+// The arguments of an instance. In version 1 nothing stands for them.
+fn append_args(out: &mut Vec<u8>, version: u16, rows: &[ArgRow]) -> Result<(), Memory>
+    requires { length rows.now ≤ most_arguments }
+    ensures { OnOk result (out.new.items ≡ out.old.items ++ arg_table version rows.now) }
+{
+    if version == 1 {
+        return Ok(());
+    }
+    append(out, &[rows.len() as u8])?;
+    append_forms(out, rows)
+}
+
+fn append_instance(out: &mut Vec<u8>, version: u16, row: &InstRow) -> Result<(), Memory>
+    requires { IsInstRow version row.now }
+    ensures { OnOk result (out.new.items ≡ out.old.items ++ inst_row version row.now) }
 {
     append_text(out, &row.name)?;
-    append_text(out, &row.group)
+    append_text(out, &row.group)?;
+    append_args(out, version, row.args.as_slice())
+}
+
+#[inline]
+fn append_value(out: &mut Vec<u8>, value: Option<u64>) -> Result<(), Memory>
+    ensures { OnOk result (out.new.items ≡ out.old.items ++ set_value value) }
+{
+    match value {
+        None => append(out, &[0]),
+        Some(bits) => {
+            append(out, &[1])?;
+            append(out, &bits.to_be_bytes())
+        }
+    }
+}
+
+fn append_values(out: &mut Vec<u8>, values: &[Option<u64>]) -> Result<(), Memory>
+    ensures { OnOk result (out.new.items ≡ out.old.items ++ flat_map set_value values.now) }
+{
+    for value in values {
+        append_value(out, *value)?;
+    }
+    Ok(())
 }
 
 #[inline]
@@ -61,15 +115,16 @@ fn append_event(out: &mut Vec<u8>, entry: &Event) -> Result<(), Memory>
                 }
             }
         }
-        Event::Sample { instance } => {
+        Event::Sample { instance, args } => {
             let [high, low] = instance.to_be_bytes();
-            append(out, &[2, high, low])
+            append(out, &[2, high, low])?;
+            append_values(out, args.as_slice())
         }
     }
 }
 
 fn append_signals(out: &mut Vec<u8>, rows: &[SignalRow]) -> Result<(), Memory>
-    requires few { length rows.now ≤ 4096 }
+    requires few { length rows.now ≤ most_signals }
     requires fit { AllByRecursion IsSignalRow rows.now }
     ensures { OnOk result (out.new.items ≡ out.old.items ++ signal_table rows.now) }
 {
@@ -80,20 +135,20 @@ fn append_signals(out: &mut Vec<u8>, rows: &[SignalRow]) -> Result<(), Memory>
     Ok(())
 }
 
-fn append_instances(out: &mut Vec<u8>, rows: &[InstRow]) -> Result<(), Memory>
-    requires few { length rows.now ≤ 1024 }
-    requires fit { AllByRecursion IsInstRow rows.now }
-    ensures { OnOk result (out.new.items ≡ out.old.items ++ instance_table rows.now) }
+fn append_instances(out: &mut Vec<u8>, version: u16, rows: &[InstRow]) -> Result<(), Memory>
+    requires few { length rows.now ≤ most_instances }
+    requires fit { AllByRecursion (IsInstRow version) rows.now }
+    ensures { OnOk result (out.new.items ≡ out.old.items ++ instance_table version rows.now) }
 {
     append(out, &(rows.len() as u16).to_be_bytes())?;
     for row in rows {
-        append_instance(out, row)?;
+        append_instance(out, version, row)?;
     }
     Ok(())
 }
 
 fn append_events(out: &mut Vec<u8>, entries: &[Event]) -> Result<(), Memory>
-    requires { length entries.now ≤ 1048576 }
+    requires { length entries.now ≤ most_events }
     ensures { OnOk result (out.new.items ≡ out.old.items ++ event_list entries.now) }
 {
     append(out, &(entries.len() as u32).to_be_bytes())?;
@@ -105,9 +160,10 @@ fn append_events(out: &mut Vec<u8>, entries: &[Event]) -> Result<(), Memory>
 
 // What stands before the tables.
 fn append_test(out: &mut Vec<u8>, rec: &Record) -> Result<(), Memory>
-    ensures { OnOk result (out.new.items ≡ out.old.items ++ front rec.now) }
+    ensures { OnOk result (out.new.items ≡ out.old.items ++ front (fields_of rec.now)) }
 {
-    append(out, &HEAD)?;
+    append(out, &LETTERS)?;
+    append(out, &rec.version.to_be_bytes())?;
     append_text(out, &rec.id)?;
     append(out, &[rec.status])?;
     append(out, &rec.seed.to_be_bytes())?;
@@ -116,15 +172,16 @@ fn append_test(out: &mut Vec<u8>, rec: &Record) -> Result<(), Memory>
     Ok(())
 }
 
-/// The bytes of the record, version 1: `decode` reads the record from them, where they are at most 8,388,608.
+/// The bytes of the record: `decode` reads the record from them.
 pub fn encode(alloc: Global, rec: &Record) -> Result<Vec<u8>, Memory>
     ensures spelled { IfOk result (λ bytes. bytes.items ≡ spelling rec.now) }
+    ensures short { IfOk result (λ bytes. length bytes.items ≤ longest_record) }
     ensures read_back { IfOk result (λ bytes. reading bytes.items ≡ Ok (fields_of rec.now)) }
 {
     let mut out = Vec::new(alloc);
     append_test(&mut out, rec)?;
     append_signals(&mut out, rec.signals.as_slice())?;
-    append_instances(&mut out, rec.instances.as_slice())?;
+    append_instances(&mut out, rec.version, rec.instances.as_slice())?;
     append_events(&mut out, rec.events.as_slice())?;
     Ok(out)
 }

@@ -1,22 +1,24 @@
 //! The events of a record.
 ghost use Rattle.std.specs.Prelude.{◌≡◌, IfOk};
-ghost use Rattle.record_codec.specs.Reading.{Gives, counted, sample_at, event_at, events_at};
+ghost use Rattle.record_codec.specs.Reading.{Gives, counted, values_at, sample_at, event_at, events_at};
 ghost use Rattle.record_codec.specs.Under.{value_under, set_under, event_under, greatest, limits_of};
 
 use crate::fault::Fault;
 use crate::fields::{u8_at, u16_at, u32_at, u64_up_to};
-use crate::{Event, SignalRow};
+use crate::tables::{Rows, counted};
+use crate::{ArgRow, Event, InstRow, SignalRow};
+use cov_ground::limits::{MOST_BITS, MOST_EVENTS};
 use cov_tree::List;
 use std::alloc::{AllocError, Global};
 
-/// The bytes of the longest event.
+/// The bytes of the longest event without arguments.
 const LONGEST: usize = 12;
 
 /// The greatest value of so many bits, of 64 at most.
 fn most_of(width: u8) -> u64
     ensures { result ≡ greatest width }
 {
-    if width >= 64 {
+    if width >= MOST_BITS {
         return u64::MAX;
     }
     (1 << width) - 1
@@ -63,77 +65,119 @@ fn set<'a>(limits: &[u64], bytes: &'a [u8]) -> Result<(Event, &'a [u8]), Fault>
     Ok((Event::Set { signal, value }, rest))
 }
 
+// The values of the arguments, of which there are some.
+#[inline(never)]
+fn listed_values<'a>(
+    alloc: Global,
+    args: &[ArgRow],
+    bytes: &'a [u8],
+) -> Result<(List<Option<u64>>, &'a [u8]), Fault>
+    ensures { Gives (λ x. (x.0, x.1.now)) result (values_at args.now bytes.now) }
+{
+    let mut values = Vec::with_capacity(alloc, args.len())?;
+    let mut rest = bytes;
+    for arg in args {
+        let (value, after) = value(most_of(arg.width), rest)?;
+        values.push_reserved(value);
+        rest = after;
+    }
+    Ok((List::of(values), rest))
+}
+
+// The values of the arguments. Where there are none it takes no memory.
 #[inline(always)]
-#[tactic(auto, unfolding(crate::specs::Reading::sample_at, crate::specs::Reading::number_within))]
-fn sample(instances: usize, bytes: &[u8]) -> Result<(Event, &[u8]), Fault>
-    ensures { Gives (λ x. (x.0, x.1.now)) result (sample_at instances bytes.now) }
+#[tactic(auto, unfolding(crate::specs::Reading::values_at))]
+fn values<'a>(
+    alloc: Global,
+    args: &[ArgRow],
+    bytes: &'a [u8],
+) -> Result<(List<Option<u64>>, &'a [u8]), Fault>
+    ensures { Gives (λ x. (x.0, x.1.now)) result (values_at args.now bytes.now) }
+{
+    if args.is_empty() {
+        return Ok((List::new(alloc), bytes));
+    }
+    listed_values(alloc, args, bytes)
+}
+
+#[inline(always)]
+#[tactic(auto, unfolding(crate::specs::Reading::sample_at))]
+fn sample<'a>(
+    alloc: Global,
+    instances: &[InstRow],
+    bytes: &'a [u8],
+) -> Result<(Event, &'a [u8]), Fault>
+    ensures { Gives (λ x. (x.0, x.1.now)) result (sample_at instances.now bytes.now) }
 {
     let (instance, rest) = u16_at(bytes)?;
-    if instance as usize >= instances {
+    let Some(row) = instances.get(instance as usize) else {
         return Err(Fault::BadField { left: bytes.len() });
-    }
-    Ok((Event::Sample { instance }, rest))
+    };
+    let (args, rest) = values(alloc, row.args.as_slice(), rest)?;
+    Ok((Event::Sample { instance, args }, rest))
 }
 
-#[inline(always)]
-#[tactic(auto, unfolding(crate::specs::Under::event_under, crate::specs::Reading::number_within))]
-fn any_event<'a>(
-    limits: &[u64],
-    instances: usize,
-    bytes: &'a [u8],
-) -> Result<(Event, &'a [u8]), Fault>
-    ensures { Gives (λ x. (x.0, x.1.now)) result (event_under limits.now instances bytes.now) }
-{
-    let (tag, rest) = u8_at(bytes)?;
-    match tag {
-        1 => set(limits, rest),
-        2 => sample(instances, rest),
-        _ => Err(Fault::BadField { left: bytes.len() }),
+/// Events over the greatest values of the signals, and the instances.
+#[derive(Drop)]
+struct Events<'t> {
+    limits: &'t [u64],
+    instances: &'t [InstRow],
+}
+
+impl Events<'_> {
+    #[inline(always)]
+    #[tactic(auto, unfolding(crate::specs::Under::event_under, crate::specs::Reading::number_within))]
+    fn any_event<'a>(&self, alloc: Global, bytes: &'a [u8]) -> Result<(Event, &'a [u8]), Fault>
+        ensures { Gives (λ x. (x.0, x.1.now)) result (event_under self.now.limits.now self.now.instances.now bytes.now) }
+    {
+        let (tag, rest) = u8_at(bytes)?;
+        match tag {
+            1 => set(self.limits, rest),
+            2 => sample(alloc, self.instances, rest),
+            _ => Err(Fault::BadField { left: bytes.len() }),
+        }
+    }
+
+    // An event near the end of the bytes.
+    #[inline(never)]
+    fn late_event<'a>(&self, alloc: Global, bytes: &'a [u8]) -> Result<(Event, &'a [u8]), Fault>
+        ensures { Gives (λ x. (x.0, x.1.now)) result (event_under self.now.limits.now self.now.instances.now bytes.now) }
+    {
+        self.any_event(alloc, bytes)
     }
 }
 
-// An event near the end of the bytes.
-#[inline(never)]
-fn late_event<'a>(
-    limits: &[u64],
-    instances: usize,
-    bytes: &'a [u8],
-) -> Result<(Event, &'a [u8]), Fault>
-    ensures { Gives (λ x. (x.0, x.1.now)) result (event_under limits.now instances bytes.now) }
-{
-    any_event(limits, instances, bytes)
-}
+impl Rows for Events<'_> {
+    type Row = Event;
 
-// An event. Behind the one test of the length those of its fields fall away.
-#[inline(always)]
-fn event<'a>(limits: &[u64], instances: usize, bytes: &'a [u8]) -> Result<(Event, &'a [u8]), Fault>
-    ensures { Gives (λ x. (x.0, x.1.now)) result (event_under limits.now instances bytes.now) }
-{
-    if bytes.len() < LONGEST {
-        return late_event(limits, instances, bytes);
+    ghost row_at = { λ events. event_under events.limits.now events.instances.now };
+
+    // An event. Behind the one test of the length those of its fields fall away.
+    #[inline(always)]
+    fn row<'a>(&self, alloc: Global, bytes: &'a [u8]) -> Result<(Event, &'a [u8]), Fault> {
+        if bytes.len() < LONGEST {
+            return self.late_event(alloc, bytes);
+        }
+        self.any_event(alloc, bytes)
     }
-    any_event(limits, instances, bytes)
 }
 
 // So many events.
 fn counted_events<'a>(
     alloc: Global,
     signals: &[SignalRow],
-    instances: usize,
+    instances: &[InstRow],
     count: u32,
     bytes: &'a [u8],
 ) -> Result<(List<Event>, &'a [u8]), Fault>
-    ensures { Gives (λ x. (x.0, x.1.now)) result (counted (event_at signals.now instances) count bytes.now) }
+    ensures { Gives (λ x. (x.0, x.1.now)) result (counted (event_at signals.now instances.now) count bytes.now) }
 {
     let limits = limits_of(alloc, signals)?;
-    let mut events = Vec::with_capacity(alloc, count as usize)?;
-    let mut rest = bytes;
-    for _ in 0..count {
-        let (event, after) = event(&limits, instances, rest)?;
-        events.push_reserved(event);
-        rest = after;
-    }
-    Ok((List::of(events), rest))
+    let events = Events {
+        limits: &limits,
+        instances,
+    };
+    counted(alloc, &events, count, bytes)
 }
 
 /// The events behind their number. Their signals and instances are numbers of rows.
@@ -141,13 +185,13 @@ fn counted_events<'a>(
 pub(crate) fn event_list<'a>(
     alloc: Global,
     signals: &[SignalRow],
-    instances: usize,
+    instances: &[InstRow],
     bytes: &'a [u8],
 ) -> Result<(List<Event>, &'a [u8]), Fault>
-    ensures { Gives (λ x. (x.0, x.1.now)) result (events_at signals.now instances bytes.now) }
+    ensures { Gives (λ x. (x.0, x.1.now)) result (events_at signals.now instances.now bytes.now) }
 {
     let (count, rest) = u32_at(bytes)?;
-    if count > 1048576 {
+    if count > MOST_EVENTS {
         return Err(Fault::TooManyEvents { count });
     }
     counted_events(alloc, signals, instances, count, rest)

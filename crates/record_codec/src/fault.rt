@@ -15,7 +15,7 @@ pub enum RecordFault {
     /// The bytes don't begin with CVRC.
     #[error("the bytes don't begin with CVRC")]
     BadMagic,
-    /// The version is not 1.
+    /// The version is neither 1 nor 2.
     #[error("the version {v} is not read")]
     BadVersion { v: u16 },
     /// The field at `at`, or the byte of a text there, is out of its range.
@@ -39,7 +39,7 @@ pub(crate) enum Fault {
     Short { left: usize },
     /// The bytes don't begin with CVRC.
     BadMagic,
-    /// The version is not 1.
+    /// The version is neither 1 nor 2.
     BadVersion { version: u16 },
     /// A field, or a byte of a text, that is out of its range begins there.
     BadField { left: usize },

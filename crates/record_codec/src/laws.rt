@@ -1,9 +1,10 @@
 //! What holds of the form itself. Each function does nothing: it stands for the law that it ensures.
-ghost use Rattle.std.specs.Prelude.{◌≡◌, ℕ, ◌<◌, List, [], ◌++◌, slice_index, Ok};
+ghost use Rattle.std.specs.Prelude.{◌≡◌, ℕ, ◌≤◌, List, [], ◌++◌, length, Ok};
+ghost use Rattle.cov_ground.specs.Limits.{longest_record};
 ghost use Rattle.record_codec.specs.declared.record.Fields.{Fields};
 ghost use Rattle.record_codec.specs.declared.record.Record.{Record};
 ghost use Rattle.record_codec.specs.Spelling.{spelling, fields_of, Encodes};
-ghost use Rattle.record_codec.specs.Reading.{reading};
+ghost use Rattle.record_codec.specs.Reading.{AreBytes, reading};
 
 /// Bytes spell one record at most: a record is known from its bytes.
 pub fn bytes_have_one_record()
@@ -22,5 +23,6 @@ pub fn spelled_is_read()
 
 /// What is read is the one record that the bytes spell.
 pub fn read_is_spelled()
-    ensures { (bytes : List ℕ) (f : Fields) → ((at : ℕ) → slice_index bytes at < 256) → reading bytes ≡ Ok f → (r : Record) × (fields_of r ≡ f) × Encodes r bytes }
+    ensures { (bytes : List ℕ) (f : Fields) → AreBytes bytes → length bytes ≤ longest_record
+        → reading bytes ≡ Ok f → (r : Record) × (fields_of r ≡ f) × Encodes r bytes }
 {}

@@ -10,11 +10,12 @@ pub mod laws;
 mod reading;
 mod record;
 mod rows;
+mod tables;
 
 pub use decoding::decode;
 pub use encoding::encode;
 pub use fault::RecordFault;
-pub use record::{Event, InstRow, Record, SignalRow};
+pub use record::{ArgRow, Event, Fields, InstRow, Record, SignalRow};
 
 #[cfg(test)]
 mod tests;

@@ -13,19 +13,22 @@ use std::alloc::Global;
 const MAGIC: u32 = 0x4356_5243;
 
 #[tactic(auto, unfolding(crate::specs::Reading::version_at))]
-fn version(bytes: &[u8]) -> Result<&[u8], Fault>
-    ensures { Gives (λ x. x.now) result (version_at bytes.now) }
+fn version(bytes: &[u8]) -> Result<(u16, &[u8]), Fault>
+    ensures { Gives (λ x. (x.0, x.1.now)) result (version_at bytes.now) }
 {
     let (version, rest) = u16_at(bytes)?;
-    if version != 1 {
+    if version < 1 {
         return Err(Fault::BadVersion { version });
     }
-    Ok(rest)
+    if version > 2 {
+        return Err(Fault::BadVersion { version });
+    }
+    Ok((version, rest))
 }
 
 #[tactic(auto, unfolding(crate::specs::Reading::head_at))]
-fn head(bytes: &[u8]) -> Result<&[u8], Fault>
-    ensures { Gives (λ x. x.now) result (head_at bytes.now) }
+fn head(bytes: &[u8]) -> Result<(u16, &[u8]), Fault>
+    ensures { Gives (λ x. (x.0, x.1.now)) result (head_at bytes.now) }
 {
     let (magic, rest) = u32_at(bytes)?;
     if magic != MAGIC {
@@ -58,13 +61,13 @@ fn test_row(alloc: Global, bytes: &[u8]) -> Result<(TestRow, &[u8]), Fault>
 fn front_record(alloc: Global, bytes: &[u8]) -> Result<(Fields, &[u8]), Fault>
     ensures { Gives (λ x. (x.0, x.1.now)) result (record_at bytes.now) }
 {
-    let rest = head(bytes)?;
+    let (version, rest) = head(bytes)?;
     let (test, rest) = test_row(alloc, rest)?;
     let (signals, rest) = signal_table(alloc, rest)?;
-    let (instances, rest) = instance_table(alloc, rest)?;
-    let count = instances.as_slice().len();
-    let (events, rest) = event_list(alloc, signals.as_slice(), count, rest)?;
+    let (instances, rest) = instance_table(alloc, version, rest)?;
+    let (events, rest) = event_list(alloc, signals.as_slice(), instances.as_slice(), rest)?;
     let fields = Fields {
+        version,
         id: test.id,
         status: test.status,
         seed: test.seed,

@@ -6,6 +6,8 @@ use cov_tree::{List, Name};
 /// One test of a simulation. It is always within its limits: whoever makes one shows them.
 #[derive(Drop, Debug)]
 pub struct Record {
+    /// The version of its form: 1, or 2, in which samples may have arguments.
+    pub version: u16,
     /// The test's name: 1 to 255 printable bytes, no spaces.
     pub id: Name,
     /// How the test ended: 0 OK, 1 WARNING, 2 ERROR, 3 FATAL.
@@ -20,23 +22,24 @@ pub struct Record {
     pub signals: List<SignalRow>,
     /// The sampled instances, at most 1,024.
     pub instances: List<InstRow>,
-    /// What happened, in order, at most 1,048,576 events. Their signals and instances are numbers of rows, and a value
-    /// has no more bits than its signal.
+    /// What happened, in order, at most 1,048,576 events. Their signals and instances are numbers of rows, and a known
+    /// value has no more bits than its signal or argument. All of the record's bytes are at most 8,388,608.
     pub events: List<Event>,
-    pub ghost within: { IsWithinLimits (record { id = id; status = status; seed = seed; time = time; user = user; signals = signals; instances = instances; events = events }) } by { IsWithinLimits-prop (record { id = id; status = status; seed = seed; time = time; user = user; signals = signals; instances = instances; events = events }) },
+    pub ghost within: { IsWithinLimits (record { version = version; id = id; status = status; seed = seed; time = time; user = user; signals = signals; instances = instances; events = events }) } by { IsWithinLimits-prop (record { version = version; id = id; status = status; seed = seed; time = time; user = user; signals = signals; instances = instances; events = events }) },
 }
 
 /// The fields of a record, before they are known to be within its limits.
 #[derive(Drop, Debug)]
-pub(crate) struct Fields {
-    pub(crate) id: Name,
-    pub(crate) status: u8,
-    pub(crate) seed: u64,
-    pub(crate) time: u64,
-    pub(crate) user: Name,
-    pub(crate) signals: List<SignalRow>,
-    pub(crate) instances: List<InstRow>,
-    pub(crate) events: List<Event>,
+pub struct Fields {
+    pub version: u16,
+    pub id: Name,
+    pub status: u8,
+    pub seed: u64,
+    pub time: u64,
+    pub user: Name,
+    pub signals: List<SignalRow>,
+    pub instances: List<InstRow>,
+    pub events: List<Event>,
 }
 
 /// A signal: its name of 1 to 1,024 printable bytes without spaces, its width of 1 to 64 bits, and whether it is signed.
@@ -47,20 +50,35 @@ pub struct SignalRow {
     pub signed: bool,
 }
 
-/// An instance of a covergroup: its name and its group's, each of 1 to 1,024 printable bytes without spaces.
+/// An argument of a group's sample function: its width of 1 to 64 bits, and whether it is signed.
+#[derive(Clone, Copy, Debug, PartialEq, Eq)]
+pub struct ArgRow {
+    pub width: u8,
+    pub signed: bool,
+}
+
+/// An instance of a covergroup: its name and its group's, each of 1 to 1,024 printable bytes without spaces, and the
+/// arguments of its sample function, at most 16; none in version 1.
 #[derive(Drop, Debug)]
 pub struct InstRow {
     pub name: Name,
     pub group: Name,
+    pub args: List<ArgRow>,
 }
 
 /// One step of a record.
-#[derive(Clone, Copy, Debug, PartialEq, Eq)]
+#[derive(Drop, Debug)]
 pub enum Event {
     /// The signal of this number has these bits from now on; with None it is Unknown: some bit of it is x or z.
-    Set { signal: u16, value: Option<u64> },
-    /// The instance of this number is sampled.
-    Sample { instance: u16 },
+    Set {
+        signal: u16,
+        value: Option<u64>,
+    },
+    /// The instance of this number is sampled, with a value for each of its arguments; None is Unknown.
+    Sample {
+        instance: u16,
+        args: List<Option<u64>>,
+    },
 }
 
 /// What a record says of its test, before the tables.

@@ -1,12 +1,12 @@
 use Rattle.std.proofs.Common.{arith, sym, subst, ◌∙◌, Err}
 use Rattle.record_codec.specs.Reading.{HasRead, reading}
 use Rattle.record_codec.specs.declared.fault.RecordFault.{RecordFault}
-use Rattle.record_codec.proofs.RecordLaws.{whole_takes, one_record}
+use Rattle.record_codec.proofs.RecordLaws.{whole_takes, is_within, one_record}
 use Rattle.record_codec.proofs.Decoded.{read_is, encodes, fault_read, none_has}
 use Rattle.record_codec.proofs.decoding.decode.Goals as goal
 
 pub record_of-requires : goal.record_of-requires
-record_of-requires c = (whole_takes c.args.bytes.now c.in-Ok.fields (λ i. omega (arith, c.type_inv.bytes i)) c.in-Ok.ensures).within
+record_of-requires c = is_within c.args.bytes.now c.in-Ok.fields (whole_takes c.args.bytes.now c.in-Ok.fields (λ i. omega (arith, c.type_inv.bytes i)) c.in-Ok.ensures) c.requires
 
 pub returns-in-Ok-clause-told : goal.returns-in-Ok-clause-told
 returns-in-Ok-clause-told c = read_is c.args.bytes.now c.in-Ok.fields c.record_of.result c.in-Ok.ensures c.record_of.ensures

@@ -1,6 +1,6 @@
 use Rattle.std.proofs.Common.{◌≡◌, ◌++◌, take}
 use Rattle.std.specs.List.{flat_map}
-use Rattle.record_codec.specs.Spelling.{event}
+use Rattle.record_codec.specs.Bytes.{event}
 use Rattle.record_codec.proofs.encoding.append_events.Given as goal
 
 abbrev pub invariant-loop-entry : goal.invariant-loop-entry

@@ -1,6 +1,6 @@
 use Rattle.std.proofs.Common.{ℕ, List, [], ◌∷◌, ◌++◌, ap, ◌∙◌}
-use Rattle.std.specs.Int.{w64, to_be_bytes}
-use Rattle.record_codec.specs.Spelling.{text, head}
+use Rattle.std.specs.Int.{w16, w64, to_be_bytes}
+use Rattle.record_codec.specs.Bytes.{text}
 use Rattle.record_codec.proofs.Appended.{behind}
 use Rattle.record_codec.proofs.encoding.append_test.Goals as goal
 
@@ -10,8 +10,11 @@ returns c =
     let from_time : List ℕ = to_be_bytes w64 r.time ++ text r.user in
     let from_seed : List ℕ = to_be_bytes w64 r.seed ++ from_time in
     let from_status : List ℕ = r.status ∷ from_seed in
-    behind c.args.out.now.items c.append.new.out.items c.append_text-2.new.out.items head (text r.id ++ from_status) c.in_ok-append.ensures
-    (behind c.append.new.out.items c.append_text.new.out.items c.append_text-2.new.out.items (text r.id) from_status c.in_ok-append_text.ensures
-    (behind c.append_text.new.out.items c.append-2.new.out.items c.append_text-2.new.out.items (r.status ∷ []) from_seed c.in_ok-append-2.ensures
-    (behind c.append-2.new.out.items c.append-3.new.out.items c.append_text-2.new.out.items (to_be_bytes w64 r.seed) from_time (c.in_ok-append-3.ensures ∙ ap (λ (l : List ℕ). c.append-2.new.out.items ++ l) c.to_be_bytes.ensures)
-    (behind c.append-3.new.out.items c.append-4.new.out.items c.append_text-2.new.out.items (to_be_bytes w64 r.time) (text r.user) (c.in_ok-append-4.ensures ∙ ap (λ (l : List ℕ). c.append-3.new.out.items ++ l) c.to_be_bytes-2.ensures) c.in_ok-append_text-2.ensures))))
+    let from_id : List ℕ = text r.id ++ from_status in
+    let all = c.append_text-2.new.out.items in
+    behind c.args.out.now.items c.append.new.out.items all (67 ∷ 86 ∷ 82 ∷ 67 ∷ []) (to_be_bytes w16 r.version ++ from_id) c.in_ok-append.ensures
+    (behind c.append.new.out.items c.append-2.new.out.items all (to_be_bytes w16 r.version) from_id (c.in_ok-append-2.ensures ∙ ap (λ (l : List ℕ). c.append.new.out.items ++ l) c.to_be_bytes.ensures)
+    (behind c.append-2.new.out.items c.append_text.new.out.items all (text r.id) from_status c.in_ok-append_text.ensures
+    (behind c.append_text.new.out.items c.append-3.new.out.items all (r.status ∷ []) from_seed c.in_ok-append-3.ensures
+    (behind c.append-3.new.out.items c.append-4.new.out.items all (to_be_bytes w64 r.seed) from_time (c.in_ok-append-4.ensures ∙ ap (λ (l : List ℕ). c.append-3.new.out.items ++ l) c.to_be_bytes-2.ensures)
+    (behind c.append-4.new.out.items c.append-5.new.out.items all (to_be_bytes w64 r.time) (text r.user) (c.in_ok-append-5.ensures ∙ ap (λ (l : List ℕ). c.append-4.new.out.items ++ l) c.to_be_bytes-3.ensures) c.in_ok-append_text-2.ensures)))))
