@@ -1,17 +1,39 @@
--- Nodes that are out, in a tree in which each node but 0 has a parent of a smaller number.
-use Rattle.std.specs.Prelude.{◌≡◌, ℕ, ◌<◌, List, length, slice_index, slice_index_or, Bool, true, false}
+-- Nodes that are out, in a tree in which each node but node 0, the root, has a parent of a smaller number.
+use Rattle.std.specs.Prelude.{◌≡◌, ◌==◌, ℕ, zero, suc, ◌<◌, ◌||◌, List, [], ◌∷◌, length, filter, count_by, slice_index, slice_index_or, Bool, true, false, if◌then◌else◌}
+use Rattle.std.specs.List.{list_any, range_with_len}
 
--- `IsAbove parents n m`: m is n itself, or it stands above n
-pub data IsAbove (parents : List ℕ) : ℕ → ℕ → Type 0 where
-  itself : {n : ℕ} → IsAbove parents n n
-  above : {n m : ℕ} → 0 < n → IsAbove parents (slice_index parents n) m → IsAbove parents n m
+-- the node and those above it, up to so many
+abbrev pub some_lineage : ℕ → List ℕ → ℕ → List ℕ
+some_lineage zero parents node = []
+some_lineage (suc most) parents node = node ∷ (if node == 0 then [] else some_lineage most parents (slice_index parents node))
 
--- the node or a node above it is out
-pub record IsCovered (parents : List ℕ) (out : List Bool) (node : ℕ) : Type 0 where
-  pub by_node : ℕ
-  pub is_above : IsAbove parents node by_node
-  pub is_out : slice_index_or out by_node false ≡ true
+-- the node and those above it. There are no more than its number and one, since each parent is smaller
+abbrev pub lineage : List ℕ → ℕ → List ℕ
+lineage parents node = some_lineage (suc node) parents node
 
--- each node but 0 has a smaller parent
+-- the node or one above it is out
+abbrev pub is_excluded : List ℕ → (ℕ → Bool) → ℕ → Bool
+is_excluded parents is_out node = list_any is_out (lineage parents node)
+
+-- the test that a list of flags, one for each node, stands for
+abbrev pub is_out : List Bool → ℕ → Bool
+is_out flags node = slice_index_or flags node false
+
+-- how many nodes are out
+abbrev pub number_out : List Bool → ℕ
+number_out flags = count_by (λ flag. flag) flags
+
+-- the nodes that are out, ascending
+abbrev pub nodes_out : List Bool → List ℕ
+nodes_out flags = filter (is_out flags) (range_with_len 0 (length flags))
+
+-- each node but node 0 has a smaller parent
 abbrev pub HasSmallerParents : List ℕ → Type 0
 HasSmallerParents parents = (node : ℕ) → 0 < node → node < length parents → slice_index parents node < node
+
+-- ---- laws
+
+-- node 0 is excluded where it is out, and every other node where it is out or its parent is excluded
+abbrev pub ExcludedFromAbove : Type 0
+ExcludedFromAbove = (parents : List ℕ) (out : ℕ → Bool) (node : ℕ) → HasSmallerParents parents → node < length parents
+    → is_excluded parents out node ≡ (out node || (if node == 0 then false else is_excluded parents out (slice_index parents node)))
