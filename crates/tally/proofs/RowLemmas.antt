@@ -1,13 +1,15 @@
 -- Rows of ascending bins.
-use Rattle.std.proofs.Common.{◌≡◌, ℕ, ◌+◌, ◌≤◌, ◌<◌, zero, suc, List, [], ◌∷◌, ◌++◌, Bool, true, false, cond, length, get_or, set, drop, refl, sym, ap, subst, ◌∙◌, arith, inl, inr, eqb, Ok, Err}
+use Rattle.std.proofs.Common.{◌≡◌, ℕ, ◌+◌, ◌-◌, ◌≤◌, ◌<◌, zero, suc, List, [], ◌∷◌, ◌++◌, Bool, true, false, cond, length, get_or, set, take, drop, refl, sym, ap, subst, ◌∙◌, arith, inl, inr, eqb, ltb, Ok, Err}
+use Rattle.std.specs.Prelude.{count_by}
 use Rattle.std.specs.List.Sorted.{IsBinarySearchResult, IsNonDecreasingBy}
 use Rattle.std.specs.Ordering.{nat_cmp, ordering_index}
 use Rattle.std.proofs.lemmas.Cmp.{ranked}
 use Rattle.std.proofs.lemmas.List.Sorted.{IsNonDecreasingBy-from_default}
 use Rattle.std.proofs.lemmas.Bool.Decides.{nat_tests}
-use Rattle.std.proofs.lemmas.Bool.{cases_eq, cases_lt, eq-eqb, ne_eqb, eqb-false, eqb-true}
-use Rattle.std.proofs.lemmas.List.{drop_more, get_or-set_same, get_or-set_other, length-set, get_or_default}
-use Rattle.tally.specs.Rows.{rows_from, count_in, IsAscendingFrom}
+use Rattle.std.proofs.lemmas.Bool.{cases_eq, cases_lt, eq-eqb, ne_eqb, eqb-false, eqb-true, lt-ltb}
+use Rattle.std.proofs.lemmas.List.Sums.{sum_by-cons}
+use Rattle.std.proofs.lemmas.List.{drop_more, get_or-set_same, get_or-set_other, length-set, get_or_default, length-drop, take_all}
+use Rattle.tally.specs.Rows.{rows_from, count_in, count_from, IsAscendingFrom, Adds, HasRoom}
 
 pub ascending_weaker : (low bin : ℕ) (rows : List (ℕ × ℕ)) → low ≤ bin → IsAscendingFrom bin rows → IsAscendingFrom low rows
 ascending_weaker low bin [] le h = tt
@@ -37,7 +39,7 @@ row_after [] low i d h lt = absurd (omega arith)
 row_after (row ∷ rows) low zero d h lt = h.0
 row_after (row ∷ rows) low (suc i) d h lt = let later = row_after rows (row.0 + 1) i d h.2 (omega arith) in omega (arith, later, h.0)
 
--- the count of the row at a place
+-- the count of the row at an index
 pub count_at_row : (rows : List (ℕ × ℕ)) (low i : ℕ) (d : ℕ × ℕ) → IsAscendingFrom low rows → i < length rows → count_in rows (get_or rows i d).0 ≡ (get_or rows i d).1
 count_at_row [] low i d h lt = absurd (omega arith)
 count_at_row (row ∷ rows) low zero d h lt = rw (eq-eqb row.0 row.0 refl) refl
@@ -71,31 +73,81 @@ count_in-rows_from bin (suc k) (count ∷ counts) =
 pub next_rows : (counts : List ℕ) (i count : ℕ) (d : ℕ) (rows total : List (ℕ × ℕ)) → i < length counts → get_or counts i d ≡ count → rows ++ rows_from i (drop i counts) ≡ total → rows ++ cond (eqb count 0) (rows_from (i + 1) (drop (i + 1) counts)) ((i, count) ∷ rows_from (i + 1) (drop (i + 1) counts)) ≡ total
 next_rows counts i count d rows total lt is e = ap (λ (xs : List ℕ). rows ++ rows_from i xs) (sym (drop_more counts i d lt ∙ ap (λ (n : ℕ). n ∷ drop (i + 1) counts) is)) ∙ e
 
+one_counted : (bin count n : ℕ) (rows : List (ℕ × ℕ)) (t : Bool) → eqb count 0 ≡ t → length rows ≡ n → length (cond t rows ((bin, count) ∷ rows)) ≡ cond (ltb 0 count) 1 0 + n
+one_counted bin count n rows true e is = rw (eqb-true count 0 e) (is ∙ omega arith)
+one_counted bin count n rows false e is = let ne = eqb-false count 0 e in let some : ltb 0 count ≡ true = lt-ltb 0 count (omega arith) in rw some (omega arith)
+
+-- as many rows as counts above 0
+pub length-rows_from : (bin : ℕ) (counts : List ℕ) → length (rows_from bin counts) ≡ count_by (ltb 0) counts
+length-rows_from bin [] = refl
+length-rows_from bin (count ∷ counts) =
+    one_counted bin count (count_by (ltb 0) counts) (rows_from (bin + 1) counts) (eqb count 0) refl (length-rows_from (bin + 1) counts)
+    ∙ sym (sum_by-cons (λ (count : ℕ). cond (ltb 0 count) 1 0) count counts)
+
 -- ---- adding
 
 -- what is added so far and the rows that are left make the whole
-pub record Added (rows left : List (ℕ × ℕ)) (old now : List ℕ) : Type 0 where
+pub record Added (first : ℕ) (rows left : List (ℕ × ℕ)) (old now : List ℕ) : Type 0 where
   pub same : length now ≡ length old
-  pub at : (bin : ℕ) → bin < length old → get_or now bin 0 + count_in left bin ≡ get_or old bin 0 + count_in rows bin
+  pub at : (index : ℕ) → index < length old → get_or now index 0 + count_in left (first + index) ≡ get_or old index 0 + count_in rows (first + index)
 
-pub add_row : (rows : List (ℕ × ℕ)) (row : ℕ × ℕ) (rest : List (ℕ × ℕ)) (old now : List ℕ) → Added rows (row ∷ rest) old now → row.0 < length old → IsAscendingFrom 0 (row ∷ rest) → Added rows rest old (set now row.0 (get_or now row.0 0 + row.1))
-add_row rows row rest old now a inside h = record {
-  same = length-set now row.0 (get_or now row.0 0 + row.1) ∙ a.same;
-  at = λ bin lt. elim (cases_eq row.0 bin) [
-    | inl e ↦
-        let whole : get_or now row.0 0 + row.1 ≡ get_or old row.0 0 + count_in rows row.0 = subst (λ (t : Bool). get_or now row.0 0 + cond t row.1 (count_in rest row.0) ≡ get_or old row.0 0 + count_in rows row.0) (eq-eqb row.0 row.0 refl) (a.at row.0 inside) in
-        let none : count_in rest row.0 ≡ 0 = none_below rest (row.0 + 1) row.0 (omega arith) h.2 in
-        let put : get_or (set now row.0 (get_or now row.0 0 + row.1)) row.0 0 ≡ get_or now row.0 0 + row.1 = get_or-set_same now row.0 (get_or now row.0 0 + row.1) 0 (omega (arith, a.same)) in
-        subst (λ (b : ℕ). get_or (set now row.0 (get_or now row.0 0 + row.1)) b 0 + count_in rest b ≡ get_or old b 0 + count_in rows b) e (omega (arith, whole, none, put))
-    | inr ne ↦
-        let put : get_or (set now row.0 (get_or now row.0 0 + row.1)) bin 0 ≡ get_or now bin 0 = get_or-set_other now row.0 bin (get_or now row.0 0 + row.1) 0 (λ e. ne (sym e)) in
-        let whole : get_or now bin 0 + count_in rest bin ≡ get_or old bin 0 + count_in rows bin = subst (λ (t : Bool). get_or now bin 0 + cond t row.1 (count_in rest bin) ≡ get_or old bin 0 + count_in rows bin) (ne_eqb row.0 bin ne) (a.at bin lt) in
-        omega (arith, put, whole)
-  ];
+pub all_added : (first : ℕ) (rows left : List (ℕ × ℕ)) (old now : List ℕ) → left ≡ [] → Added first rows left old now → Adds (count_from rows first) old now
+all_added first rows left old now none a = record {
+  same = a.same;
+  at = λ index lt. let whole = a.at index lt in let no : count_in left (first + index) ≡ 0 = ap (λ (l : List (ℕ × ℕ)). count_in l (first + index)) none in omega (arith, whole, no);
 }
 
-pub row_fits : (rows : List (ℕ × ℕ)) (row : ℕ × ℕ) (rest : List (ℕ × ℕ)) (old now : List ℕ) → Added rows (row ∷ rest) old now → row.0 < length old → get_or now row.0 0 + row.1 ≡ get_or old row.0 0 + count_in rows row.0
-row_fits rows row rest old now a inside = subst (λ (t : Bool). get_or now row.0 0 + cond t row.1 (count_in rest row.0) ≡ get_or old row.0 0 + count_in rows row.0) (eq-eqb row.0 row.0 refl) (a.at row.0 inside)
+-- the row at an index, before those after it
+pub front_at : (first : ℕ) (rows : List (ℕ × ℕ)) (i : ℕ) → i < length rows → IsAscendingFrom first rows → IsAscendingFrom first (get_or rows i (0, 0) ∷ drop (i + 1) rows)
+front_at first rows i lt h = subst (IsAscendingFrom first) (drop_more rows i (0, 0) lt) (ascending_drop first i rows h)
+
+module _ (first : ℕ) (rows : List (ℕ × ℕ)) (row : ℕ × ℕ) (rest : List (ℕ × ℕ)) (old now : List ℕ) (a : Added first rows (row ∷ rest) old now) (index : ℕ) (is : first + index ≡ row.0) where
+  pub row_whole : index < length old → get_or now index 0 + row.1 ≡ get_or old index 0 + count_in rows (first + index)
+  row_whole lt = subst (λ (t : Bool). get_or now index 0 + cond t row.1 (count_in rest (first + index)) ≡ get_or old index 0 + count_in rows (first + index)) (eq-eqb row.0 (first + index) (sym is)) (a.at index lt)
+
+  other_whole : (other : ℕ) → (index ≡ other → ⊥) → other < length old → get_or now other 0 + count_in rest (first + other) ≡ get_or old other 0 + count_in rows (first + other)
+  other_whole other ne lt = subst (λ (t : Bool). get_or now other 0 + cond t row.1 (count_in rest (first + other)) ≡ get_or old other 0 + count_in rows (first + other)) (ne_eqb row.0 (first + other) (λ e. ne (omega (arith, e, is)))) (a.at other lt)
+
+  pub add_row : IsAscendingFrom first (row ∷ rest) → index < length old → Added first rows rest old (set now index (get_or now index 0 + row.1))
+  add_row h inside = record {
+    same = length-set now index (get_or now index 0 + row.1) ∙ a.same;
+    at = λ other lt. elim (cases_eq index other) [
+      | inl e ↦
+          let whole = row_whole inside in
+          let none : count_in rest (first + index) ≡ 0 = none_below rest (row.0 + 1) (first + index) (omega arith) h.2 in
+          let put : get_or (set now index (get_or now index 0 + row.1)) index 0 ≡ get_or now index 0 + row.1 = get_or-set_same now index (get_or now index 0 + row.1) 0 (omega (arith, a.same)) in
+          subst (λ (b : ℕ). get_or (set now index (get_or now index 0 + row.1)) b 0 + count_in rest (first + b) ≡ get_or old b 0 + count_in rows (first + b)) e (omega (arith, whole, none, put))
+      | inr ne ↦
+          let put : get_or (set now index (get_or now index 0 + row.1)) other 0 ≡ get_or now other 0 = get_or-set_other now index other (get_or now index 0 + row.1) 0 (λ e. ne (sym e)) in
+          let whole = other_whole other ne lt in
+          omega (arith, put, whole)
+    ];
+  }
+
+  -- where the row's bin is past the end, so are all later ones
+  pub past_end : IsAscendingFrom first (row ∷ rest) → length old ≤ index → Adds (count_from rows first) old now
+  past_end h past = record {
+    same = a.same;
+    at = λ other lt.
+        let low : IsAscendingFrom row.0 (row ∷ rest) = (omega arith, h.1, h.2) in
+        let none : count_in (row ∷ rest) (first + other) ≡ 0 = none_below (row ∷ rest) row.0 (first + other) (omega arith) low in
+        let whole = a.at other lt in
+        omega (arith, none, whole);
+  }
+
+-- from index 0 on
+pub plain_room : (rows : List (ℕ × ℕ)) (numbers : List ℕ) → HasRoom (count_in rows) numbers → HasRoom (count_from rows 0) numbers
+plain_room rows numbers room index lt = let plain : 0 + index ≡ index = omega arith in rw plain (room index lt)
+
+pub plain_adds : (rows : List (ℕ × ℕ)) (old new : List ℕ) → Adds (count_from rows 0) old new → Adds (count_in rows) old new
+plain_adds rows old new a = record { same = a.same; at = λ index lt. let plain : 0 + index ≡ index = omega arith in rw plain at (a.at index lt) }
+
+-- the counts of the later bins alone
+pub later_room : (rows left : List (ℕ × ℕ)) (first : ℕ) (numbers : List ℕ) → ((later : ℕ) → first ≤ later → count_in left later ≡ count_in rows later) → HasRoom (count_from rows first) numbers → HasRoom (count_from left first) numbers
+later_room rows left first numbers same room index lt = rw (same (first + index) (omega arith)) (room index lt)
+
+pub later_adds : (rows left : List (ℕ × ℕ)) (first : ℕ) (old new : List ℕ) → ((later : ℕ) → first ≤ later → count_in left later ≡ count_in rows later) → Adds (count_from left first) old new → Adds (count_from rows first) old new
+later_adds rows left first old new same a = record { same = a.same; at = λ index lt. rw (same (first + index) (omega arith)) at (a.at index lt) }
 
 -- ---- searching
 
@@ -127,3 +179,46 @@ module _ (rows : List (ℕ × ℕ)) (ascending : IsAscendingFrom 0 rows) (bin : 
 
   pub no_row : (at : ℕ) → IsBinarySearchResult (λ row. nat_cmp row.0 bin) rows (Err at) → 0 ≡ count_in rows bin
   no_row at parted = sym (count_none rows bin (λ i d lt is. none_at at parted i lt (ap (λ (r : ℕ × ℕ). r.0) (get_or_default rows i (0, 0) d lt) ∙ is)))
+
+-- ---- the rows from a bin on
+
+rows_climb : (rows : List (ℕ × ℕ)) (low i j : ℕ) → IsAscendingFrom low rows → i < j → j < length rows → (get_or rows i (0, 0)).0 < (get_or rows j (0, 0)).0
+rows_climb [] low i j h before lt = absurd (omega arith)
+rows_climb (row ∷ rows) low i zero h before lt = absurd (omega arith)
+rows_climb (row ∷ rows) low zero (suc j) h before lt = let later = row_after rows (row.0 + 1) j (0, 0) h.2 (omega arith) in omega (arith, later)
+rows_climb (row ∷ rows) low (suc i) (suc j) h before lt = rows_climb rows (row.0 + 1) i j h.2 (omega arith) (omega arith)
+
+from_at : (rows : List (ℕ × ℕ)) (at low bin : ℕ) → IsAscendingFrom low rows → (at < length rows → bin ≤ (get_or rows at (0, 0)).0) → IsAscendingFrom bin (drop at rows)
+from_at [] zero low bin h ge = tt
+from_at [] (suc at) low bin h ge = tt
+from_at (row ∷ rows) zero low bin h ge = (ge (omega arith), h.1, h.2)
+from_at (row ∷ rows) (suc at) low bin h ge = from_at rows at (row.0 + 1) bin h.2 (λ lt. ge (omega arith))
+
+passes : (rows : List (ℕ × ℕ)) (at bin later : ℕ) → ((i : ℕ) → i < at → i < length rows → (get_or rows i (0, 0)).0 < bin) → bin ≤ later → count_in (drop at rows) later ≡ count_in rows later
+passes rows zero bin later before le = refl
+passes [] (suc at) bin later before le = refl
+passes (row ∷ rows) (suc at) bin later before le =
+    let here = before 0 (omega arith) (omega arith) in
+    rw (ne_eqb row.0 later (λ e. absurd (omega (arith, here)))) (passes rows at bin later (λ i lt inside. before (suc i) (omega arith) (omega arith)) le)
+
+module _ (rows : List (ℕ × ℕ)) (ascending : IsAscendingFrom 0 rows) (bin at : ℕ) (inside : at ≤ length rows) where
+  -- the rest of the rows, as a range of them
+  rest_is : take (length rows - at) (drop at rows) ≡ drop at rows
+  rest_is = take_all (length rows - at) (drop at rows) (omega (arith, length-drop at rows))
+
+  module _ (lt : at < length rows) (equal : IsBinarySearchResult (λ row. nat_cmp row.0 bin) rows (Ok at)) where
+    bin_is : (get_or rows at (0, 0)).0 ≡ bin
+    bin_is = ranked _ bin _ (sym (equal (0, 0)))
+
+    pub ascends_from_found : IsAscendingFrom bin (take (length rows - at) (drop at rows))
+    ascends_from_found = rw rest_is (from_at rows at 0 bin ascending (λ _. omega (arith, bin_is)))
+
+    pub same_from_found : (later : ℕ) → bin ≤ later → count_in (take (length rows - at) (drop at rows)) later ≡ count_in rows later
+    same_from_found later le = rw rest_is (passes rows at bin later (λ i before within. let less = rows_climb rows 0 i at ascending before lt in omega (arith, less, bin_is)) le)
+
+  module _ (parted : IsBinarySearchResult (λ row. nat_cmp row.0 bin) rows (Err at)) where
+    pub ascends_from_gap : IsAscendingFrom bin (take (length rows - at) (drop at rows))
+    ascends_from_gap = rw rest_is (from_at rows at 0 bin ascending (λ lt. let greater : bin < (get_or rows at (0, 0)).0 = ranked _ bin _ (sym ((parted (comparisons_rise rows ascending bin)).1 at (0, 0) (omega arith) lt)) in omega arith))
+
+    pub same_from_gap : (later : ℕ) → bin ≤ later → count_in (take (length rows - at) (drop at rows)) later ≡ count_in rows later
+    same_from_gap later high = rw rest_is (passes rows at bin later (λ i before within. ranked _ bin _ (sym ((parted (comparisons_rise rows ascending bin)).0 i (0, 0) (omega arith) before))) high)

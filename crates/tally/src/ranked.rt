@@ -3,7 +3,7 @@
 /// A test that a ranking takes.
 #[derive(Clone, Copy, Debug, PartialEq, Eq)]
 pub struct Ranked {
-    /// The test's place among those that are ranked, from 0.
+    /// The test's index among those that are ranked.
     pub test: u32,
     /// By how much the test raises the worth of those that are taken before it.
     pub gain: u64,

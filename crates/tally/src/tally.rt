@@ -1,8 +1,8 @@
 //! Rows of bins and their counts.
-ghost use Rattle.std.specs.Prelude.{◌≡◌, ℕ, ◌+◌, ◌<◌, ◌≤◌, ◌^◌, length, slice_index, IfOk, All};
-ghost use Rattle.tally.specs.Rows.{rows_from, count_in, IsAscendingFrom, Adds};
+ghost use Rattle.std.specs.Prelude.{◌≡◌, ℕ, ◌<◌, ◌≤◌, ◌^◌, length, slice_index, count_by, nat_lt, IfOk, All};
+ghost use Rattle.tally.specs.Rows.{rows_from, count_in, count_from, IsAscendingFrom, Adds, HasRoom};
 
-use cov_base::Memory;
+use cov_ground::Memory;
 use std::alloc::Global;
 use std::marker::Model;
 
@@ -28,7 +28,9 @@ impl Tally {
     pub fn of(alloc: Global, counts: &[u64]) -> Result<Tally, Memory>
         requires { length counts.now < 2 ^ 32 }
         ensures rows { IfOk result (λ tally. tally ≡ rows_from 0 counts.now) }
-        ensures counts { IfOk result (λ tally. (bin : ℕ) → count_in tally bin ≡ slice_index counts.now bin) }
+        ensures counts { IfOk result (λ tally. (bin : ℕ)
+            → count_in tally bin ≡ slice_index counts.now bin) }
+        ensures size { IfOk result (λ tally. length tally ≡ count_by (nat_lt 0) counts.now) }
     {
         let rows = rows_of(alloc, counts)?;
         Ok(Tally { rows })
@@ -49,13 +51,22 @@ impl Tally {
         self.rows.as_slice()
     }
 
-    /// Adds each count at the place of its bin. It takes no memory.
+    /// Adds the count of each bin to the number of its index. It takes no memory.
     pub fn add_into(&self, counts: &mut [u64])
         requires inside { All (λ row. row.0 < length counts.old) self.now }
-        requires room { (bin : ℕ) → bin < length counts.old → slice_index counts.old bin + count_in self.now bin < 2 ^ 64 }
-        ensures { Adds self.now counts.old counts.new }
+        requires room { HasRoom (count_in self.now) counts.old }
+        ensures { Adds (count_in self.now) counts.old counts.new }
     {
-        add_rows(self.rows.as_slice(), counts);
+        add_rows(self.rows.as_slice(), 0, counts);
+    }
+
+    /// Adds the counts of the bins from `first` on, as many as there are numbers. It takes no memory, and time in the
+    /// rows of those bins and in the logarithm of the number of all.
+    pub fn add_part(&self, first: u32, counts: &mut [u64])
+        requires { HasRoom (count_from self.now first) counts.old }
+        ensures { Adds (count_from self.now first) counts.old counts.new }
+    {
+        add_rows(rows_after(self.rows.as_slice(), first), first, counts);
     }
 }
 
@@ -82,13 +93,28 @@ fn count_of(rows: &[(u32, u64)], bin: u32) -> u64
     }
 }
 
-fn add_rows(rows: &[(u32, u64)], counts: &mut [u64])
-    requires ascending { IsAscendingFrom 0 rows.now }
-    requires inside { All (λ row. row.0 < length counts.old) rows.now }
-    requires room { (bin : ℕ) → bin < length counts.old → slice_index counts.old bin + count_in rows.now bin < 2 ^ 64 }
-    ensures { Adds rows.now counts.old counts.new }
+/// The rows from the bin on.
+fn rows_after(rows: &[(u32, u64)], bin: u32) -> &[(u32, u64)]
+    requires { IsAscendingFrom 0 rows.now }
+    ensures ascends { IsAscendingFrom bin result.now }
+    ensures same { (later : ℕ) → bin ≤ later → count_in result.now later ≡ count_in rows.now later }
+{
+    match rows.binary_search_by_key(&bin, |row| row.0) {
+        Ok(at) => &rows[at..],
+        Err(at) => &rows[at..],
+    }
+}
+
+fn add_rows(rows: &[(u32, u64)], first: u32, counts: &mut [u64])
+    requires ascending { IsAscendingFrom first rows.now }
+    requires room { HasRoom (count_from rows.now first) counts.old }
+    ensures { Adds (count_from rows.now first) counts.old counts.new }
 {
     for (bin, count) in rows {
-        counts[*bin as usize] += *count;
+        let index = (*bin - first) as usize;
+        if index >= counts.len() {
+            return;
+        }
+        counts[index] += *count;
     }
 }

@@ -23,5 +23,8 @@ fn adds_each_count_at_its_bin(rt: HostRuntime) -> Result<(), Fail> {
     let mut counts = [10u64, 20, 30, 40];
     tally.add_into(&mut counts);
     assert_eq!(rt; counts.as_slice(), [12u64, 20, 35, 40].as_slice());
+    let mut part = [10u64, 20];
+    tally.add_part(1, &mut part);
+    assert_eq!(rt; part.as_slice(), [10u64, 25].as_slice());
     Ok(())
 }

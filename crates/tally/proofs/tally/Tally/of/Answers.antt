@@ -1,6 +1,6 @@
-use Rattle.std.proofs.Common.{◌≡◌, ℕ, ◌+◌, List, get_or, sym, ap, subst, ◌∙◌, arith}
+use Rattle.std.proofs.Common.{◌≡◌, ℕ, ◌+◌, List, length, get_or, sym, ap, subst, ◌∙◌, arith}
 use Rattle.tally.specs.Rows.{rows_from, count_in, IsAscendingFrom}
-use Rattle.tally.proofs.RowLemmas.{ascending_rows_from, count_in-rows_from}
+use Rattle.tally.proofs.RowLemmas.{ascending_rows_from, count_in-rows_from, length-rows_from}
 use Rattle.tally.proofs.tally.Tally.of.Goals as goal
 
 pub invariant_of-result : goal.invariant_of-result
@@ -11,3 +11,6 @@ from_zero rows counts is bin = let plain : bin ≡ 0 + bin = omega arith in ap (
 
 pub returns-clause-counts : goal.returns-clause-counts
 returns-clause-counts c = from_zero c.in_ok-rows.rows.items c.args.counts.now c.in_ok-rows.ensures
+
+pub returns-clause-size : goal.returns-clause-size
+returns-clause-size c = ap length c.in_ok-rows.ensures ∙ length-rows_from 0 c.args.counts.now
