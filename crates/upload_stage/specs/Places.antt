@@ -1,5 +1,9 @@
 -- The places of an upload: for each the byte that was received there, if any was.
-use Rattle.std.specs.Prelude.{ℕ, ◌+◌, List, [], ◌∷◌, ◌++◌, length, take, drop, map, Option, Some, None, Bool, true, false, ◌==◌, if◌then◌else◌}
+use Rattle.std.specs.Prelude.{◌≡◌, ℕ, ◌+◌, ◌*◌, ◌/◌, ◌%◌, ◌<◌, ◌≤◌, List, [], ◌∷◌, ◌++◌, length, take, drop, map, slice_index, vec_capacity, Option, Some, None, Bool, true, false, ◌==◌, if◌then◌else◌}
+use Rattle.std.specs.Global.{Vec}
+use Rattle.std.specs.Int.{bit_at}
+use Rattle.std.specs.List.{range_with_len}
+use Rattle.cov_ground.specs.Limits.{longest_record}
 
 -- a byte was received here, and it is another one
 abbrev pub differs : Option ℕ → ℕ → Bool
@@ -30,8 +34,24 @@ byte_or_zero (Some byte) = byte
 abbrev pub bytes_in : List (Option ℕ) → List ℕ
 bytes_in places = map byte_or_zero places
 
--- the places of bytes with a mark for each that was received
-abbrev pub places_of : List Bool → List ℕ → List (Option ℕ)
-places_of [] bytes = []
-places_of (received ∷ marks) [] = []
-places_of (received ∷ marks) (byte ∷ bytes) = (if received then Some byte else None) ∷ places_of marks bytes
+-- ---- places as they are kept: bytes, and a mark for each place that was received, 64 marks a word
+
+-- 1 at a place that was received
+abbrev pub mark_of : List ℕ → ℕ → ℕ
+mark_of marks place = bit_at (slice_index marks (place / 64)) (place % 64)
+
+abbrev pub byte_at : List ℕ → List ℕ → ℕ → Option ℕ
+byte_at marks bytes place = if mark_of marks place == 1 then Some (slice_index bytes place) else None
+
+abbrev pub places_of : List ℕ → List ℕ → ℕ → List (Option ℕ)
+places_of marks bytes len = map (byte_at marks bytes) (range_with_len 0 len)
+
+-- All marked places have bytes, and those before `whole` are marked. There is room for all places
+pub record IsHeld (marks : List ℕ) (bytes : Vec ℕ) (len whole : ℕ) : Type 0 where
+  pub short : len ≤ longest_record
+  pub wide : len ≤ 64 * length marks
+  pub long : length bytes.items ≤ len
+  pub room : len ≤ vec_capacity bytes
+  pub front : whole ≤ len
+  pub passed : (place : ℕ) → place < whole → mark_of marks place ≡ 1
+  pub there : (place : ℕ) → mark_of marks place ≡ 1 → place < length bytes.items

@@ -4,6 +4,7 @@ use Rattle.std.specs.Prelude.{◌≡◌, ◌⊎◌, ℕ, ◌+◌, List, [], leng
 use Rattle.std.specs.Global.{Vec}
 use Rattle.std.specs.Str.{bytes_eq}
 use Rattle.sha2.specs.Sha256.{sha256}
+use Rattle.cov_ground.specs.Limits.{longest_record}
 use Rattle.upload_stage.specs.declared.fault.StageFault.{StageFault}
 use Rattle.upload_stage.specs.declared.fault.StageFault.TheVariants as fault
 use Rattle.upload_stage.specs.Places.{first_differing, first_missing, with_bytes, bytes_in}
@@ -11,15 +12,11 @@ use Rattle.upload_stage.specs.Places.{first_differing, first_missing, with_bytes
 abbrev pub Upload : Type 0
 Upload = Option (List (Option ℕ))
 
--- the most bytes of an upload
-abbrev pub longest : ℕ
-longest = 8388608
-
 -- ---- what each call refuses, in this order
 
 abbrev pub begin_fault : Upload → ℕ → Option StageFault
 begin_fault (Some places) len = Some fault.StageBusy
-begin_fault None len = if nat_lt longest len then Some (fault.TooLong len) else None
+begin_fault None len = if nat_lt longest_record len then Some (fault.TooLong len) else None
 
 abbrev pub differs_fault : Option ℕ → Option StageFault
 differs_fault None = None

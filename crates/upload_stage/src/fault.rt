@@ -10,7 +10,7 @@ pub enum StageFault {
     /// An upload is open already.
     #[error("an upload is open")]
     StageBusy,
-    /// The stated length in bytes is above 8,388,608.
+    /// The stated length in bytes is above that of the longest record.
     #[error("{n} bytes are too long an upload")]
     TooLong { n: u64 },
     /// A piece passes the end of an upload of `len` bytes.

@@ -3,6 +3,7 @@
 
 mod fault;
 mod held;
+mod marks;
 mod stage;
 
 pub use fault::StageFault;

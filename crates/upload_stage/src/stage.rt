@@ -1,15 +1,14 @@
 //! An upload, from its begin to its end.
 ghost use Rattle.std.specs.Prelude.{◌≡◌, ◌≤◌, None, length, IfOk};
+ghost use Rattle.cov_ground.specs.Limits.{longest_record};
 ghost use Rattle.upload_stage.specs.Uploads.{Begins, Pieces, Finishes};
 
 use crate::StageFault;
 use crate::held::Held;
+use cov_ground::limits::LONGEST_RECORD;
 use sha2::{Digest, Sha256};
 use std::alloc::Global;
 use std::marker::Model;
-
-/// The most bytes of an upload.
-const LONGEST: u64 = 8_388_608;
 
 /// Where at most one upload is gathered. Contracts see none, or for each place the byte received there, if any was.
 #[derive(Drop, Debug)]
@@ -33,7 +32,7 @@ impl Stage {
         Stage { open: None }
     }
 
-    /// Opens an upload of `len` bytes, of which there are at most 8,388,608. All room that the upload needs is taken
+    /// Opens an upload of `len` bytes, at most as many as a record may have. All room that the upload needs is taken
     /// here. An upload of no bytes is complete at once.
     pub fn begin(&mut self, alloc: Global, len: u64) -> Result<(), StageFault>
         ensures { Begins self.old len result self.new }
@@ -41,7 +40,7 @@ impl Stage {
         if self.open.is_some() {
             return Err(StageFault::StageBusy);
         }
-        if len > LONGEST {
+        if len > LONGEST_RECORD {
             return Err(StageFault::TooLong { n: len });
         }
         match Held::new(alloc, len as usize) {
@@ -78,12 +77,13 @@ impl Stage {
     }
 
     /// Hands over the bytes of a complete upload, whose SHA-256 is to be `digest`. A complete upload leaves the stage,
-    /// also where its digest differs; one that lacks a byte stays. It takes no memory.
+    /// also where its digest differs; one that lacks a byte stays. It takes no memory, and in all calls for one
+    /// upload together goes once over its places.
     pub fn finish(&mut self, digest: &[u8; 32]) -> Result<Vec<u8>, StageFault>
         ensures finishes { Finishes self.old digest.now result self.new }
-        ensures short { IfOk result (λ bytes. length bytes.items ≤ 8388608) }
+        ensures short { IfOk result (λ bytes. length bytes.items ≤ longest_record) }
     {
-        let Some(held) = &self.open else {
+        let Some(held) = &mut self.open else {
             return Err(StageFault::NoUpload);
         };
         if let Some(at) = held.first_missing() {

@@ -64,3 +64,33 @@ fn gathers_from_the_last_byte_to_the_first(rt: HostRuntime) -> Result<(), Fail> 
     assert_eq!(rt; stage.begin(rt.alloc(), 8_388_608), Ok(()));
     Ok(())
 }
+
+#[test]
+fn tells_the_least_missing_place(rt: HostRuntime) -> Result<(), Fail> {
+    let mut stage = Stage::new();
+    stage.begin(rt.alloc(), 300)?;
+    let bytes = [7u8; 300];
+    // Pieces, and the least place that is missing after each.
+    let pieces = [
+        (0, 63, 63),
+        (128, 200, 63),
+        (65, 128, 63),
+        (63, 64, 64),
+        (64, 65, 200),
+        (299, 300, 200),
+        (200, 298, 298),
+    ];
+    for (from, to, missing) in pieces {
+        assert!(rt; from <= to && to <= bytes.len());
+        stage.piece(from as u64, &bytes[from..to])?;
+        assert_eq!(rt;
+            stage.finish(&OF_FOUR).err(),
+            Some(StageFault::Missing { at: missing }),
+            "after {from}"
+        );
+    }
+    stage.piece(298, &[7])?;
+    assert!(rt; stage.finish(&OF_FOUR).is_err());
+    assert_eq!(rt; stage.finish(&OF_FOUR).err(), Some(StageFault::NoUpload));
+    Ok(())
+}

@@ -1,17 +1,50 @@
-use Rattle.std.proofs.Common.{ap, ◌∙◌, arith, refl}
-use Rattle.std.specs.Prelude.{length}
-use Rattle.upload_stage.proofs.Places.{lengths, overwritten, written}
+use Rattle.std.proofs.Common.{ℕ, ◌+◌, ◌<◌, ◌≤◌, ◌≡◌, List, Option, length, sym, ap, ◌∙◌, arith, inl, inr}
+use Rattle.std.proofs.lemmas.Bool.{cases_lt}
+use Rattle.upload_stage.specs.Places.{with_bytes, mark_of}
+use Rattle.upload_stage.proofs.Places.{put, length-places_of}
 use Rattle.upload_stage.proofs.held.Held.add.Goals as goal
 
-pub overwrite-requires : goal.overwrite-requires
-overwrite-requires c = let e = lengths c.self.inside.got.items c.self.inside.bytes.items c.args.self.now c.self.invariant.0 c.self.view_is in omega (arith, ap length c.as_mut_slice.ensures.value)
+pub write-requires-clause-room : goal.write-requires-clause-room
+write-requires-clause-room c = omega (arith, c.requires, length-places_of c.self.inside.marks.items c.self.inside.bytes.items c.self.inside.len, ap length c.self.view_is, c.self.invariant.room)
 
-pub mark-requires : goal.mark-requires
-mark-requires c = let e = lengths c.self.inside.got.items c.self.inside.bytes.items c.args.self.now c.self.invariant.0 c.self.view_is in omega (arith, ap length c.as_mut_slice-2.ensures.value, c.self.invariant.0)
+pub write-requires-clause-fits : goal.write-requires-clause-fits
+write-requires-clause-fits c = omega (arith, c.requires, length-places_of c.self.inside.marks.items c.self.inside.bytes.items c.self.inside.len, ap length c.self.view_is, c.self.invariant.short)
+
+pub mark-requires-clause-wide : goal.mark-requires-clause-wide
+mark-requires-clause-wide c = omega (arith, c.requires, length-places_of c.self.inside.marks.items c.self.inside.bytes.items c.self.inside.len, ap length c.self.view_is, c.self.invariant.wide)
+
+pub invariant_of-self : goal.invariant_of-self
+invariant_of-self c =
+    let kept = c.self.invariant in
+    let end = c.args.offset + length c.args.bytes.now in
+    let fit : end ≤ c.self.inside.len = omega (arith, c.requires, length-places_of c.self.inside.marks.items c.self.inside.bytes.items c.self.inside.len, ap length c.self.view_is) in
+    record {
+      short = kept.short;
+      wide = omega (arith, kept.wide, c.mark.ensures.len);
+      long = omega (arith, c.write.ensures.len, kept.long, fit);
+      room = omega (arith, c.write.ensures.room, kept.room);
+      front = kept.front;
+      passed = λ place lt. elim (cases_lt place c.args.offset) [
+        | inl below ↦ c.mark.ensures.below place below ∙ kept.passed place lt
+        | inr from ↦ elim (cases_lt place end) [
+          | inl inside ↦ c.mark.ensures.inside place from inside
+          | inr above ↦ c.mark.ensures.above place above ∙ kept.passed place lt
+        ]
+      ];
+      there = λ place one. elim (cases_lt place c.args.offset) [
+        | inl below ↦ let was = kept.there place (sym (c.mark.ensures.below place below) ∙ one) in omega (arith, was, c.write.ensures.len)
+        | inr from ↦ elim (cases_lt place end) [
+          | inl inside ↦ omega (arith, c.write.ensures.len)
+          | inr above ↦ let was = kept.there place (sym (c.mark.ensures.above place above) ∙ one) in omega (arith, was, c.write.ensures.len)
+        ]
+      ];
+    }
 
 pub returns : goal.returns
 returns c =
-    let e = lengths c.self.inside.got.items c.self.inside.bytes.items c.args.self.now c.self.invariant.0 c.self.view_is in
-    overwritten c.self.inside.got.items _ c.self.inside.bytes.items _ c.args.self.now c.args.offset c.args.bytes.now c.self.invariant.0 c.self.view_is (omega arith)
-    (written c.self.inside.got.len c.mark.new.got c.self.inside.got.items (omega (arith, c.mark.auto.got, ap length c.as_mut_slice-2.ensures.value)) ∙ (c.mark.ensures ∙ rw c.as_mut_slice-2.ensures.value refl))
-    (written c.self.inside.bytes.len c.overwrite.new.held c.self.inside.bytes.items (omega (arith, c.overwrite.auto.held, ap length c.as_mut_slice.ensures.value)) ∙ (c.overwrite.ensures ∙ rw c.as_mut_slice.ensures.value refl))
+    let kept = c.self.invariant in
+    let fit : c.args.offset + length c.args.bytes.now ≤ c.self.inside.len = omega (arith, c.requires, length-places_of c.self.inside.marks.items c.self.inside.bytes.items c.self.inside.len, ap length c.self.view_is) in
+    put c.self.inside.marks.items c.mark.new.marks.items c.self.inside.bytes.items c.write.new.held.items c.self.inside.len c.args.offset c.args.bytes.now fit
+    c.mark.ensures.below c.mark.ensures.inside c.mark.ensures.above
+    (λ k lt one. c.write.ensures.before k lt (kept.there k one)) c.write.ensures.inside (λ k le one. c.write.ensures.after k le (kept.there k one))
+    ∙ ap (λ (l : List (Option ℕ)). with_bytes l c.args.offset c.args.bytes.now) c.self.view_is

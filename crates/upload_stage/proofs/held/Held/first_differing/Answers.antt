@@ -1,7 +1,7 @@
 use Rattle.std.proofs.Common.{ap, arith}
 use Rattle.std.specs.Prelude.{length}
-use Rattle.upload_stage.proofs.Places.{lengths}
+use Rattle.upload_stage.proofs.Places.{length-places_of}
 use Rattle.upload_stage.proofs.held.Held.first_differing.Goals as goal
 
 pub differing-requires-clause-long : goal.differing-requires-clause-long
-differing-requires-clause-long c = let e = lengths c.self.inside.got.items c.self.inside.bytes.items c.args.self.now c.self.invariant.0 c.self.view_is in omega (arith, ap length c.as_slice-2.ensures.value, c.self.invariant.0)
+differing-requires-clause-long c = omega (arith, c.requires, length-places_of c.self.inside.marks.items c.self.inside.bytes.items c.self.inside.len, ap length c.self.view_is)

@@ -1,6 +1,7 @@
-use Rattle.std.proofs.Common.{arith}
-use Rattle.upload_stage.proofs.Places.{lengths}
+use Rattle.std.proofs.Common.{sym, ap, ◌∙◌}
+use Rattle.std.specs.Prelude.{length}
+use Rattle.upload_stage.proofs.Places.{length-places_of}
 use Rattle.upload_stage.proofs.held.Held.len.Goals as goal
 
 pub returns : goal.returns
-returns c = let e = lengths c.self.inside.got.items c.self.inside.bytes.items c.args.self.now c.self.invariant.0 c.self.view_is in omega (arith, c.self.inside.bytes.len)
+returns c = sym (length-places_of c.self.inside.marks.items c.self.inside.bytes.items c.self.inside.len) ∙ ap length c.self.view_is
