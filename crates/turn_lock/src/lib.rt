@@ -15,5 +15,4 @@ mod seat;
 mod tests;
 mod types;
 
-pub use board::{Stage, View};
 pub use types::{Seat, Turn, TurnLock};

@@ -5,7 +5,8 @@ ghost use Rattle.turn_lock.specs.History.{longer, NoneBy, AtMostOneMore};
 ghost use Rattle.turn_lock.specs.Views.{taken_of, ticket_of, view};
 ghost use Rattle.turn_lock.specs.Steps.{Waits, IsServed};
 ghost use Rattle.turn_lock.specs.declared.board.Stage.TheVariants.{Done};
-ghost use Rattle.turn_lock.specs.Seats.{home, IsSeatOf, IsSame, IsTurnOf, IsTurnBy, number_of, free, left, opened, seen, own, taken, turn_number, turn_own};
+ghost use Rattle.turn_lock.specs.Seats.{most_seats, home, IsSeatOf, IsSame, IsTurnOf, IsTurnBy};
+ghost use Rattle.turn_lock.specs.Seats.{number_of, free, left, opened, seen, own, taken, turn_number, turn_own};
 
 use crate::board::{About, Board, Place};
 use crate::plays::{Draw, DrawNumber, Fix, Learn, Look, Merge, News, Note, Pass, Share};
@@ -31,6 +32,7 @@ const NUMBER: usize = 3;
 // How often a waiting thread looks before it sleeps. More looks cost more where threads outnumber processors.
 const LOOKS: u32 = 10;
 
+#[tactic(auto, unfolding(crate::specs::Seats::home, crate::specs::Seats::number_of, crate::specs::Seats::free, crate::specs::Seats::left, crate::specs::Seats::opened, crate::specs::Seats::seen, crate::specs::Seats::IsOf, crate::specs::Seats::turn_number, crate::specs::Seats::turn_free, crate::specs::Seats::turn_left, crate::specs::Seats::turn_opened, crate::specs::Seats::taken, crate::specs::Seats::IsTurnOf))]
 impl<T: Book> TurnLock<T> {
     /// A lock for at most so many seats at a time, 1 to 4,096, and its first seat, of number 0. The entries that the
     /// value has now belong to no seat, whatever their numbers. A refusal drops the value.
@@ -40,10 +42,14 @@ impl<T: Book> TurnLock<T> {
     pub fn open(alloc: Global, value: T, seats: u32) -> Result<(TurnLock<T>, Seat<T>), Memory>
     where
         T: Drop,
-        requires { (1 ≤ seats) × (seats ≤ 4096) }
-        ensures lock { IfOk result (λ t. IsSeatOf T.base T.sound t.0 t.1 × (home T.base t.0 ≡ T.base value)) }
-        ensures seat { IfOk result (λ t. (seen t.1 ≡ T.entries value) × (number_of t.1 ≡ 0) × (opened t.1 ≡ length (T.entries value))) }
-        ensures counts { IfOk result (λ t. (free t.1 ≡ seats - 1) × (left t.1 ≡ 2 ^ 32 - 1)) }
+        requires { (1 ≤ seats) × (seats ≤ most_seats) }
+        ensures seat { IfOk result (λ t. IsSeatOf T.base T.sound t.0 t.1) }
+        ensures base { IfOk result (λ t. home T.base t.0 ≡ T.base value) }
+        ensures seen { IfOk result (λ t. seen t.1 ≡ T.entries value) }
+        ensures number { IfOk result (λ t. number_of t.1 ≡ 0) }
+        ensures opened { IfOk result (λ t. opened t.1 ≡ length (T.entries value)) }
+        ensures free { IfOk result (λ t. free t.1 ≡ seats - 1) }
+        ensures left { IfOk result (λ t. left t.1 ≡ 2 ^ 32 - 1) }
         ensures own { IfOk result (λ t. own T.number t.1 ≡ []) }
     {
         let about = About {
@@ -78,10 +84,13 @@ impl<T: Book> TurnLock<T> {
     /// after that aren't the seat's own.
     pub fn take<R: Wait>(&self, rt: &R, seat: Seat<T>) -> (Turn<T>, Box<T>)
         requires { IsSeatOf T.base T.sound self.now seat }
-        ensures turn { IsTurnOf T.base self.now result.0 × IsTurnBy seat result.0 × (taken result.0 ≡ T.entries result.1.value) }
+        ensures turn { IsTurnOf T.base self.now result.0 }
+        ensures by { IsTurnBy seat result.0 }
+        ensures taken { taken result.0 ≡ T.entries result.1.value }
         ensures base { T.base result.1.value ≡ home T.base self.now }
         ensures begins { IsPrefix (seen seat) (T.entries result.1.value) }
-        ensures others { NoneBy T.number (number_of seat) (drop (length (seen seat)) (T.entries result.1.value)) }
+        ensures others { NoneBy T.number (number_of seat)
+            (drop (length (seen seat)) (T.entries result.1.value)) }
         ensures own { turn_own T.number result.0 ≡ own T.number seat }
     {
         let Seat {
@@ -155,11 +164,15 @@ impl<T: Book> TurnLock<T> {
     pub fn give(&self, turn: Turn<T>, value: Box<T>) -> Seat<T>
         requires turn { IsTurnOf T.base self.now turn }
         requires base { T.base value.value ≡ home T.base self.now }
-        requires entries { AtMostOneMore T.number (turn_number turn) (taken turn) (T.entries value.value) }
-        ensures seat { IsSeatOf T.base T.sound self.now result × IsTurnBy result turn }
+        requires entries { AtMostOneMore T.number (turn_number turn) (taken turn)
+            (T.entries value.value) }
+        ensures seat { IsSeatOf T.base T.sound self.now result }
+        ensures by { IsTurnBy result turn }
         ensures seen { seen result ≡ T.entries value.value }
-        ensures same { T.entries value.value ≡ taken turn → own T.number result ≡ turn_own T.number turn }
-        ensures more { (e : T.Entry) → T.entries value.value ≡ taken turn ++ e ∷ [] → own T.number result ≡ turn_own T.number turn ++ (length (taken turn), e) ∷ [] }
+        ensures same { T.entries value.value ≡ taken turn
+            → own T.number result ≡ turn_own T.number turn }
+        ensures more { (e : T.Entry) → T.entries value.value ≡ taken turn ++ e ∷ []
+            → own T.number result ≡ turn_own T.number turn ++ (length (taken turn), e) ∷ [] }
     {
         let Turn {
             mut place,
@@ -191,12 +204,19 @@ impl<T: Book> TurnLock<T> {
     pub fn split(&self, seat: &mut Seat<T>) -> Seat<T>
         requires seat { IsSeatOf T.base T.sound self.now seat.old }
         requires room { (1 ≤ free seat.old) × (1 ≤ left seat.old) }
-        ensures seat { IsSeatOf T.base T.sound self.now seat.new × (seen seat.new ≡ seen seat.old) }
+        ensures seat { IsSeatOf T.base T.sound self.now seat.new }
+        ensures number { number_of seat.new ≡ number_of seat.old }
+        ensures seen { seen seat.new ≡ seen seat.old }
+        ensures opened { opened seat.new ≡ opened seat.old }
+        ensures own { own T.number seat.new ≡ own T.number seat.old }
         ensures counts { (free seat.new ≡ free seat.old - 1) × (left seat.new ≡ left seat.old - 1) }
-        ensures rest { (number_of seat.new ≡ number_of seat.old) × (opened seat.new ≡ opened seat.old) }
-        ensures new { IsSeatOf T.base T.sound self.now result × (seen result ≡ seen seat.old) × (opened result ≡ opened seat.old) }
+
+        ensures new { IsSeatOf T.base T.sound self.now result }
+        ensures new_number { number_of result ≡ 2 ^ 32 - left seat.old }
+        ensures new_seen { seen result ≡ seen seat.old }
+        ensures new_opened { opened result ≡ opened seat.old }
+        ensures new_own { own T.number result ≡ [] }
         ensures new_counts { (free result ≡ 0) × (left result ≡ 0) }
-        ensures number { (number_of result ≡ 2 ^ 32 - left seat.old) × (own T.number result ≡ []) }
     {
         let shared = &self.table.shared;
         let number = shared.fetch_add::<DrawNumber>(&mut seat.place, NUMBER, 1);
@@ -236,7 +256,8 @@ impl<T: Book> TurnLock<T> {
         ensures b { IsSeatOf T.base T.sound self.now b.new × IsSame b.old b.new }
         ensures seen { seen a.new ≡ seen b.new }
         ensures begins { IsPrefix (seen a.old) (seen a.new) × IsPrefix (seen b.old) (seen a.new) }
-        ensures own { (own T.number a.new ≡ own T.number a.old) × (own T.number b.new ≡ own T.number b.old) }
+        ensures own_a { own T.number a.new ≡ own T.number a.old }
+        ensures own_b { own T.number b.new ≡ own T.number b.old }
     {
         self.tell(a, b);
         self.tell(b, a);
@@ -247,10 +268,15 @@ impl<T: Book> TurnLock<T> {
     pub fn end(&self, seat: Seat<T>, into: &mut Seat<T>)
         requires seat { IsSeatOf T.base T.sound self.now seat }
         requires into { IsSeatOf T.base T.sound self.now into.old }
-        ensures into { IsSeatOf T.base T.sound self.now into.new × (own T.number into.new ≡ own T.number into.old) }
-        ensures counts { (free into.new ≡ free into.old + free seat + 1) × (left into.new ≡ left into.old + left seat) }
-        ensures rest { (number_of into.new ≡ number_of into.old) × (opened into.new ≡ opened into.old) }
-        ensures seen { (seen into.new ≡ longer (seen into.old) (seen seat)) × IsPrefix (seen into.old) (seen into.new) × IsPrefix (seen seat) (seen into.new) }
+        ensures into { IsSeatOf T.base T.sound self.now into.new }
+        ensures number { number_of into.new ≡ number_of into.old }
+        ensures opened { opened into.new ≡ opened into.old }
+        ensures own { own T.number into.new ≡ own T.number into.old }
+        ensures free { free into.new ≡ free into.old + free seat + 1 }
+        ensures left { left into.new ≡ left into.old + left seat }
+        ensures seen { seen into.new ≡ longer (seen into.old) (seen seat) }
+        ensures begins { IsPrefix (seen into.old) (seen into.new)
+            × IsPrefix (seen seat) (seen into.new) }
     {
         let Seat {
             place,

@@ -1,40 +1,52 @@
-ghost use Rattle.std.specs.Prelude.{◌≡◌, ◌≤◌, ◌-◌, IfSome};
+ghost use Rattle.std.specs.Prelude.{◌≡◌, ◌≤◌, ◌-◌, length, nat_le, true, IfSome};
+ghost use Rattle.std.specs.List.{list_all};
+ghost use Rattle.turn_lock.specs.History.{AtMostOneMore};
 ghost use Rattle.turn_lock.specs.Seats.{IsSeatOf, free, left};
 
 use super::*;
 use cov_base::Book;
-use std::alloc::{AllocError, Global};
+use cov_tree::Name;
+use std::alloc::Global;
 use std::sync::Wait;
 use std::test::*;
 use std::thread::for_each_mut;
 
+/// What stays of a list of entries: how many bytes a name may have.
 #[derive(Clone, Copy, PartialEq, Eq, Debug)]
+struct Limit {
+    longest: u32,
+}
+
+#[derive(Drop, Debug)]
 struct Entry {
     number: u32,
     /// How many entries its caller had made before.
     at: u32,
+    name: Name,
 }
 
-/// A list of numbered entries.
+/// A list of numbered entries with names, none of which is too long.
 #[derive(Drop)]
 struct Entries {
+    limit: Limit,
     items: Vec<Entry>,
+    ghost short: { list_all (λ entry. nat_le (length entry.name) limit.longest) items.items ≡ true },
 }
 
 impl Book for Entries {
-    type Base = ();
+    type Base = Limit;
 
     type Entry = Entry;
 
-    ghost base = { λ _. tt };
+    ghost base = { λ book. book.limit };
 
     ghost entries = { λ book. book.items.items };
 
     ghost number = { λ entry. entry.number };
 
-    ghost sound = { λ _ _. Unit {0} };
+    ghost sound = { λ limit entries. list_all (λ entry. nat_le (length entry.name) limit.longest) entries ≡ true };
 
-    ghost is_sound = { λ _. tt };
+    ghost is_sound = { λ book. book.short };
 
     fn len(&self) -> u64 {
         self.items.len() as u64
@@ -42,15 +54,30 @@ impl Book for Entries {
 }
 
 impl Entries {
-    fn of(alloc: Global, numbers: &[u32]) -> Result<Entries, AllocError> {
-        let mut items = Vec::new(alloc);
+    fn of(alloc: Global, numbers: &[u32]) -> Entries {
+        let limit = Limit { longest: 9 };
+        let mut entries = Entries {
+            limit,
+            items: Vec::new(alloc),
+        };
         for number in numbers {
-            items.push(Entry {
-                number: *number,
-                at: 0,
-            })?;
+            entries.add(alloc, *number, 0);
         }
-        Ok(Entries { items })
+        entries
+    }
+
+    // Adds an entry where there is memory and its name isn't too long.
+    fn add(&mut self, alloc: Global, number: u32, at: u32)
+        ensures base { self.new.limit ≡ self.old.limit }
+        ensures entries { AtMostOneMore (λ entry. entry.number) number self.old.items.items self.new.items.items }
+    {
+        let Ok(name) = Name::of(alloc, b"entry") else {
+            return;
+        };
+        if name.as_slice().len() > self.limit.longest as usize {
+            return;
+        }
+        let _ = self.items.push(Entry { number, at, name });
     }
 
     // The entries of one number, which stand in the order in which they were made.
@@ -67,43 +94,51 @@ impl Entries {
 }
 
 // Takes a turn, and adds an entry of the seat's number.
-fn add<R: Wait>(rt: &R, lock: &TurnLock<Entries>, seat: Seat<Entries>, at: u32) -> Seat<Entries>
-    requires { IsSeatOf (λ _. tt) (λ _ _. Unit {0}) lock.now seat }
-    ensures { IsSeatOf (λ _. tt) (λ _ _. Unit {0}) lock.now result }
+fn add<R: Wait>(
+    rt: &R,
+    alloc: Global,
+    lock: &TurnLock<Entries>,
+    seat: Seat<Entries>,
+    at: u32,
+) -> Seat<Entries>
+    requires { IsSeatOf ⟦<Entries as Book>⟧.base ⟦<Entries as Book>⟧.sound lock.now seat }
+    ensures { IsSeatOf ⟦<Entries as Book>⟧.base ⟦<Entries as Book>⟧.sound lock.now result }
 {
     let number = seat.number();
     let (turn, mut book) = lock.take(rt, seat);
-    let _ = book.items.push(Entry { number, at });
+    book.add(alloc, number, at);
     lock.give(turn, book)
 }
 
 fn add_many<R: Wait>(
     rt: &R,
+    alloc: Global,
     lock: &TurnLock<Entries>,
     mut seat: Seat<Entries>,
     from: u32,
     to: u32,
 ) -> Seat<Entries>
-    requires { IsSeatOf (λ _. tt) (λ _ _. Unit {0}) lock.now seat }
-    ensures { IsSeatOf (λ _. tt) (λ _ _. Unit {0}) lock.now result }
+    requires { IsSeatOf ⟦<Entries as Book>⟧.base ⟦<Entries as Book>⟧.sound lock.now seat }
+    ensures { IsSeatOf ⟦<Entries as Book>⟧.base ⟦<Entries as Book>⟧.sound lock.now result }
 {
     for at in from..to {
-        seat = add(rt, lock, seat, at);
+        seat = add(rt, alloc, lock, seat, at);
     }
     seat
 }
 
 #[test]
 fn seats_meet_and_end(rt: HostRuntime) -> Result<(), Fail> {
-    let book = Entries::of(rt.alloc(), &[0, 1, 7])?;
-    let (lock, mut first) = TurnLock::open(rt.alloc(), book, 2)?;
+    let alloc = rt.alloc();
+    let book = Entries::of(alloc, &[0, 1, 7]);
+    let (lock, mut first) = TurnLock::open(alloc, book, 2)?;
     assert_eq!(rt; (first.number(), first.seen()), (0, 3));
     assert_eq!(rt; (first.free(), first.left()), (1, 4_294_967_295));
     let second = lock.split(&mut first);
     assert_eq!(rt; (second.number(), second.seen()), (1, 3));
     assert_eq!(rt; (second.free(), second.left()), (0, 0));
     assert_eq!(rt; (first.free(), first.left()), (0, 4_294_967_294));
-    let mut second = add(&rt, &lock, second, 0);
+    let mut second = add(&rt, alloc, &lock, second, 0);
     assert_eq!(rt; (first.seen(), second.seen()), (3, 4));
     lock.meet(&mut first, &mut second);
     assert_eq!(rt; (first.seen(), second.seen()), (4, 4));
@@ -141,33 +176,39 @@ const ROUNDS: u32 = 50;
 // Both seats add entries and meet now and then. The second ends, and the first goes on.
 fn add_in_pairs<R: Wait>(
     rt: &R,
+    alloc: Global,
     lock: &TurnLock<Entries>,
     mut first: Seat<Entries>,
     mut second: Seat<Entries>,
 )
-    requires first { IsSeatOf (λ _. tt) (λ _ _. Unit {0}) lock.now first }
-    requires second { IsSeatOf (λ _. tt) (λ _ _. Unit {0}) lock.now second }
+    requires first { IsSeatOf ⟦<Entries as Book>⟧.base ⟦<Entries as Book>⟧.sound lock.now first }
+    requires second { IsSeatOf ⟦<Entries as Book>⟧.base ⟦<Entries as Book>⟧.sound lock.now second }
 {
     for at in 0..ROUNDS {
-        first = add(rt, lock, first, at);
-        second = add(rt, lock, second, at);
+        first = add(rt, alloc, lock, first, at);
+        second = add(rt, alloc, lock, second, at);
         if at % 4 == 0 {
             lock.meet(&mut first, &mut second);
         }
     }
     lock.end(second, &mut first);
-    lock.leave(add_many(rt, lock, first, ROUNDS, 2 * ROUNDS));
+    lock.leave(add_many(rt, alloc, lock, first, ROUNDS, 2 * ROUNDS));
 }
 
 // In each round the seat makes another, both add entries, they meet, and the other ends.
-fn add_with_guests<R: Wait>(rt: &R, lock: &TurnLock<Entries>, mut host: Seat<Entries>)
-    requires { IsSeatOf (λ _. tt) (λ _ _. Unit {0}) lock.now host }
+fn add_with_guests<R: Wait>(
+    rt: &R,
+    alloc: Global,
+    lock: &TurnLock<Entries>,
+    mut host: Seat<Entries>,
+)
+    requires { IsSeatOf ⟦<Entries as Book>⟧.base ⟦<Entries as Book>⟧.sound lock.now host }
 {
     for at in 0..ROUNDS {
         if host.free() > 0 && host.left() > 0 {
             let guest = lock.split(&mut host);
-            host = add(rt, lock, host, at);
-            let mut guest = add_many(rt, lock, guest, 0, 3);
+            host = add(rt, alloc, lock, host, at);
+            let mut guest = add_many(rt, alloc, lock, guest, 0, 3);
             lock.meet(&mut host, &mut guest);
             lock.end(guest, &mut host);
         }
@@ -175,31 +216,32 @@ fn add_with_guests<R: Wait>(rt: &R, lock: &TurnLock<Entries>, mut host: Seat<Ent
     lock.leave(host);
 }
 
-fn work<R: Wait>(rt: &R, lock: &TurnLock<Entries>, desk: &mut Desk)
-    requires first { IfSome desk.old.first (λ s. IsSeatOf (λ _. tt) (λ _ _. Unit {0}) lock.now s) }
-    requires second { IfSome desk.old.second (λ s. IsSeatOf (λ _. tt) (λ _ _. Unit {0}) lock.now s) }
+fn work<R: Wait>(rt: &R, alloc: Global, lock: &TurnLock<Entries>, desk: &mut Desk)
+    requires first { IfSome desk.old.first (λ s. IsSeatOf ⟦<Entries as Book>⟧.base ⟦<Entries as Book>⟧.sound lock.now s) }
+    requires second { IfSome desk.old.second (λ s. IsSeatOf ⟦<Entries as Book>⟧.base ⟦<Entries as Book>⟧.sound lock.now s) }
 {
     if let Some(first) = desk.first.take() {
         match desk.second.take() {
-            Some(second) => add_in_pairs(rt, lock, first, second),
-            None => add_with_guests(rt, lock, first),
+            Some(second) => add_in_pairs(rt, alloc, lock, first, second),
+            None => add_with_guests(rt, alloc, lock, first),
         }
     }
 }
 
-fn add_alone<R: Wait>(rt: &R, lock: &TurnLock<Entries>, desk: &mut Desk)
-    requires { IfSome desk.old.first (λ s. IsSeatOf (λ _. tt) (λ _ _. Unit {0}) lock.now s) }
+fn add_alone<R: Wait>(rt: &R, alloc: Global, lock: &TurnLock<Entries>, desk: &mut Desk)
+    requires { IfSome desk.old.first (λ s. IsSeatOf ⟦<Entries as Book>⟧.base ⟦<Entries as Book>⟧.sound lock.now s) }
 {
     if let Some(seat) = desk.first.take() {
-        lock.leave(add_many(rt, lock, seat, 0, 1000));
+        lock.leave(add_many(rt, alloc, lock, seat, 0, 1000));
     }
 }
 
 #[test]
 fn two_threads(rt: HostRuntime) -> Result<(), Fail> {
-    let book = Entries::of(rt.alloc(), &[])?;
-    let (lock, mut first) = TurnLock::open(rt.alloc(), book, 3)?;
-    let Ok(mut seats) = Vec::with_capacity(rt.alloc(), 2) else {
+    let alloc = rt.alloc();
+    let book = Entries::of(alloc, &[]);
+    let (lock, mut first) = TurnLock::open(alloc, book, 3)?;
+    let Ok(mut seats) = Vec::with_capacity(alloc, 2) else {
         lock.leave(first);
         return Err("no memory".into());
     };
@@ -215,7 +257,7 @@ fn two_threads(rt: HostRuntime) -> Result<(), Fail> {
         &rt,
         seats.as_mut_slice(),
         2,
-        &|_, desk| { add_alone(&rt, &lock, desk) },
+        &|_, desk| { add_alone(&rt, alloc, &lock, desk) },
     );
     clear(seats, &lock);
     let (turn, book) = lock.take(&rt, first);
@@ -227,12 +269,12 @@ fn two_threads(rt: HostRuntime) -> Result<(), Fail> {
 
 // A desk with two new seats.
 fn pair(lock: &TurnLock<Entries>, first: &mut Seat<Entries>) -> Desk
-    requires seat { IsSeatOf (λ _. tt) (λ _ _. Unit {0}) lock.now first.old }
+    requires seat { IsSeatOf ⟦<Entries as Book>⟧.base ⟦<Entries as Book>⟧.sound lock.now first.old }
     requires room { (2 ≤ free first.old) × (2 ≤ left first.old) }
-    ensures seat { IsSeatOf (λ _. tt) (λ _ _. Unit {0}) lock.now first.new }
+    ensures seat { IsSeatOf ⟦<Entries as Book>⟧.base ⟦<Entries as Book>⟧.sound lock.now first.new }
     ensures room { (free first.new ≡ free first.old - 2) × (left first.new ≡ left first.old - 2) }
-    ensures first { IfSome result.first (λ s. IsSeatOf (λ _. tt) (λ _ _. Unit {0}) lock.now s) }
-    ensures second { IfSome result.second (λ s. IsSeatOf (λ _. tt) (λ _ _. Unit {0}) lock.now s) }
+    ensures first { IfSome result.first (λ s. IsSeatOf ⟦<Entries as Book>⟧.base ⟦<Entries as Book>⟧.sound lock.now s) }
+    ensures second { IfSome result.second (λ s. IsSeatOf ⟦<Entries as Book>⟧.base ⟦<Entries as Book>⟧.sound lock.now s) }
 {
     Desk {
         first: Some(lock.split(first)),
@@ -242,9 +284,10 @@ fn pair(lock: &TurnLock<Entries>, first: &mut Seat<Entries>) -> Desk
 
 #[test]
 fn four_threads(rt: HostRuntime) -> Result<(), Fail> {
-    let book = Entries::of(rt.alloc(), &[])?;
-    let (lock, mut first) = TurnLock::open(rt.alloc(), book, 9)?;
-    let Ok(mut desks) = Vec::with_capacity(rt.alloc(), 4) else {
+    let alloc = rt.alloc();
+    let book = Entries::of(alloc, &[]);
+    let (lock, mut first) = TurnLock::open(alloc, book, 9)?;
+    let Ok(mut desks) = Vec::with_capacity(alloc, 4) else {
         lock.leave(first);
         return Err("no memory".into());
     };
@@ -260,7 +303,7 @@ fn four_threads(rt: HostRuntime) -> Result<(), Fail> {
         &rt,
         desks.as_mut_slice(),
         4,
-        &|_, desk| { work(&rt, &lock, desk) },
+        &|_, desk| { work(&rt, alloc, &lock, desk) },
     );
     clear(desks, &lock);
     let (turn, book) = lock.take(&rt, reader);
