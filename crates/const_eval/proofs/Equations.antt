@@ -1,32 +1,20 @@
 -- Equations of binding.
-use Rattle.std.proofs.Common.{◌≡◌, ℕ, ◌+◌, ℤ, pos, ◌-ℤ◌, Bool, false, List, [], ◌∷◌, Option, Some, None, Ok, Err, drop, refl, sym, ap, subst, ◌∙◌}
-use Rattle.std.specs.Prelude.{Result, map, ◌||◌, if◌then◌else◌, unsigned_abs}
+use Rattle.std.proofs.Common.{◌≡◌, ℕ, Bool, List, [], ◌∷◌, Option, Some, None, Ok, Err, drop, refl, sym, ap, subst, ◌∙◌}
+use Rattle.std.specs.Prelude.{Result, map, ◌||◌}
 use Rattle.cov_tree.specs.declared.expr.Expr.{Expr}
 use Rattle.cov_tree.specs.declared.expr.Expr.TheOpen as expr
 use Rattle.cov_tree.specs.declared.expr.Expr.TheOpen.{Expr-F}
 use Rattle.cov_tree.specs.declared.expr.Expr.TheViews.{out-Expr}
 use Rattle.cov_tree.specs.declared.expr.Expr.TheFolds.{fold_out-Expr, map-Expr}
-use Rattle.const_eval.specs.declared.meaning.Meaning.{Meaning}
 use Rattle.const_eval.specs.declared.fault.BindFault.{BindFault}
 use Rattle.const_eval.specs.declared.fault.BindFault.TheVariants as fault
 use Rattle.const_eval.specs.Scopes.{Names}
 use Rattle.const_eval.specs.Terms as term
-use Rattle.const_eval.specs.Terms.{Term, low_in, typ_in}
-use Rattle.const_eval.specs.Binding.{Seen, seen, seen_layer, bound_layer, bound_of, place_of, unsized_of, place_layer, unsized_layer, any_unsized, is_outside, is_reversed, bits_between, selected, selected_from, Gives, Fails, concatenated, concatenation, parts_behind, with_part}
+use Rattle.const_eval.specs.Terms.{Term}
+use Rattle.const_eval.specs.Binding.{Seen, seen, seen_layer, bound_layer, bound_of, place_of, unsized_of, place_layer, unsized_layer, any_unsized, Gives, Fails, concatenated, concatenation, parts_behind, with_part}
 use Rattle.const_eval.specs.Fronts.{IsFront, FrontIs}
 use Rattle.const_eval.specs.declared.binding.Front.{Front}
 use Rattle.std.specs.List.{list_any}
-
--- ---- selects
-
-other : (a b c : Bool) (x y : Result Term BindFault) → a ≡ false → b ≡ false → c ≡ false → (if a || b || c then x else y) ≡ y
-other a b c x y p q r = rw (p, q, r) refl
-
-between : (meaning : Meaning) (base at : ℕ) (high low : Result ℤ BindFault) (last first : ℤ) → high ≡ Ok last → low ≡ Ok first → bits_between meaning base high low at ≡ Ok (term.part meaning (unsigned_abs (first -ℤ pos base)) (unsigned_abs (last -ℤ first) + 1) at)
-between meaning base at high low last first p q = rw (p, q) refl
-
-pub select_is : (meaning : Meaning) (base at : ℕ) (high low : Result ℤ BindFault) (last first : ℤ) → low_in meaning ≡ Some base → high ≡ Ok last → low ≡ Ok first → is_outside base (typ_in meaning).width high ≡ false → is_outside base (typ_in meaning).width low ≡ false → is_reversed high low ≡ false → selected meaning high low at ≡ Ok (term.part meaning (unsigned_abs (first -ℤ pos base)) (unsigned_abs (last -ℤ first) + 1) at)
-select_is meaning base at high low last first e p q a b c = ap (λ (o : Option ℕ). selected_from o meaning high low at) e ∙ other (is_outside base (typ_in meaning).width high) (is_outside base (typ_in meaning).width low) (is_reversed high low) _ (bits_between meaning base high low at) a b c ∙ between meaning base at high low last first p q
 
 -- ---- an expression by its outermost form
 

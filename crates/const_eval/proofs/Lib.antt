@@ -1,4 +1,5 @@
 pub mod Equations
-pub mod Nodes
+pub mod Known
 pub mod Named
+pub mod Nodes
 pub mod Words

@@ -82,29 +82,20 @@ constant_of term at = constant_as (first_signal true term) (value term [] None) 
 
 -- ---- selects
 
--- the index is known, and is no place of a span of so many bits from `low` on
-abbrev pub is_outside : (low width : ℕ) → Result ℤ BindFault → Bool
-is_outside low width (Err error) = false
-is_outside low width (Ok index) = int_lt index (pos low) || not (int_lt index (pos (low + width)))
+-- the index is no place of a span of so many bits from `low` on
+abbrev pub is_outside : (low width : ℕ) → (index : ℤ) → Bool
+is_outside low width index = int_lt index (pos low) || not (int_lt index (pos (low + width)))
 
--- both ends are known, and the first is below the second
-abbrev pub is_reversed : (high low : Result ℤ BindFault) → Bool
-is_reversed (Ok high) (Ok low) = int_lt high low
-is_reversed (Err error) low = false
-is_reversed (Ok high) (Err error) = false
+-- the bits from one place of the span, which begins at `base`, to another
+abbrev pub bits_between : Meaning → (base : ℕ) → (high low : ℤ) → (at : ℕ) → Term
+bits_between meaning base high low at = term.part meaning (unsigned_abs (low -ℤ pos base)) (unsigned_abs (high -ℤ low) + 1) at
 
--- the bits from one place of the span to another
-abbrev pub bits_between : Meaning → (base : ℕ) → (high low : Result ℤ BindFault) → (at : ℕ) → Result Term BindFault
-bits_between meaning base high low at = do
-  last ← high
-  first ← low
-  Ok (term.part meaning (unsigned_abs (first -ℤ pos base)) (unsigned_abs (last -ℤ first) + 1) at)
-
-abbrev pub selected_from : Option ℕ → Meaning → (high low : Result ℤ BindFault) → (at : ℕ) → Result Term BindFault
+abbrev pub selected_from : Option ℕ → Meaning → (high low : ℤ) → (at : ℕ) → Result Term BindFault
 selected_from None meaning high low at = Err (fault.BadSelect at)
-selected_from (Some base) meaning high low at = if is_outside base (typ_in meaning).width high || is_outside base (typ_in meaning).width low || is_reversed high low then Err (fault.BadSelect at) else bits_between meaning base high low at
+selected_from (Some base) meaning high low at = if is_outside base (typ_in meaning).width high || is_outside base (typ_in meaning).width low || int_lt high low then Err (fault.BadSelect at) else Ok (bits_between meaning base high low at)
 
-abbrev pub selected : Meaning → (high low : Result ℤ BindFault) → (at : ℕ) → Result Term BindFault
+-- bits of the value of a name: a constant of an enumeration has no span, and no bits of it can be selected
+abbrev pub selected : Meaning → (high low : ℤ) → (at : ℕ) → Result Term BindFault
 selected meaning high low at = selected_from (low_in meaning) meaning high low at
 
 -- ---- expressions
@@ -115,6 +106,12 @@ pub record Seen : Type 0 where
   pub bound : Result Term BindFault
   pub place : ℕ
   pub unsized : Bool
+
+-- the number of an index, which stands where a constant is needed
+abbrev pub index_number : Seen → Result ℤ BindFault
+index_number index = do
+  term ← index.bound
+  constant_of term index.place
 
 -- the first part of a concatenation, or a further one
 abbrev pub with_part : Option Term → Term → Term
@@ -150,13 +147,13 @@ bound_layer names (expr.Name name at) = do
   Ok (term.name meaning at)
 bound_layer names (expr.Bit name index at) = do
   meaning ← found names name at
-  place ← index.bound
-  selected meaning (constant_of place index.place) (constant_of place index.place) at
+  place ← index_number index
+  selected meaning place place at
 bound_layer names (expr.Part name high low at) = do
   meaning ← found names name at
-  last ← high.bound
-  first ← low.bound
-  selected meaning (constant_of last high.place) (constant_of first low.place) at
+  last ← index_number high
+  first ← index_number low
+  selected meaning last first at
 bound_layer names (expr.Concat parts at) = concatenation (parts_behind None parts) (any_unsized parts) at
 bound_layer names (expr.Unary op arg at) = do
   inner ← arg.bound

@@ -2,8 +2,7 @@
 use Rattle.std.specs.Prelude.{ℕ, ◌+◌, ◌≤◌, ◌≡◌}
 use Rattle.const_eval.specs.declared.typs.Typ.{Typ}
 use Rattle.const_eval.specs.declared.bound.Typed.{Typed}
-use Rattle.const_eval.specs.declared.bound.Node.{Node, Number, Name, Part, Alone', Joined', Unary', Binary', And', Or', Cond'}
-use Rattle.cov_tree.specs.declared.expr.BinOp.TheVariants.{LogAnd, LogOr}
+use Rattle.const_eval.specs.declared.bound.Node.{Node, Number, Name, Part, Alone', Joined', Unary', Binary', Cond'}
 use Rattle.const_eval.specs.Typs.{HasWidth}
 use Rattle.const_eval.specs.Terms as term
 use Rattle.const_eval.specs.Terms.{Term, typ_of, typ_in}
@@ -16,8 +15,6 @@ term_in typ (Alone' p own inner) = term.alone (term_in own inner)
 term_in typ (Joined' p front_typ front q last_typ last) = term.joined (term_in front_typ front) (term_in last_typ last)
 term_in typ (Unary' op p own inner) = term.unary op (term_in own inner)
 term_in typ (Binary' op p left_typ left q right_typ right) = term.binary op (term_in left_typ left) (term_in right_typ right)
-term_in typ (And' p left_typ left q right_typ right) = term.binary LogAnd (term_in left_typ left) (term_in right_typ right)
-term_in typ (Or' p left_typ left q right_typ right) = term.binary LogOr (term_in left_typ left) (term_in right_typ right)
 term_in typ (Cond' p test_typ test q first_typ first r second_typ second) = term.choice (term_in test_typ test) (term_in first_typ first) (term_in second_typ second)
 
 abbrev pub term_of : Typed → Term
@@ -40,8 +37,6 @@ IsSound typ (Alone' p own inner) = HasTyp typ (term.alone (term_in own inner)) �
 IsSound typ (Joined' p front_typ front q last_typ last) = HasTyp typ (term.joined (term_in front_typ front) (term_in last_typ last)) × IsSound front_typ front × IsSound last_typ last
 IsSound typ (Unary' op p own inner) = HasTyp typ (term.unary op (term_in own inner)) × IsSound own inner
 IsSound typ (Binary' op p left_typ left q right_typ right) = HasTyp typ (term.binary op (term_in left_typ left) (term_in right_typ right)) × IsSound left_typ left × IsSound right_typ right
-IsSound typ (And' p left_typ left q right_typ right) = HasTyp typ (term.binary LogAnd (term_in left_typ left) (term_in right_typ right)) × IsSound left_typ left × IsSound right_typ right
-IsSound typ (Or' p left_typ left q right_typ right) = HasTyp typ (term.binary LogOr (term_in left_typ left) (term_in right_typ right)) × IsSound left_typ left × IsSound right_typ right
 IsSound typ (Cond' p test_typ test q first_typ first r second_typ second) = HasTyp typ (term.choice (term_in test_typ test) (term_in first_typ first) (term_in second_typ second)) × IsSound test_typ test × IsSound first_typ first × IsSound second_typ second
 
 abbrev pub IsTyped : Typed → Type 0

@@ -1,6 +1,7 @@
 -- Values of expressions (IEEE 1800-2017, clause 11): whole numbers, or none where a value is unknown.
-use Rattle.std.specs.Prelude.{ℕ, ◌+◌, ◌-◌, ◌*◌, ◌/◌, ◌%◌, ◌^◌, nat_eq, nat_le, ℤ, pos, negsuc, ◌+ℤ◌, ◌-ℤ◌, ◌*ℤ◌, neg_ℤ, int_lt, int_le, int_div, int_rem, bit_and, bit_or, bit_xor, count_ones, Bool, true, false, not, ◌&&◌, ◌||◌, if◌then◌else◌, List, Option, Some, None, slice_index_or}
+use Rattle.std.specs.Prelude.{ℕ, ◌+◌, ◌-◌, ◌*◌, ◌/◌, ◌%◌, ◌^◌, nat_eq, nat_le, ℤ, pos, negsuc, ◌+ℤ◌, ◌-ℤ◌, ◌*ℤ◌, ◌≤ℤ◌, neg_ℤ, int_lt, int_le, int_div, int_rem, bit_and, bit_or, bit_xor, count_ones, Bool, true, false, not, ◌&&◌, ◌||◌, if◌then◌else◌, List, Option, Some, None, slice_index_or}
 use Rattle.std.specs.Int.{int_shr}
+use Rattle.bin_spec.specs.Types.{lowest, highest}
 use Rattle.cov_tree.specs.declared.expr.UnOp.{UnOp}
 use Rattle.cov_tree.specs.declared.expr.UnOp.TheVariants as unary
 use Rattle.cov_tree.specs.declared.expr.BinOp.{BinOp}
@@ -43,34 +44,7 @@ abbrev pub given : (known : Bool) → ℤ → Option ℤ
 given true z = Some z
 given false z = None
 
--- ---- operations on known values
-
--- a number divided by another, if that isn't 0
-abbrev pub unless_zero : ℤ → ℤ → Option ℤ
-unless_zero y result = if is_zero y then None else Some result
-
--- the value of an operation whose whole has the type `whole`, where the right operand of a shift has `amount` bits
-abbrev pub operation : BinOp → (whole : Typ) → (amount : ℕ) → (x y : ℤ) → Option ℤ
-operation binary.Add whole amount x y = Some (cut_to whole (x +ℤ y))
-operation binary.Sub whole amount x y = Some (cut_to whole (x -ℤ y))
-operation binary.Mul whole amount x y = Some (cut_to whole (x *ℤ y))
-operation binary.Div whole amount x y = unless_zero y (cut_to whole (int_div x y))
-operation binary.Rem whole amount x y = unless_zero y (cut_to whole (int_rem x y))
-operation binary.And whole amount x y = Some (cut_to whole (pos (bit_and (bits_of whole.width x) (bits_of whole.width y))))
-operation binary.Or whole amount x y = Some (cut_to whole (pos (bit_or (bits_of whole.width x) (bits_of whole.width y))))
-operation binary.Xor whole amount x y = Some (cut_to whole (pos (bit_xor (bits_of whole.width x) (bits_of whole.width y))))
-operation binary.Shl whole amount x y = Some (cut_to whole (x *ℤ pos (2 ^ bits_of amount y)))
-operation binary.Shr whole amount x y = Some (cut_to whole (pos (bits_of whole.width x / 2 ^ bits_of amount y)))
-operation binary.Sshl whole amount x y = Some (cut_to whole (x *ℤ pos (2 ^ bits_of amount y)))
-operation binary.Sshr whole amount x y = Some (cut_to whole (int_shr x (bits_of amount y)))
-operation binary.Lt whole amount x y = Some (truth (int_lt x y))
-operation binary.Le whole amount x y = Some (truth (int_le x y))
-operation binary.Gt whole amount x y = Some (truth (int_lt y x))
-operation binary.Ge whole amount x y = Some (truth (int_le y x))
-operation binary.Eq whole amount x y = Some (truth (is_zero (x -ℤ y)))
-operation binary.Ne whole amount x y = Some (truth (not (is_zero (x -ℤ y))))
-operation binary.LogAnd whole amount x y = Some (truth (not (is_zero x) && not (is_zero y)))
-operation binary.LogOr whole amount x y = Some (truth (not (is_zero x) || not (is_zero y)))
+-- ---- operators before one operand
 
 -- the value of an operator before one operand, which has `own` bits. A reduction looks at each of these bits.
 abbrev pub single : UnOp → (whole : Typ) → (own : ℕ) → ℤ → ℤ
@@ -85,7 +59,7 @@ single unary.Nand whole own x = truth (not (nat_eq (bits_of own x) (2 ^ own - 1)
 single unary.Nor whole own x = truth (nat_eq (bits_of own x) 0)
 single unary.Xnor whole own x = truth (not (nat_eq (count_ones (bits_of own x) % 2) 1))
 
--- ---- unknown values
+-- ---- operators between two operands, and unknown values
 
 abbrev pub on_known : (ℤ → ℤ) → Option ℤ → Option ℤ
 on_known f None = None
@@ -114,11 +88,33 @@ both_true x y = if is_false x || is_false y then Some (pos 0) else on_both (λ _
 abbrev pub either_true : (x y : Option ℤ) → Option ℤ
 either_true x y = if is_true x || is_true y then Some (pos 1) else on_both (λ _ _. Some (pos 0)) x y
 
--- each other operation needs both operands
+-- a number divided by another, if that isn't 0
+abbrev pub unless_zero : ℤ → ℤ → Option ℤ
+unless_zero y result = if is_zero y then None else Some result
+
+-- The value of an operation whose whole has the type `whole`, where the right operand of a shift has `amount` bits. All
+-- but `&&` and `||` need both operands.
 abbrev pub combined : BinOp → (whole : Typ) → (amount : ℕ) → (x y : Option ℤ) → Option ℤ
 combined binary.LogAnd whole amount x y = both_true x y
 combined binary.LogOr whole amount x y = either_true x y
-combined op whole amount x y = on_both (operation op whole amount) x y
+combined binary.Add whole amount x y = on_both (λ x y. Some (cut_to whole (x +ℤ y))) x y
+combined binary.Sub whole amount x y = on_both (λ x y. Some (cut_to whole (x -ℤ y))) x y
+combined binary.Mul whole amount x y = on_both (λ x y. Some (cut_to whole (x *ℤ y))) x y
+combined binary.Div whole amount x y = on_both (λ x y. unless_zero y (cut_to whole (int_div x y))) x y
+combined binary.Rem whole amount x y = on_both (λ x y. unless_zero y (cut_to whole (int_rem x y))) x y
+combined binary.And whole amount x y = on_both (λ x y. Some (cut_to whole (pos (bit_and (bits_of whole.width x) (bits_of whole.width y))))) x y
+combined binary.Or whole amount x y = on_both (λ x y. Some (cut_to whole (pos (bit_or (bits_of whole.width x) (bits_of whole.width y))))) x y
+combined binary.Xor whole amount x y = on_both (λ x y. Some (cut_to whole (pos (bit_xor (bits_of whole.width x) (bits_of whole.width y))))) x y
+combined binary.Shl whole amount x y = on_both (λ x y. Some (cut_to whole (x *ℤ pos (2 ^ bits_of amount y)))) x y
+combined binary.Shr whole amount x y = on_both (λ x y. Some (cut_to whole (pos (bits_of whole.width x / 2 ^ bits_of amount y)))) x y
+combined binary.Sshl whole amount x y = on_both (λ x y. Some (cut_to whole (x *ℤ pos (2 ^ bits_of amount y)))) x y
+combined binary.Sshr whole amount x y = on_both (λ x y. Some (cut_to whole (int_shr x (bits_of amount y)))) x y
+combined binary.Lt whole amount x y = on_both (λ x y. Some (truth (int_lt x y))) x y
+combined binary.Le whole amount x y = on_both (λ x y. Some (truth (int_le x y))) x y
+combined binary.Gt whole amount x y = on_both (λ x y. Some (truth (int_lt y x))) x y
+combined binary.Ge whole amount x y = on_both (λ x y. Some (truth (int_le y x))) x y
+combined binary.Eq whole amount x y = on_both (λ x y. Some (truth (is_zero (x -ℤ y)))) x y
+combined binary.Ne whole amount x y = on_both (λ x y. Some (truth (not (is_zero (x -ℤ y))))) x y
 
 -- `?:` needs its test and the side that it takes
 abbrev pub chosen : (test first second : Option ℤ) → Option ℤ
@@ -147,3 +143,9 @@ value_of (term.choice test first second) signals item whole = chosen (value_of t
 -- an expression that stands by itself
 abbrev pub value : Term → (signals : List (Option ℤ)) → (item : Option ℤ) → Option ℤ
 value term signals item = value_of term signals item (typ_of term)
+
+-- ---- what a value is
+
+-- the number is one of the type
+abbrev pub IsNumberOf : Typ → ℤ → Type 0
+IsNumberOf typ v = (lowest typ.width typ.signed ≤ℤ v) × (v ≤ℤ highest typ.width typ.signed)

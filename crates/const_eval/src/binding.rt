@@ -6,16 +6,16 @@ ghost use Rattle.const_eval.specs.Scopes.{names_of};
 ghost use Rattle.const_eval.specs.Typs.{HasWidth};
 ghost use Rattle.const_eval.specs.Terms.{Term, typ_in};
 ghost use Rattle.const_eval.specs.Fronts.{IsFront, GivesFront};
-ghost use Rattle.const_eval.specs.Binding.{Gives, has_width as tests_width, literal, found as found_of, constant_of, is_outside as tests_outside, is_reversed as tests_reversed, selected, with_part, parts_behind, any_unsized, concatenated, concatenation, seen, bound_of, place_of, unsized_of};
+ghost use Rattle.const_eval.specs.Binding.{Gives, has_width as tests_width, literal, found as found_of, constant_of, index_number, is_outside as tests_outside, selected, with_part, parts_behind, any_unsized, concatenated, concatenation, seen, bound_of, place_of, unsized_of};
 
 use crate::{BindFault, Bound, Meaning, Scope, Typ, eval, first_signal, typ};
 use cov_base::Int;
 use cov_tree::{Expr, Literal, Name};
 use std::alloc::{AllocError, Global};
 
-/// The expression with each name replaced by what it stands for, or its first fault: of a select that of its name, of its
-/// indexes from left to right, then BadSelect, then NotConstant; of a concatenation that of its parts, then TooWide, then
-/// BadConcat.
+/// The expression with each name replaced by what it stands for, or its first fault: of a select that of its name, then
+/// of its indexes from left to right, each of which is bound, looked at for signals and computed before the next, then
+/// BadSelect; of a concatenation that of its parts, then TooWide, then BadConcat.
 #[cycle(expressions)]
 pub fn bind(alloc: Global, expr: &Expr, scope: &Scope) -> Result<Bound, BindFault>
     ensures { Gives result (bound_of (names_of scope.now) expr.now) }
@@ -28,8 +28,8 @@ pub fn bind(alloc: Global, expr: &Expr, scope: &Scope) -> Result<Bound, BindFaul
         }
         Expr::Bit { name, index, at } => {
             let meaning = find(scope, name, *at)?;
-            let bound = bind(alloc, index.get(), scope)?;
-            select_bit(meaning, bound, place(index.get()), *at)
+            let place = number_of_index(alloc, index.get(), scope)?;
+            select(meaning, place, place, *at)
         }
         Expr::Part {
             name,
@@ -38,16 +38,9 @@ pub fn bind(alloc: Global, expr: &Expr, scope: &Scope) -> Result<Bound, BindFaul
             at,
         } => {
             let meaning = find(scope, name, *at)?;
-            let last = bind(alloc, high.get(), scope)?;
-            let first = bind(alloc, low.get(), scope)?;
-            select_bits(
-                meaning,
-                last,
-                place(high.get()),
-                first,
-                place(low.get()),
-                *at,
-            )
+            let last = number_of_index(alloc, high.get(), scope)?;
+            let first = number_of_index(alloc, low.get(), scope)?;
+            select(meaning, last, first, *at)
         }
         Expr::Concat { parts, at } => bind_concat(alloc, parts.as_slice(), scope, *at),
         Expr::Unary { op, arg, .. } => {
@@ -144,30 +137,21 @@ fn find(scope: &Scope, name: &Name, at: u32) -> Result<Meaning, BindFault>
     }
 }
 
-/// Whether an index is known, and is no place of a span of so many bits from `low` on.
-fn is_outside(low: u8, width: u8, index: Result<Int, BindFault>) -> bool
-    ensures { result ≡ tests_outside low width index }
+/// The number of an index: a constant (IEEE 1800-2017, 11.5.1).
+#[cycle(expressions)]
+fn number_of_index(alloc: Global, index: &Expr, scope: &Scope) -> Result<Int, BindFault>
+    ensures { Gives result (index_number (seen (names_of scope.now) index.now)) }
 {
-    match index {
-        Ok(index) => {
-            let index = index.get();
-            index < i128::from(low) || !(index < i128::from(low) + i128::from(width))
-        }
-        Err(_) => false,
-    }
+    let bound = bind(alloc, index, scope)?;
+    constant(&bound, place(index))
 }
 
-/// Whether both ends are known, and the first is below the second.
-fn is_reversed(high: Result<Int, BindFault>, low: Result<Int, BindFault>) -> bool
-    ensures { result ≡ tests_reversed high low }
+/// Whether an index is no place of a span of so many bits from `low` on.
+fn is_outside(low: u8, width: u8, index: Int) -> bool
+    ensures { result ≡ tests_outside low width index }
 {
-    match high {
-        Ok(last) => match low {
-            Ok(first) => last.get() < first.get(),
-            Err(_) => false,
-        },
-        Err(_) => false,
-    }
+    let index = index.get();
+    index < i128::from(low) || !(index < i128::from(low) + i128::from(width))
 }
 
 /// How far the second number is above the first.
@@ -181,55 +165,22 @@ fn distance(from: i128, to: i128) -> u8
     (to - from) as u8
 }
 
-/// Bits of the value of a name.
-fn select(
-    meaning: Meaning,
-    high: Result<Int, BindFault>,
-    low: Result<Int, BindFault>,
-    at: u32,
-) -> Result<Bound, BindFault>
+/// Bits of the value of a name, from one place of its span to another.
+fn select(meaning: Meaning, high: Int, low: Int, at: u32) -> Result<Bound, BindFault>
     requires { HasWidth (typ_in meaning) }
-    ensures { Gives result (selected meaning high low at) }
+    ensures { result ≡ selected meaning high low at }
 {
     let Some(base) = meaning.low() else {
         return Err(BindFault::BadSelect { at });
     };
     let width = meaning.typ().width;
-    if is_outside(base, width, high) || is_outside(base, width, low) || is_reversed(high, low) {
+    let (last, first) = (high.get(), low.get());
+    if is_outside(base, width, high) || is_outside(base, width, low) || last < first {
         return Err(BindFault::BadSelect { at });
     }
-    let last = high?.get();
-    let first = low?.get();
     let skip = distance(i128::from(base), first);
     let count = distance(first, last) + 1;
     Ok(Bound::part(meaning, skip, count, at))
-}
-
-/// A bit of the value of a name, by its index and where that begins.
-fn select_bit(meaning: Meaning, index: Bound, index_at: u32, at: u32) -> Result<Bound, BindFault>
-    requires { HasWidth (typ_in meaning) }
-    ensures { Gives result (selected meaning (constant_of index index_at) (constant_of index index_at) at) }
-{
-    let last = constant(&index, index_at);
-    let first = constant(&index, index_at);
-    select(meaning, last, first, at)
-}
-
-/// Bits of the value of a name, by the two ends and where they begin.
-fn select_bits(
-    meaning: Meaning,
-    high: Bound,
-    high_at: u32,
-    low: Bound,
-    low_at: u32,
-    at: u32,
-) -> Result<Bound, BindFault>
-    requires { HasWidth (typ_in meaning) }
-    ensures { Gives result (selected meaning (constant_of high high_at) (constant_of low low_at) at) }
-{
-    let last = constant(&high, high_at);
-    let first = constant(&low, low_at);
-    select(meaning, last, first, at)
 }
 
 /// The parts of a concatenation so far.

@@ -31,8 +31,6 @@ pub(crate) enum Node {
     Joined(Box<Typed>, Box<Typed>),
     Unary(UnOp, Box<Typed>),
     Binary(BinOp, Box<Typed>, Box<Typed>),
-    And(Box<Typed>, Box<Typed>),
-    Or(Box<Typed>, Box<Typed>),
     Cond(Box<Typed>, Box<Typed>, Box<Typed>),
 }
 
@@ -176,13 +174,11 @@ impl Bound {
         let typ = typ_of_binary(op, left.own_typ(), right.own_typ());
         let left = Box::new(alloc, left)?;
         let right = Box::new(alloc, right)?;
-        let node = match op {
-            BinOp::LogAnd => Node::And(left, right),
-            BinOp::LogOr => Node::Or(left, right),
-            op => Node::Binary(op, left, right),
-        };
         Ok(Bound {
-            typed: Typed { typ, node },
+            typed: Typed {
+                typ,
+                node: Node::Binary(op, left, right),
+            },
         })
     }
 
@@ -268,22 +264,6 @@ impl Typed {
                 Ok(Typed {
                     typ,
                     node: Node::Binary(*op, left, right),
-                })
-            }
-            Node::And(left, right) => {
-                let left = Box::new(alloc, left.copy(alloc)?)?;
-                let right = Box::new(alloc, right.copy(alloc)?)?;
-                Ok(Typed {
-                    typ,
-                    node: Node::And(left, right),
-                })
-            }
-            Node::Or(left, right) => {
-                let left = Box::new(alloc, left.copy(alloc)?)?;
-                let right = Box::new(alloc, right.copy(alloc)?)?;
-                Ok(Typed {
-                    typ,
-                    node: Node::Or(left, right),
                 })
             }
             Node::Cond(test, first, second) => {

@@ -5,6 +5,7 @@ mod binding;
 mod bits;
 mod bound;
 mod fault;
+pub mod laws;
 mod meaning;
 mod operations;
 mod scope;

@@ -1,7 +1,9 @@
 //! Operations on known values (IEEE 1800-2017, 11.4).
-ghost use Rattle.std.specs.Prelude.{◌≡◌, ◌≤◌, true};
+ghost use Rattle.std.specs.Prelude.{◌≡◌, ◌≤◌, ℤ, ℕ, Option, Some, true, false};
 ghost use Rattle.cov_base.specs.Sets.{IsInt};
-ghost use Rattle.const_eval.specs.Values.{operation, single, given, truth as truth_of, is_zero as tests_zero};
+ghost use Rattle.const_eval.specs.declared.typs.Typ.{Typ as Whole};
+ghost use Rattle.const_eval.specs.Typs.{HasWidth};
+ghost use Rattle.const_eval.specs.Values.{combined, both_true as both_true_of, either_true as either_true_of, single, given, truth as truth_of, is_zero as tests_zero};
 
 use crate::Typ;
 use crate::bits::{cut, low_bits, ones};
@@ -36,20 +38,107 @@ pub(crate) fn put(out: &mut i128, value: i128) -> bool
     true
 }
 
-/// Puts the value of an operation whose whole has the type `whole` into `out`, where the right operand of a shift has
-/// `amount` bits. Answers whether there is one.
+/// Puts the value of `&&` on two values that may be missing into `out`, which holds the first.
 #[inline(always)]
-pub(crate) fn operate(op: BinOp, whole: Typ, amount: u8, x: i128, y: i128, out: &mut i128) -> bool
+fn both_true(first: bool, second: bool, right: i128, out: &mut i128) -> bool
+    requires { IsInt out.old }
+    ensures value { given result out.new ≡ both_true_of (given first out.old) (given second right) }
+    ensures range { IsInt out.new }
+{
+    if first && is_zero(*out) {
+        return put(out, 0);
+    }
+    if second && is_zero(right) {
+        return put(out, 0);
+    }
+    first && second && put(out, 1)
+}
+
+/// Puts the value of `||` on two values that may be missing into `out`, which holds the first.
+#[inline(always)]
+fn either_true(first: bool, second: bool, right: i128, out: &mut i128) -> bool
+    requires { IsInt out.old }
+    ensures value { given result out.new ≡ either_true_of (given first out.old) (given second right) }
+    ensures range { IsInt out.new }
+{
+    if first && !is_zero(*out) {
+        return put(out, 1);
+    }
+    if second && !is_zero(right) {
+        return put(out, 1);
+    }
+    first && second && put(out, 0)
+}
+
+/// Where the left operand of `&&` or `||`, which is in `out`, decides by itself, puts the value there and answers so
+/// (IEEE 1800-2017, 11.4.7).
+#[inline(always)]
+pub(crate) fn decide(op: BinOp, left: bool, out: &mut i128) -> bool
+    requires { IsInt out.old }
+    ensures decided { result ≡ true → (whole : Whole) (amount : ℕ) (y : Option ℤ)
+        → Some out.new ≡ combined op whole amount (given left out.old) y }
+    ensures kept { result ≡ false → out.new ≡ out.old }
+    ensures range { IsInt out.new }
+{
+    if !left {
+        return false;
+    }
+    match op {
+        BinOp::LogAnd => is_zero(*out),
+        BinOp::LogOr => !is_zero(*out) && put(out, 1),
+        BinOp::Add | BinOp::Sub | BinOp::Mul | BinOp::Div => false,
+        BinOp::Rem | BinOp::And | BinOp::Or | BinOp::Xor => false,
+        BinOp::Shl | BinOp::Shr | BinOp::Sshl | BinOp::Sshr => false,
+        BinOp::Lt | BinOp::Le | BinOp::Gt | BinOp::Ge | BinOp::Eq | BinOp::Ne => false,
+    }
+}
+
+/// Puts the value of an operation on two values that may be missing into `out`, which holds the first.
+#[inline(always)]
+pub(crate) fn combine(
+    op: BinOp,
+    whole: Typ,
+    amount: u8,
+    left: bool,
+    right: bool,
+    y: i128,
+    out: &mut i128,
+) -> bool
+    requires whole_width { HasWidth whole }
+    requires amount_least { 1 ≤ amount }
+    requires amount_most { amount ≤ 64 }
+    requires operand { IsInt y }
+    requires before { IsInt out.old }
+    ensures value { given result out.new ≡ combined op whole amount (given left out.old) (given right y) }
+    ensures range { IsInt out.new }
+{
+    if left && right {
+        return operate(op, whole, amount, y, out);
+    }
+    match op {
+        BinOp::LogAnd => both_true(left, right, y, out),
+        BinOp::LogOr => either_true(left, right, y, out),
+        BinOp::Add | BinOp::Sub | BinOp::Mul | BinOp::Div => false,
+        BinOp::Rem | BinOp::And | BinOp::Or | BinOp::Xor => false,
+        BinOp::Shl | BinOp::Shr | BinOp::Sshl | BinOp::Sshr => false,
+        BinOp::Lt | BinOp::Le | BinOp::Gt | BinOp::Ge | BinOp::Eq | BinOp::Ne => false,
+    }
+}
+
+/// Puts the value of an operation on two known values into `out`, which holds the first; the whole has the type `whole`,
+/// and the right operand of a shift has `amount` bits. Answers whether there is one.
+#[inline(always)]
+fn operate(op: BinOp, whole: Typ, amount: u8, y: i128, out: &mut i128) -> bool
     requires least { 1 ≤ whole.width }
     requires most { whole.width ≤ 64 }
     requires amount_least { 1 ≤ amount }
     requires amount_most { amount ≤ 64 }
-    requires left { IsInt x }
     requires right { IsInt y }
     requires before { IsInt out.old }
-    ensures value { given result out.new ≡ operation op whole amount x y }
+    ensures value { given result out.new ≡ combined op whole amount (Some out.old) (Some y) }
     ensures range { IsInt out.new }
 {
+    let x = *out;
     let Typ { width, signed } = whole;
     match op {
         BinOp::Add => put(out, cut(width, signed, x + y)),
@@ -101,8 +190,8 @@ pub(crate) fn operate(op: BinOp, whole: Typ, amount: u8, x: i128, y: i128, out: 
         BinOp::Ge => put(out, truth(y <= x)),
         BinOp::Eq => put(out, truth(is_zero(x - y))),
         BinOp::Ne => put(out, truth(!is_zero(x - y))),
-        BinOp::LogAnd => put(out, truth(!is_zero(x) && !is_zero(y))),
-        BinOp::LogOr => put(out, truth(!is_zero(x) || !is_zero(y))),
+        BinOp::LogAnd => both_true(true, true, y, out),
+        BinOp::LogOr => either_true(true, true, y, out),
     }
 }
 

@@ -50,10 +50,7 @@ impl Typed {
             Node::Name { meaning, at } => place_of_signal(meaning, *at, with_item),
             Node::Part { meaning, at, .. } => place_of_signal(meaning, *at, with_item),
             Node::Alone(inner) | Node::Unary(_, inner) => inner.first_signal(with_item),
-            Node::Joined(left, right)
-            | Node::Binary(_, left, right)
-            | Node::And(left, right)
-            | Node::Or(left, right) => earlier(
+            Node::Joined(left, right) | Node::Binary(_, left, right) => earlier(
                 left.first_signal(with_item),
                 right.first_signal(with_item),
             ),

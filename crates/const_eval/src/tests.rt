@@ -357,21 +357,23 @@ fn has_values_by_hand(rt: HostRuntime) -> Result<(), Fail> {
 }
 
 /// Trees with their first fault.
-static FAULTS: [(&str, BindFault); 22] = [
+static FAULTS: [(&str, BindFault); 24] = [
     ("zz", BindFault::UnknownName { at: 0 }),
     ("a zz +", BindFault::UnknownName { at: 1 }),
     ("yy [zz", BindFault::UnknownName { at: 1 }),
     ("zz [k", BindFault::UnknownName { at: 0 }),
-    ("a [k", BindFault::BadSelect { at: 1 }),
+    ("a [k", BindFault::NotConstant { at: 0 }),
     ("32m0 [k", BindFault::BadSelect { at: 1 }),
     ("32m3 [p", BindFault::BadSelect { at: 1 }),
     ("32m12 [p", BindFault::BadSelect { at: 1 }),
     ("8s255 [a", BindFault::BadSelect { at: 1 }),
     ("32m4 32m5 :p", BindFault::BadSelect { at: 2 }),
-    ("a 32m12 :p", BindFault::BadSelect { at: 2 }),
-    ("a 32m5 :p", BindFault::NotConstant { at: 0 }),
-    ("32m5 b :p", BindFault::NotConstant { at: 1 }),
-    ("32m1 32m0 / [p", BindFault::NotConstant { at: 2 }),
+    ("a 32m12 :p", BindFault::NotConstant { at: 0 }),
+    ("a zz :p", BindFault::NotConstant { at: 0 }),
+    ("a zz [yy :p", BindFault::NotConstant { at: 0 }),
+    ("32m12 b :p", BindFault::NotConstant { at: 1 }),
+    ("32m1 32m0 / 32m7 :p", BindFault::NotConstant { at: 2 }),
+    ("32m7 32m1 32m0 / :p", BindFault::NotConstant { at: 3 }),
     ("item [p", BindFault::NotConstant { at: 0 }),
     ("32m4 [p 32m1 + [a", BindFault::NotConstant { at: 1 }),
     ("w a {2", BindFault::TooWide { at: 2 }),

@@ -4,15 +4,15 @@ ghost use Rattle.cov_base.specs.Sets.{IsInt};
 ghost use Rattle.const_eval.specs.Typs.{HasWidth};
 ghost use Rattle.const_eval.specs.Terms.{typ_in, typ_of as typ_of_term};
 ghost use Rattle.const_eval.specs.Nodes.{term_of, IsTyped, IsWithin};
-ghost use Rattle.const_eval.specs.Values.{given, value_in, value_of, value, on_known, combined, both_true as both_true_of, either_true as either_true_of, single, cut as cut_of, bits_of};
+ghost use Rattle.const_eval.specs.Values.{given, value_in, value_of, value, on_known, single, cut as cut_of, bits_of};
 
 use crate::bits::{cut, low_bits};
 use crate::bound::{Node, Typed};
-use crate::operations::{is_zero, operate, operate_alone, put};
+use crate::operations::{combine, decide, is_zero, operate_alone, put};
 use crate::typs::{either_typ, operand_typs};
 use crate::{Bound, ITEM, Meaning, Typ};
 use cov_base::Int;
-use cov_tree::{BinOp, UnOp};
+use cov_tree::UnOp;
 
 /// The values of the signals by their places, and that of `item`.
 #[derive(Drop)]
@@ -102,28 +102,13 @@ impl Typed {
             Node::Binary(op, left, right) => {
                 let (left_typ, right_typ) = (left.own_typ(), right.own_typ());
                 let (first, second) = operand_typs(*op, whole, left_typ, right_typ);
-                let mut y = 0;
                 let left_known = left.value(first, sample, out);
+                if decide(*op, left_known, out) {
+                    return true;
+                }
+                let mut y = 0;
                 let right_known = right.value(second, sample, &mut y);
                 combine(*op, whole, right_typ.width, left_known, right_known, y, out)
-            }
-            Node::And(left, right) => {
-                let left_known = left.value(left.own_typ(), sample, out);
-                if left_known && is_zero(*out) {
-                    return put(out, 0);
-                }
-                let mut y = 0;
-                let right_known = right.value(right.own_typ(), sample, &mut y);
-                both_true(left_known, right_known, y, out)
-            }
-            Node::Or(left, right) => {
-                let left_known = left.value(left.own_typ(), sample, out);
-                if left_known && !is_zero(*out) {
-                    return put(out, 1);
-                }
-                let mut y = 0;
-                let right_known = right.value(right.own_typ(), sample, &mut y);
-                either_true(left_known, right_known, y, out)
             }
             Node::Cond(test, first, second) => {
                 if !test.value(test.own_typ(), sample, out) {
@@ -232,71 +217,6 @@ fn joined(front: u8, last: u8, x: i128, y: i128) -> i128
     ensures range { IsInt result }
 {
     i128::from(beside(front, last, low_bits(front, x), low_bits(last, y)))
-}
-
-/// Puts the value of `&&` on two values that may be missing into `out`, which holds the first.
-#[inline(always)]
-fn both_true(first: bool, second: bool, right: i128, out: &mut i128) -> bool
-    requires { IsInt out.old }
-    ensures value { given result out.new ≡ both_true_of (given first out.old) (given second right) }
-    ensures range { IsInt out.new }
-{
-    if first && is_zero(*out) {
-        return put(out, 0);
-    }
-    if second && is_zero(right) {
-        return put(out, 0);
-    }
-    first && second && put(out, 1)
-}
-
-/// Puts the value of `||` on two values that may be missing into `out`, which holds the first.
-#[inline(always)]
-fn either_true(first: bool, second: bool, right: i128, out: &mut i128) -> bool
-    requires { IsInt out.old }
-    ensures value { given result out.new ≡ either_true_of (given first out.old) (given second right) }
-    ensures range { IsInt out.new }
-{
-    if first && !is_zero(*out) {
-        return put(out, 1);
-    }
-    if second && !is_zero(right) {
-        return put(out, 1);
-    }
-    first && second && put(out, 0)
-}
-
-/// Puts the value of an operation on two values that may be missing into `out`, which holds the first.
-#[inline(always)]
-fn combine(
-    op: BinOp,
-    whole: Typ,
-    amount: u8,
-    left: bool,
-    right: bool,
-    y: i128,
-    out: &mut i128,
-) -> bool
-    requires whole_width { HasWidth whole }
-    requires amount_least { 1 ≤ amount }
-    requires amount_most { amount ≤ 64 }
-    requires operand { IsInt y }
-    requires before { IsInt out.old }
-    ensures value { given result out.new ≡ combined op whole amount (given left out.old) (given right y) }
-    ensures range { IsInt out.new }
-{
-    if left && right {
-        let x = *out;
-        return operate(op, whole, amount, x, y, out);
-    }
-    match op {
-        BinOp::LogAnd => both_true(left, right, y, out),
-        BinOp::LogOr => either_true(left, right, y, out),
-        BinOp::Add | BinOp::Sub | BinOp::Mul | BinOp::Div => false,
-        BinOp::Rem | BinOp::And | BinOp::Or | BinOp::Xor => false,
-        BinOp::Shl | BinOp::Shr | BinOp::Sshl | BinOp::Sshr => false,
-        BinOp::Lt | BinOp::Le | BinOp::Gt | BinOp::Ge | BinOp::Eq | BinOp::Ne => false,
-    }
 }
 
 /// Puts the value of an operator before the operand in `out` there.
