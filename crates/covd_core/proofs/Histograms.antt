@@ -20,13 +20,13 @@ count_by-cons p x xs = sum_by-cons (λ y. cond (p y) 1 0) x xs
 pub length-values_from : (value : Option ℕ) (events : List Event) → length (values_from value events) ≤ length events
 length-values_from value [] = omega arith
 length-values_from value (Set signal next ∷ events) = let h = length-values_from next events in omega arith
-length-values_from value (Sample instance ∷ events) = let h = length-values_from value events in omega arith
+length-values_from value (Sample instance args ∷ events) = let h = length-values_from value events in omega arith
 
 -- each sample's value is Unknown or a byte
 pub AllByte-values_from : (value : Option ℕ) (events : List Event) → IsByte value → AllByRecursion SetsByte events → AllByRecursion IsByte (values_from value events)
 AllByte-values_from value [] first all = tt
 AllByte-values_from value (Set signal next ∷ events) first all = AllByte-values_from next events all.0 all.1
-AllByte-values_from value (Sample instance ∷ events) first all = (first, AllByte-values_from value events first all.1)
+AllByte-values_from value (Sample instance args ∷ events) first all = (first, AllByte-values_from value events first all.1)
 
 -- ---- counting by value
 
@@ -39,21 +39,21 @@ rest_set all events i signal value next histogram d lt is counted v small =
     let rest : drop i events ≡ Set signal next ∷ drop (i + 1) events = drop_more events i d lt ∙ ap (λ (x : Event). x ∷ drop (i + 1) events) is in
     subst (λ (xs : List Event). get_or histogram v 0 + count_by (is_value v) (values_from value xs) ≡ count_by (is_value v) (values_from None all)) rest (counted v small)
 
-sample_in_front : (all events : List Event) (i instance : ℕ) (value : Option ℕ) (histogram : List ℕ) (d : Event) → i < length events → get_or events i d ≡ Sample instance → Counted all value (drop i events) histogram
+sample_in_front : (all events : List Event) (i instance : ℕ) (args : List (Option ℕ)) (value : Option ℕ) (histogram : List ℕ) (d : Event) → i < length events → get_or events i d ≡ Sample instance args → Counted all value (drop i events) histogram
     → (v : ℕ) → v < 256 → get_or histogram v 0 + (cond (is_value v value) 1 0 + count_by (is_value v) (values_from value (drop (i + 1) events))) ≡ count_by (is_value v) (values_from None all)
-sample_in_front all events i instance value histogram d lt is counted v small =
-    let rest : drop i events ≡ Sample instance ∷ drop (i + 1) events = drop_more events i d lt ∙ ap (λ (x : Event). x ∷ drop (i + 1) events) is in
+sample_in_front all events i instance args value histogram d lt is counted v small =
+    let rest : drop i events ≡ Sample instance args ∷ drop (i + 1) events = drop_more events i d lt ∙ ap (λ (x : Event). x ∷ drop (i + 1) events) is in
     let front = subst (λ (xs : List Event). get_or histogram v 0 + count_by (is_value v) (values_from value xs) ≡ count_by (is_value v) (values_from None all)) rest (counted v small) in
     ap (λ (n : ℕ). get_or histogram v 0 + n) (sym (count_by-cons (is_value v) value (values_from value (drop (i + 1) events)))) ∙ front
 
 -- each count is below the number of events
-pub room_for_one : (all events : List Event) (i instance : ℕ) (value : Option ℕ) (histogram : List ℕ) (d : Event) → i < length events → get_or events i d ≡ Sample instance → Counted all value (drop i events) histogram
+pub room_for_one : (all events : List Event) (i instance : ℕ) (args : List (Option ℕ)) (value : Option ℕ) (histogram : List ℕ) (d : Event) → i < length events → get_or events i d ≡ Sample instance args → Counted all value (drop i events) histogram
     → length all ≤ 1048576 → IsByte value → (v : ℕ) → value ≡ Some v → get_or histogram v 0 < 2 ^ 64 - 1
-room_for_one all events i instance None histogram d lt is counted few byte v e = absurd cc
-room_for_one all events i instance (Some w) histogram d lt is counted few byte v e =
+room_for_one all events i instance args None histogram d lt is counted few byte v e = absurd cc
+room_for_one all events i instance args (Some w) histogram d lt is counted few byte v e =
     let same : w ≡ v = cc in
     let small : v < 256 = omega arith in
-    let front = sample_in_front all events i instance (Some w) histogram d lt is counted v small in
+    let front = sample_in_front all events i instance args (Some w) histogram d lt is counted v small in
     let hit : eqb w v ≡ true = ap (λ (n : ℕ). eqb n v) same ∙ eqb-same v in
     let one = ap (λ (b : Bool). cond {A = ℕ} b 1 0) hit in
     omega (arith, front, one, count_by-le-length (is_value v) (values_from None all), length-values_from None all)
@@ -71,10 +71,10 @@ value_counted (Some w) histogram long byte v small =
           rw (ne_eqb w v ne) (let e : get_or (set histogram w (get_or histogram w 0 + 1)) v 0 ≡ get_or histogram v 0 = get_or-set_other histogram w v (get_or histogram w 0 + 1) 0 other in omega arith)
     ]
 
-pub rest_sample : (all events : List Event) (i instance : ℕ) (value : Option ℕ) (histogram : List ℕ) (d : Event) → i < length events → get_or events i d ≡ Sample instance → length histogram ≡ 256 → IsByte value
+pub rest_sample : (all events : List Event) (i instance : ℕ) (args : List (Option ℕ)) (value : Option ℕ) (histogram : List ℕ) (d : Event) → i < length events → get_or events i d ≡ Sample instance args → length histogram ≡ 256 → IsByte value
     → Counted all value (drop i events) histogram → Counted all value (drop (i + 1) events) (with_value value histogram)
-rest_sample all events i instance value histogram d lt is long byte counted v small =
-    let front = sample_in_front all events i instance value histogram d lt is counted v small in
+rest_sample all events i instance args value histogram d lt is long byte counted v small =
+    let front = sample_in_front all events i instance args value histogram d lt is counted v small in
     let now = value_counted value histogram long byte v small in
     omega (arith, front, now)
 

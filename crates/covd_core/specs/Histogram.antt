@@ -8,7 +8,7 @@ use Rattle.record_codec.specs.declared.record.Event.TheVariants.{Set, Sample}
 abbrev pub values_from : Option ℕ → List Event → List (Option ℕ)
 values_from value [] = []
 values_from value (Set signal next ∷ events) = values_from next events
-values_from value (Sample instance ∷ events) = value ∷ values_from value events
+values_from value (Sample instance args ∷ events) = value ∷ values_from value events
 
 -- known and below 256, or Unknown
 abbrev pub IsByte : Option ℕ → Type 0
@@ -17,7 +17,7 @@ IsByte (Some v) = v < 256
 
 abbrev pub SetsByte : Event → Type 0
 SetsByte (Set signal value) = IsByte value
-SetsByte (Sample instance) = ⊤
+SetsByte (Sample instance args) = ⊤
 
 abbrev pub is_value : ℕ → Option ℕ → Bool
 is_value v None = false

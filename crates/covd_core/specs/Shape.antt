@@ -5,7 +5,7 @@ use Rattle.record_codec.specs.declared.record.SignalRow.{SignalRow}
 use Rattle.record_codec.specs.declared.record.InstRow.{InstRow}
 use Rattle.covd_core.specs.declared.design.Design.{Design}
 
--- the design's tables: its one signal, of width 8 and unsigned, and its one instance
+-- the design's tables: its one signal, of width 8 and unsigned, and its one instance, without arguments
 abbrev pub signal_of : Design → SignalRow
 signal_of d = record { name = d.variable; width = 8; signed = false }
 
@@ -13,7 +13,7 @@ abbrev pub signals_of : Design → List SignalRow
 signals_of d = signal_of d ∷ []
 
 abbrev pub instance_of : Design → InstRow
-instance_of d = record { name = d.instance; group = d.group }
+instance_of d = record { name = d.instance; group = d.group; args = [] }
 
 abbrev pub instances_of : Design → List InstRow
 instances_of d = instance_of d ∷ []

@@ -1,5 +1,5 @@
 //! Whether a record has the design's signals and instances.
-ghost use Rattle.std.specs.Prelude.{◌≡◌, ◌↔◌, ◌≤◌, IsTrue, IfSome, MatchOption, MatchResult};
+ghost use Rattle.std.specs.Prelude.{◌≡◌, ◌↔◌, [], ◌≤◌, IsTrue, IfSome, MatchOption, MatchResult};
 ghost use Rattle.covd_core.specs.Shape.{signal_of, signals_of, instance_of, instances_of, Fits, FirstDiffering, IsWrongAt};
 
 use crate::design::Design;
@@ -19,10 +19,16 @@ fn is_signal(design: &Design, row: &SignalRow) -> bool
     row.name == design.variable && row.width == 8 && !row.signed
 }
 
+fn has_no_args(row: &InstRow) -> bool
+    ensures { IsTrue result ↔ (row.now.args ≡ []) }
+{
+    row.args.as_slice().is_empty()
+}
+
 fn is_instance(design: &Design, row: &InstRow) -> bool
     ensures { IsTrue result ↔ (row.now ≡ instance_of design.now) }
 {
-    row.name == design.instance && row.group == design.group
+    row.name == design.instance && row.group == design.group && has_no_args(row)
 }
 
 // The first place at which the signals differ.

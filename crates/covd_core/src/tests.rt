@@ -266,7 +266,7 @@ fn check_record(
 // What stands in place of which bytes of t1, and the line.
 static REFUSED: [(usize, usize, &'static [u8], &'static [u8]); 9] = [
     (81, 81, &[0], b"record 1 refused Trailing 81\n"),
-    (4, 6, &[0, 2], b"record 1 refused BadVersion 2\n"),
+    (4, 6, &[0, 3], b"record 1 refused BadVersion 3\n"),
     (10, 11, &[4], b"record 1 refused BadField 10\n"),
     (
         44,
@@ -312,7 +312,7 @@ fn refuses_records(rt: HostRuntime) -> Result<(), Fail> {
 }
 
 // One byte of t1 with another value, and the line: first bytes out of their range, then the other faults.
-static SPOILED: [(usize, u8, &'static [u8]); 46] = [
+static SPOILED: [(usize, u8, &'static [u8]); 47] = [
     (7, 0, b"record 1 refused BadField 6\n"),
     (6, 1, b"record 1 refused BadField 6\n"),
     (8, 0x20, b"record 1 refused BadField 8\n"),
@@ -349,7 +349,8 @@ static SPOILED: [(usize, u8, &'static [u8]); 46] = [
     (0, 0x44, b"record 1 refused BadMagic 0\n"),
     (3, 0x44, b"record 1 refused BadMagic 0\n"),
     (5, 0, b"record 1 refused BadVersion 0\n"),
-    (5, 2, b"record 1 refused BadVersion 2\n"),
+    (5, 2, b"record 1 refused BadField 49\n"),
+    (5, 3, b"record 1 refused BadVersion 3\n"),
     (4, 1, b"record 1 refused BadVersion 257\n"),
     (7, 74, b"record 1 refused Short 6\n"),
     (28, 255, b"record 1 refused Short 27\n"),

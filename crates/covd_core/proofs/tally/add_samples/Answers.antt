@@ -1,4 +1,4 @@
-use Rattle.std.proofs.Common.{ℕ, length, ap, subst, ◌∙◌}
+use Rattle.std.proofs.Common.{ℕ, length, sym, ap, subst, ◌∙◌}
 use Rattle.covd_core.specs.Histogram.{SetsByte}
 use Rattle.std.proofs.lemmas.List.{length-replicate}
 use Rattle.covd_core.proofs.Histograms.{none_counted, room_for_one, rest_set, rest_sample, length-with_value, all_counted}
@@ -13,19 +13,19 @@ loop-event-init c = record {
 }
 
 pub add_sample-requires-clause-room : goal.add_sample-requires-clause-room
-add_sample-requires-clause-room c = room_for_one c.args.events.now c.args.events.now c.loop-event.event-index c.in-Sample.instance c.loop-event.value c.loop-event.histogram _ c.loop-event-test.true c.in-Sample.is c.loop-event.invariant.counted c.requires.few c.loop-event.invariant.byte
+add_sample-requires-clause-room c = room_for_one c.args.events.now c.args.events.now c.loop-event.event-index c.in-Sample.instance c.in-Sample.args c.loop-event.value c.loop-event.histogram c.event-item.result c.loop-event-test.true (sym c.event-item.is ∙ c.in-Sample.is) c.loop-event.invariant.counted c.requires.few c.loop-event.invariant.byte
 
 pub loop-event-preserved : goal.loop-event-preserved
 loop-event-preserved c = elim c.match-event.branch [
   | in-Set w ↦ rw (w.value-is, w.histogram-is) (record {
     long = c.loop-event.invariant.long;
-    byte = subst SetsByte w.in-Set.is (c.requires.bytes c.loop-event.event-index _ c.loop-event-test.true);
-    counted = rest_set c.args.events.now c.args.events.now c.loop-event.event-index w.in-Set.signal c.loop-event.value w.in-Set.next c.loop-event.histogram _ c.loop-event-test.true w.in-Set.is c.loop-event.invariant.counted;
+    byte = subst SetsByte (sym c.event-item.is ∙ w.in-Set.is) (c.requires.bytes c.loop-event.event-index c.event-item.result c.loop-event-test.true);
+    counted = rest_set c.args.events.now c.args.events.now c.loop-event.event-index w.in-Set.signal c.loop-event.value w.in-Set.next c.loop-event.histogram c.event-item.result c.loop-event-test.true (sym c.event-item.is ∙ w.in-Set.is) c.loop-event.invariant.counted;
   })
   | in-Sample w ↦ rw (w.value-is, w.histogram-is, w.add_sample.ensures) (record {
     long = length-with_value c.loop-event.value c.loop-event.histogram ∙ c.loop-event.invariant.long;
     byte = c.loop-event.invariant.byte;
-    counted = rest_sample c.args.events.now c.args.events.now c.loop-event.event-index w.in-Sample.instance c.loop-event.value c.loop-event.histogram _ c.loop-event-test.true w.in-Sample.is c.loop-event.invariant.long c.loop-event.invariant.byte c.loop-event.invariant.counted;
+    counted = rest_sample c.args.events.now c.args.events.now c.loop-event.event-index w.in-Sample.instance w.in-Sample.args c.loop-event.value c.loop-event.histogram c.event-item.result c.loop-event-test.true (sym c.event-item.is ∙ w.in-Sample.is) c.loop-event.invariant.long c.loop-event.invariant.byte c.loop-event.invariant.counted;
   })
 ]
 
