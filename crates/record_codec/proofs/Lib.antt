@@ -2,8 +2,11 @@ pub mod Appended
 pub mod Counts
 pub mod Decoded
 pub mod EventLaws
+pub mod Local
+pub mod LocalFields
 pub mod Loops
 pub mod Numbers
+pub mod Places
 pub mod Readers
 pub mod RecordLaws
 pub mod TableLaws

@@ -53,7 +53,7 @@ good_none low bytes h =
     let past : ltb (position_or_len (is_bad low) bytes) (length bytes) ≡ false = le-ltb _ _ (omega (arith, none_first low bytes h)) in
     ap (λ (b : Bool). cond b (Some (position_or_len (is_bad low) bytes)) None) past
 
-unless_ok : (bad : Option ℕ) (count : ℕ) (bytes : List ℕ) (x : List ℕ × List ℕ) → unless_bad bad count bytes ≡ Ok x → (bad ≡ None) × ((take count bytes, drop count bytes) ≡ x)
+pub unless_ok : (bad : Option ℕ) (count : ℕ) (bytes : List ℕ) (x : List ℕ × List ℕ) → unless_bad bad count bytes ≡ Ok x → (bad ≡ None) × ((take count bytes, drop count bytes) ≡ x)
 unless_ok None count bytes x e = (refl, ok_is _ _ e)
 unless_ok (Some bad) count bytes x e = absurd cc
 

@@ -1,4 +1,5 @@
 pub mod Bytes
+pub mod Laws
 pub mod Limits
 pub mod Reading
 pub mod Samples

@@ -12,7 +12,7 @@
 -- The place of a fault is the number of bytes before the first byte of the field: before the byte itself where a byte of
 -- a text is out of its range, before the length where the text runs past the end. In the parts below it is told
 -- by the number of bytes that are left at that place, its own among them; `reading` counts it from the front.
-use Rattle.std.specs.Prelude.{◌≡◌, ℕ, zero, suc, ◌+◌, ◌-◌, ◌^◌, List, [], ◌∷◌, length, take, drop, slice_get, slice_index, ◌<◌, Option, Some, None, Result, Ok, Err, Bool, nat_lt, nat_le, ◌==◌, ◌||◌, if◌then◌else◌, ok_or}
+use Rattle.std.specs.Prelude.{◌≡◌, ℕ, zero, suc, ◌+◌, ◌-◌, ◌^◌, List, [], ◌∷◌, ◌++◌, length, take, drop, slice_get, slice_index, ◌<◌, Option, Some, None, Result, Ok, Err, Bool, nat_lt, nat_le, ◌==◌, ◌||◌, if◌then◌else◌, ok_or}
 use mathlib.Core.Bool.{◌&&◌}
 use Rattle.std.specs.List.{position}
 use Rattle.std.specs.Int.{Width, w8, w16, w32, w64, byte_len, from_be_bytes}
@@ -101,6 +101,12 @@ test_at bytes = do
   time ← number_at w64 seed.1
   user ← text_at 0 255 32 time.1
   Ok (record { id = id.0; status = status.0; seed = seed.0; time = time.0; user = user.0 }, user.1)
+
+-- one more of what is read, behind those in front
+abbrev pub appended : {A : Type 0} → List A → Result (A × List ℕ) Fault → Result (List A × List ℕ) Fault
+appended front read = do
+  row ← read
+  Ok (front ++ row.0 ∷ [], row.1)
 
 -- so many of what is read
 unfoldable pub counted : {A : Type 0} → Reader A → ℕ → Reader (List A)

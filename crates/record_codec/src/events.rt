@@ -1,6 +1,6 @@
 //! The events of a record.
-ghost use Rattle.std.specs.Prelude.{◌≡◌, IfOk};
-ghost use Rattle.record_codec.specs.Reading.{Gives, counted, values_at, sample_at, event_at, events_at};
+ghost use Rattle.std.specs.Prelude.{◌≡◌, ◌+◌, ◌<◌, IfOk, OnOk, vec_len, vec_capacity};
+ghost use Rattle.record_codec.specs.Reading.{Gives, appended, counted, values_at, sample_at, event_at, events_at};
 ghost use Rattle.record_codec.specs.Under.{value_under, set_under, event_under, greatest, limits_of};
 
 use crate::fault::Fault;
@@ -127,23 +127,31 @@ struct Events<'t> {
 impl Events<'_> {
     #[inline(always)]
     #[tactic(auto, unfolding(crate::specs::Under::event_under, crate::specs::Reading::number_within))]
-    fn any_event<'a>(&self, alloc: Global, bytes: &'a [u8]) -> Result<(Event, &'a [u8]), Fault>
-        ensures { Gives (λ x. (x.0, x.1.now)) result (event_under self.now.limits.now self.now.instances.now bytes.now) }
+    fn append_event<'a>(
+        &self,
+        alloc: Global,
+        bytes: &'a [u8],
+        events: &mut Vec<Event>,
+    ) -> Result<&'a [u8], Fault>
+        requires { vec_len events.old < vec_capacity events.old }
+        ensures row { Gives (λ rest. (events.new.items, rest.now)) result (appended events.old.items (event_under self.now.limits.now self.now.instances.now bytes.now)) }
+        ensures room { OnOk result (vec_capacity events.new ≡ vec_capacity events.old) }
+        ensures long { OnOk result (vec_len events.new ≡ vec_len events.old + 1) }
     {
         let (tag, rest) = u8_at(bytes)?;
         match tag {
-            1 => set(self.limits, rest),
-            2 => sample(alloc, self.instances, rest),
+            1 => {
+                let (event, rest) = set(self.limits, rest)?;
+                events.push_reserved(event);
+                Ok(rest)
+            }
+            2 => {
+                let (event, rest) = sample(alloc, self.instances, rest)?;
+                events.push_reserved(event);
+                Ok(rest)
+            }
             _ => Err(Fault::BadField { left: bytes.len() }),
         }
-    }
-
-    // An event near the end of the bytes.
-    #[inline(never)]
-    fn late_event<'a>(&self, alloc: Global, bytes: &'a [u8]) -> Result<(Event, &'a [u8]), Fault>
-        ensures { Gives (λ x. (x.0, x.1.now)) result (event_under self.now.limits.now self.now.instances.now bytes.now) }
-    {
-        self.any_event(alloc, bytes)
     }
 }
 
@@ -152,13 +160,31 @@ impl Rows for Events<'_> {
 
     ghost row_at = { λ events. event_under events.limits.now events.instances.now };
 
-    // An event. Behind the one test of the length those of its fields fall away.
-    #[inline(always)]
+    #[inline(never)]
+    #[tactic(auto, unfolding(crate::specs::Under::event_under, crate::specs::Reading::number_within))]
     fn row<'a>(&self, alloc: Global, bytes: &'a [u8]) -> Result<(Event, &'a [u8]), Fault> {
-        if bytes.len() < LONGEST {
-            return self.late_event(alloc, bytes);
+        let (tag, rest) = u8_at(bytes)?;
+        match tag {
+            1 => set(self.limits, rest),
+            2 => sample(alloc, self.instances, rest),
+            _ => Err(Fault::BadField { left: bytes.len() }),
         }
-        self.any_event(alloc, bytes)
+    }
+
+    // Behind the one test of the length those of the fields fall away.
+    #[inline(always)]
+    fn append<'a>(
+        &self,
+        alloc: Global,
+        bytes: &'a [u8],
+        rows: &mut Vec<Event>,
+    ) -> Result<&'a [u8], Fault> {
+        if bytes.len() >= LONGEST {
+            return self.append_event(alloc, bytes, rows);
+        }
+        let (row, rest) = self.row(alloc, bytes)?;
+        rows.push_reserved(row);
+        Ok(rest)
     }
 }
 
