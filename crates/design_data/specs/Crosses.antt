@@ -1,9 +1,8 @@
 -- The products of a cross, and which of them its bins have (IEEE 1800-2017, 19.6). A product is a coverage bin of each
 -- crossed point, by its number among that point's coverage bins.
 use Rattle.std.specs.Prelude.{ℕ, ◌<◌, ◌==◌, nat_eq, List, [], ◌∷◌, length, map, slice_get, Option, Some, None, Bool, true, false, not, ◌&&◌}
-use Rattle.std.specs.List.{flat_map, list_all}
+use Rattle.std.specs.List.{flat_map, list_all, range_with_len}
 use Rattle.std.specs.Cmp.Lexicographic.{pointwise}
-use Rattle.trans_seq.specs.Lists.{from_on}
 use Rattle.cross_select.specs.declared.select.Select.{Select}
 use Rattle.cross_select.specs.declared.select.Select.TheOpen.{Select-F, Bins, Not, And, Or}
 use Rattle.cross_select.specs.declared.select.Select.TheFolds.{fold-Select}
@@ -24,7 +23,7 @@ IsProduct (size ∷ sizes) (bin ∷ product) = (bin < size) × IsProduct sizes p
 -- all products in order, the bin of the last point running fastest
 abbrev pub products : (sizes : List ℕ) → List (List ℕ)
 products [] = [] ∷ []
-products (size ∷ sizes) = flat_map (λ bin. map (λ rest. bin ∷ rest) (products sizes)) (from_on 0 size)
+products (size ∷ sizes) = flat_map (λ bin. map (λ rest. bin ∷ rest) (products sizes)) (range_with_len 0 size)
 
 -- ---- selections
 
@@ -65,9 +64,13 @@ takes_from IgnoreBin CvgBin = true
 takes_from IgnoreBin other = false
 takes_from other kind = false
 
--- no bin of the cross takes the product from the bins of a kind
+-- the bin leaves the product to the bins of a kind
+abbrev pub leaves : BinInfo → BinKind → (product : List ℕ) → Bool
+leaves bin kind product = not (takes_from bin.kind kind && picks product bin.rule)
+
+-- each bin of the cross leaves the product to the bins of a kind
 abbrev pub is_left : List BinInfo → BinKind → (product : List ℕ) → Bool
-is_left bins kind product = list_all (λ bin. not (takes_from bin.kind kind && picks product bin.rule)) bins
+is_left bins kind product = list_all (λ bin. leaves bin kind product) bins
 
 -- the product is one of a bin of this kind and rule: a declared bin has those that it selects and that are left to it,
 -- an automatic one has its own

@@ -2,8 +2,10 @@
 //! as the value itself.
 #![tactic(auto)]
 
+mod crosses;
 mod design;
 mod infos;
 
+pub use crosses::{has, products, sizes};
 pub use design::Design;
 pub use infos::{BinInfo, BinKind, BinRule, GroupInfo, InstInfo, ItemInfo, ItemShape, Signal};
