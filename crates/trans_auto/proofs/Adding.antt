@@ -7,7 +7,7 @@ use Rattle.trans_seq.specs.declared.seq.Repeat.{Repeat}
 use Rattle.trans_seq.specs.Cells.{cells_of_repeat, cells_of_items}
 use Rattle.trans_auto.specs.declared.marks.Mark.{Mark}
 use Rattle.trans_auto.specs.Masks.{has_bit}
-use Rattle.trans_auto.specs.Layout.{marked, IsMarkedAlone, IsClear, Adds, ItemsMarked, ItemsInside, ItemsEnter}
+use Rattle.trans_auto.specs.Layout.{is_marked, IsMarkedAlone, IsClear, Adds, ItemsMarked, ItemsInside, ItemsEnter}
 
 -- the bits below `end` are the same
 abbrev pub SameBelow : ℕ → ℕ → ℕ → Type 0
@@ -20,7 +20,7 @@ pub cells-same : (base size : ℕ) (f : ℕ → Bool) (new old : ℕ) → SameBe
 cells-same base size f new old same cells k lt = same (base + k) (omega (arith, lt)) ∙ cells k lt
 
 -- an item's cells, marked or not, behind a mask
-pub adds-mark : (base start lower mask : ℕ) (mark : Mark) (r : Repeat) (last wanted : Bool) → IsMarkedAlone mark base r last mask → IsClear base start → ((k : ℕ) → has_bit lower k ≡ (has_bit start k || wanted && has_bit mask k)) → Adds base (cells_of_repeat r) start lower (Cells base (cells_of_repeat r) (λ k. wanted && marked mark r last k))
+pub adds-mark : (base start lower mask : ℕ) (mark : Mark) (r : Repeat) (last wanted : Bool) → IsMarkedAlone mark base r last mask → IsClear base start → ((k : ℕ) → has_bit lower k ≡ (has_bit start k || wanted && has_bit mask k)) → Adds base (cells_of_repeat r) start lower (Cells base (cells_of_repeat r) (λ k. wanted && is_marked mark r last k))
 adds-mark base start lower mask mark r last wanted alone clear is = record {
   below = λ k lt. is k ∙ ap (λ b. has_bit start k || wanted && b) (alone.below k lt) ∙ ap (λ b. has_bit start k || b) (and-false wanted) ∙ or-false (has_bit start k);
   here = λ k lt. is (base + k) ∙ ap (λ b. b || wanted && has_bit mask (base + k)) (clear (base + k) (omega arith)) ∙ ap (λ b. wanted && b) (alone.here k lt);

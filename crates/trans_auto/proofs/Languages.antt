@@ -1,7 +1,8 @@
 -- Items and sequences, by the last sample.
-use Rattle.std.proofs.Common.{◌≡◌, ℕ, ◌+◌, ◌*◌, ◌<◌, ◌≤◌, ◌⊎◌, ◌↔◌, List, [], ◌∷◌, ◌++◌, length, drop, refl, ap, sym, ◌∙◌, subst, inl, inr, arith, Bool, true, false, not, get_or, length-take, zero, suc, Option}
+use Rattle.std.proofs.Common.{◌≡◌, ℕ, ◌+◌, ◌*◌, ◌<◌, ◌≤◌, ◌⊎◌, ◌↔◌, List, [], ◌∷◌, ◌++◌, length, drop, refl, ap, sym, ◌∙◌, subst, inl, inr, arith, Bool, true, false, not, get_or, length-take, zero, suc, Option, Some, map, take}
 use Rattle.std.specs.Prelude.{ℤ, nat_eq, Any}
-use Rattle.std.proofs.lemmas.Bool.{or_cases, or_left, or_right, and_right, or_from, false≢true}
+use Rattle.std.proofs.lemmas.Bool.{or_cases, or_left, or_right, and_right, or_from, false≢true, ne_eqb}
+use Rattle.std.proofs.lemmas.List.{take_more, map-append}
 use Rattle.std.proofs.lemmas.Nat.Bits.{bit_at-zero}
 use Rattle.trans_seq.specs.declared.seq.Item.{Item}
 use Rattle.trans_seq.specs.declared.seq.Seq.{Seq}
@@ -12,7 +13,8 @@ use Rattle.trans_seq.proofs.Cuts.{then-assoc, then-assoc_back, then-nil}
 use Rattle.trans_seq.specs.Cells.{cells_of_repeat, cells_of_items}
 use Rattle.trans_auto.specs.Masks.{has_bit, ItemsHold, SeqsHold, IsEmpty, RepeatHolds, RunsHold, BlocksHold}
 use Rattle.trans_auto.specs.Steps.{ItemsStep, SeqsStep, Accepts, SomeAccepts, Leaves, RepeatSteps, RunsStep, BlocksStep, run_bit, at_bit, from_bit, done_bit}
-use Rattle.trans_auto.proofs.Parts.{repeat-step, leaves-means, blocks-zero}
+use Rattle.trans_seq.proofs.Blocks.{blocks-zero}
+use Rattle.trans_auto.proofs.Parts.{repeat-step, leaves-means}
 
 pub items-step : (E : List (Option ℤ) → Type 0) (enter : Bool) (base old new : ℕ) (w : List (Option ℤ)) (v : Option ℤ) (items : List Item) → (enter ≡ true) ↔ E w → ItemsHold E base old w items → ItemsStep enter base old new v items → ItemsHold E base new (w ++ v ∷ []) items
 items-step E enter base old new w v [] entered holds step = tt
@@ -65,15 +67,14 @@ module _ {X : Type 0} (P : X → Type 0) where
   any-later x xs a = let h : a.0 < length xs = a.2 in (suc a.0, a.1, omega (arith, h), a.3, a.4)
 
 -- a list of some sequence
-pub some_accepts-means : (base mask : ℕ) (w : List (Option ℤ)) (seqs : List Seq) (answer : Bool) → (w ≡ [] → ⊥) → SeqsHold base mask w seqs → SomeAccepts base mask seqs answer → (answer ≡ true) ↔ InSome seqs w
-some_accepts-means base mask w [] answer some holds step =
+pub some_accepts-means : (fresh : Bool) (base mask : ℕ) (w : List (Option ℤ)) (seqs : List Seq) (answer : Bool) → (fresh ≡ true) ↔ IsEmpty w → SeqsHold base mask w seqs → SomeAccepts fresh base mask seqs answer → (answer ≡ true) ↔ InSome seqs w
+some_accepts-means fresh base mask w [] answer entered holds step =
     ((λ b. absurd (false≢true (sym step ∙ b))), (λ a. absurd (omega (arith, a.2))))
-some_accepts-means base mask w (seq ∷ seqs) answer some holds step =
+some_accepts-means fresh base mask w (seq ∷ seqs) answer entered holds step =
     let P : Seq → Type 0 = λ s. InSeq s.items w in
-    let one = accepts-means IsEmpty false base mask w seq.items step.0
-    ((λ b. absurd (false≢true b)), (λ e. absurd (some e))) holds.0 step.2 in
+    let one = accepts-means IsEmpty fresh base mask w seq.items step.0 entered holds.0 step.2 in
     let whole = from-start (InSeq seq.items) w in
-    let others = some_accepts-means (base + cells_of_items seq.items) mask w seqs step.1 some holds.1 step.3 in (
+    let others = some_accepts-means fresh (base + cells_of_items seq.items) mask w seqs step.1 entered holds.1 step.3 in (
       (λ b. elim (or_cases step.0 step.1 (sym step.4 ∙ b)) [
         | inl x ↦ any-here P seq seqs (whole.0 (one.0 x))
         | inr y ↦ any-later P seq seqs (others.0 y)
@@ -83,6 +84,10 @@ some_accepts-means base mask w (seq ∷ seqs) answer some holds step =
         | inr y ↦ step.4 ∙ or_right step.0 step.1 (others.1 y)
       ]),
     )
+
+-- a list that isn't empty
+pub not_fresh : (w : List (Option ℤ)) → (w ≡ [] → ⊥) → (false ≡ true) ↔ IsEmpty w
+not_fresh w some = ((λ e. absurd (false≢true e)), (λ e. absurd (some e)))
 
 -- nothing is reached by the empty list
 zero-bit : (k : ℕ) → has_bit 0 k ≡ false
@@ -184,6 +189,21 @@ accepts-dead base (item ∷ items) = (
   accepts-dead (base + cells_of_repeat item.repeat) items,
 )
 
-pub some_accepts-dead : (base : ℕ) (seqs : List Seq) → SomeAccepts base 0 seqs false
+pub some_accepts-dead : (base : ℕ) (seqs : List Seq) → SomeAccepts false base 0 seqs false
 some_accepts-dead base [] = refl
 some_accepts-dead base (seq ∷ seqs) = (false, false, accepts-dead base seq.items, some_accepts-dead (base + cells_of_items seq.items) seqs, refl)
+
+-- ---- lists of known values
+
+pub known-empty : (list : List ℤ) (b : Bool) → b ≡ nat_eq (length list) 0 → (b ≡ true) ↔ IsEmpty (map Some list)
+known-empty [] b e = ((λ t. refl), (λ none. e))
+known-empty (x ∷ xs) b e = (
+  (λ t. absurd (false≢true (sym (e ∙ ne_eqb (length (x ∷ xs)) 0 (λ z. omega (arith, z))) ∙ t))),
+  (λ none. absurd (omega (arith, ap length none))),
+)
+
+pub known-front : (list : List ℤ) (k : ℕ) → k < length list → (nat_eq k 0 ≡ true) ↔ IsEmpty (map Some (take k list))
+known-front list k lt = let long : k ≡ length (take k list) = omega (arith, lt, length-take k list) in known-empty (take k list) (nat_eq k 0) (ap (λ n. nat_eq n 0) long)
+
+pub known-more : (list : List ℤ) (k : ℕ) (x : ℤ) → k < length list → x ≡ get_or list k x → map Some (take k list) ++ Some x ∷ [] ≡ map Some (take (k + 1) list)
+known-more list k x lt is = sym (ap (map Some) (take_more list k x lt ∙ ap (λ y. take k list ++ y ∷ []) (sym is)) ∙ map-append Some (take k list) (x ∷ []))

@@ -7,22 +7,9 @@ use Rattle.trans_seq.specs.declared.seq.Repeat.{Repeat}
 use Rattle.trans_seq.specs.declared.seq.Repeat.TheVariants.{Once, Consec, Goto, NonConsec}
 use Rattle.trans_seq.specs.Windows.{Then, AllOutside, IsBlock, IsGap, IsRun, IsBlocks, IsGoto, InRepeat}
 use Rattle.trans_seq.proofs.Cuts.{then-map, then-assoc, then-assoc_back, then-empty}
-use Rattle.trans_seq.proofs.Blocks.{at-push, at-push_back, after-push, after-push_back, run_at-push, run_at-push_back, open-cases, open-from}
+use Rattle.trans_seq.proofs.Blocks.{run-zero, blocks-zero, at-push, at-push_back, after-push, after-push_back, run_at-push, run_at-push_back, open-cases, open-from}
 use Rattle.trans_auto.specs.Masks.{has_bit, RunsHold, BlocksHold, RepeatHolds}
 use Rattle.trans_auto.specs.Steps.{run_bit, at_bit, from_bit, RunsStep, BlocksStep, RepeatSteps, Leaves}
-
-module _ {X : Type 0} (p : X → Bool) (E : List X → Type 0) where
-  run-zero : (w : List X) → E w ↔ Then E (IsRun p 0) w
-  run-zero w = (
-    (λ e. then-empty E (IsRun p 0) w e (refl, All-nil (λ v. p v ≡ true))),
-    (λ t. let whole : length w ≤ t.cut = omega (arith, t.rest.0, length-drop t.cut w) in subst E (take_all t.cut w whole) t.first),
-  )
-
-  pub blocks-zero : (w : List X) → E w ↔ Then E (IsBlocks p 0) w
-  blocks-zero w = (
-    (λ e. then-empty E (IsBlocks p 0) w e refl),
-    (λ t. let whole : length w ≤ t.cut = omega (arith, ap length t.rest, length-drop t.cut w) in subst E (take_all t.cut w whole) t.first),
-  )
 
 module _ {X : Type 0} (p : X → Bool) (E : List X → Type 0) (base old : ℕ) (enter : Bool) (w : List X) (entered : (enter ≡ true) ↔ E w) where
   run_bit-means : (high : ℕ) → RunsHold p E base old w high → (m : ℕ) → m ≤ high → (run_bit enter base old m ≡ true) ↔ Then E (IsRun p m) w

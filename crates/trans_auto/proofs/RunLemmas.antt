@@ -5,15 +5,19 @@ use Rattle.std.specs.List.{filter}
 use Rattle.trans_seq.proofs.Members.{in_filter, from_filter}
 use Rattle.std.proofs.Math.ListN.{get_or-append}
 use Rattle.std.proofs.Math.Seq.{get_or-append_seam}
-use Rattle.std.proofs.lemmas.List.{drop-append-le, drop_at}
+use Rattle.std.proofs.lemmas.List.{drop-append-le, drop_at, get_or_default}
 use Rattle.std.proofs.lemmas.List.Elements.{Contains-get_or}
 use Rattle.std.proofs.lemmas.Bool.{cases_lt, false≢true, true≢false, ne_eqb}
 use Rattle.trans_seq.specs.declared.seq.Seq.{Seq}
-use Rattle.trans_seq.specs.Windows.{Counts}
+use Rattle.trans_seq.specs.Windows.{InSome, EndsWindow, EndsKept}
 use Rattle.trans_auto.specs.Masks.{SeqsHold, IsEmpty}
 use Rattle.trans_auto.specs.Steps.{SomeAccepts}
 use Rattle.trans_auto.specs.State.{PairHolds, Covers, Stands, Remains, PairSteps, Advances}
-use Rattle.trans_auto.proofs.Languages.{seqs-step, seqs-start, seqs-dead, some_accepts-means, some_accepts-dead}
+use Rattle.trans_auto.proofs.Languages.{seqs-step, seqs-start, seqs-dead, not_fresh, some_accepts-means, some_accepts-dead}
+
+must : (b : Bool) → (b ≡ false → ⊥) → b ≡ true
+must true n = refl
+must false n = absurd (n refl)
 
 module _ (own removed : List Seq) where
   pub stands-start : Stands own removed [] []
@@ -22,8 +26,8 @@ module _ (own removed : List Seq) where
   -- a run's step, later and at its beginning
   pair-later : (v : Option ℤ) (a b : ℕ × ℕ) (u : List (Option ℤ)) → (u ≡ [] → ⊥) → PairHolds own removed a u → PairSteps own removed v false a b → PairHolds own removed b (u ++ v ∷ [])
   pair-later v a b u some h s =
-      let not_fresh : (false ≡ true) ↔ IsEmpty u = ((λ e. absurd (false≢true e)), (λ e. absurd (some e))) in
-      (seqs-step false 0 a.0 b.0 u v own not_fresh h.0 s.0, seqs-step false 0 a.1 b.1 u v removed not_fresh h.1 s.1)
+      let later = not_fresh u some in
+      (seqs-step false 0 a.0 b.0 u v own later h.0 s.0, seqs-step false 0 a.1 b.1 u v removed later h.1 s.1)
 
   pair-fresh : (v : Option ℤ) (b : ℕ × ℕ) → PairSteps own removed v true (0, 0) b → PairHolds own removed b (v ∷ [])
   pair-fresh v b s =
@@ -31,12 +35,12 @@ module _ (own removed : List Seq) where
       (seqs-step true 0 0 b.0 [] v own fresh (seqs-start 0 own) s.0, seqs-step true 0 0 b.1 [] v removed fresh (seqs-start 0 removed) s.1)
 
   dead-later : (v : Option ℤ) (u : List (Option ℤ)) → (u ≡ [] → ⊥) → SeqsHold 0 0 u own → SeqsHold 0 0 (u ++ v ∷ []) own
-  dead-later v u some h = seqs-step false 0 0 0 u v own ((λ e. absurd (false≢true e)), (λ e. absurd (some e))) h (seqs-dead 0 v own)
+  dead-later v u some h = seqs-step false 0 0 0 u v own (not_fresh u some) h (seqs-dead 0 v own)
 
   covers-from : (next : List (ℕ × ℕ)) (b : ℕ × ℕ) (u : List (Option ℤ)) → PairHolds own removed b u → (b.0 ≡ 0) ⊎ Contains next b → Covers own removed next u
   covers-from next b u h c = elim c [ inl e ↦ inl (subst (λ n. SeqsHold 0 n u own) e h.0) | inr i ↦ inr (b, i, h) ]
 
-  some-drop : (w : List (Option ℤ)) (n : ℕ) → n < length w → drop n w ≡ [] → ⊥
+  pub some-drop : (w : List (Option ℤ)) (n : ℕ) → n < length w → drop n w ≡ [] → ⊥
   some-drop w n h e = omega (arith, h, length-drop n w, ap length e)
 
   drop-push : (w : List (Option ℤ)) (v : Option ℤ) (n : ℕ) → n < length w → drop n w ++ v ∷ [] ≡ drop n (w ++ v ∷ [])
@@ -140,10 +144,14 @@ module _ (own removed : List Seq) where
       ends : (m : ℕ × ℕ) → Contains moved m → (m.0 ≡ 0) ⊎ Contains next m
       ends m h = elim (zero-cases m.0) [ inl e ↦ inl e | inr ne ↦ inr (kept m h ne) ]
 
-  pub remains-from : (run : ℕ × ℕ) (w : List (Option ℤ)) (a b : Bool) → (w ≡ [] → ⊥) → PairHolds own removed run w → SomeAccepts 0 run.0 own a → SomeAccepts 0 run.1 removed b → ((a ≡ true) × (b ≡ false)) ↔ Remains own removed w
+  -- what a run's masks say of each list that it stands for
+  pub ends-from : (run : ℕ × ℕ) (w : List (Option ℤ)) (a : Bool) → (w ≡ [] → ⊥) → PairHolds own removed run w → SomeAccepts false 0 run.0 own a → (a ≡ true) ↔ InSome own w
+  ends-from run w a some h x = some_accepts-means false 0 run.0 w own a (not_fresh w some) h.0 x
+
+  pub remains-from : (run : ℕ × ℕ) (w : List (Option ℤ)) (a b : Bool) → (w ≡ [] → ⊥) → PairHolds own removed run w → SomeAccepts false 0 run.0 own a → SomeAccepts false 0 run.1 removed b → ((a ≡ true) × (b ≡ false)) ↔ Remains own removed w
   remains-from run w a b some h x y =
-      let mine = some_accepts-means 0 run.0 w own a some h.0 x in
-      let theirs = some_accepts-means 0 run.1 w removed b some h.1 y in (
+      let mine = ends-from run w a some h x in
+      let theirs = some_accepts-means false 0 run.1 w removed b (not_fresh w some) h.1 y in (
         (λ p. (mine.0 p.0, λ i. true≢false (sym (theirs.1 i) ∙ p.1))),
         (λ r. (mine.1 r.0, not_true b (λ e. r.1 (theirs.0 e)))),
       )
@@ -152,23 +160,63 @@ module _ (own removed : List Seq) where
       not_true true n = absurd (n refl)
       not_true false n = refl
 
-  -- the runs after the sample tell whether a window counts
-  pub counts-from : (next : List (ℕ × ℕ)) (w : List (Option ℤ)) (answer : Bool) → Stands own removed next w
-      → (answer ≡ true → (run : ℕ × ℕ) × Contains next run × ((u : List (Option ℤ)) → (u ≡ [] → ⊥) → PairHolds own removed run u → Remains own removed u))
-      → (answer ≡ false → (run : ℕ × ℕ) → Contains next run → (u : List (Option ℤ)) → (u ≡ [] → ⊥) → PairHolds own removed run u → Remains own removed u → ⊥)
-      → (answer ≡ true) ↔ Counts own removed w
-  counts-from next w answer st found none = (
-    (λ e. let r = found e in let s = st.sound r.0 r.1 in let x = r.2 (drop s.1 w) (some-drop w s.1 s.2) s.3 in
-        record { from = s.1; some = s.2; in_own = x.0; not_removed = x.1 }),
-    (λ c. must answer (λ e. elim (st.complete c.from c.some) [
-      | inl dead ↦ false≢true ((some_accepts-means 0 0 (drop c.from w) own false (some-drop w c.from c.some) dead (some_accepts-dead 0 own)).1 c.in_own)
-      | inr r ↦ none e r.0 r.1 (drop c.from w) (some-drop w c.from c.some) r.2 (c.in_own, c.not_removed)
-    ])),
+  -- some window that ends with the last sample is a list of Q
+  abbrev pub SomeEnd : (List (Option ℤ) → Type 0) → List (Option ℤ) → Type 0
+  SomeEnd Q w = (from : ℕ) × (from < length w) × Q (drop from w)
+
+  -- one of the runs stands for lists of Q
+  abbrev pub SomeRunHas : (List (Option ℤ) → Type 0) → List (ℕ × ℕ) → Type 0
+  SomeRunHas Q runs = (run : ℕ × ℕ) × Contains runs run × ((u : List (Option ℤ)) → (u ≡ [] → ⊥) → PairHolds own removed run u → Q u)
+
+  -- none of them does
+  abbrev pub NoRunHas : (List (Option ℤ) → Type 0) → List (ℕ × ℕ) → Type 0
+  NoRunHas Q runs = (run : ℕ × ℕ) → Contains runs run → (u : List (Option ℤ)) → (u ≡ [] → ⊥) → PairHolds own removed run u → Q u → ⊥
+
+  -- none of those below the index does
+  abbrev pub NoneBelowHas : (List (Option ℤ) → Type 0) → List (ℕ × ℕ) → ℕ → Type 0
+  NoneBelowHas Q runs i = (k : ℕ) (d : ℕ × ℕ) → k < i → (u : List (Option ℤ)) → (u ≡ [] → ⊥) → PairHolds own removed (get_or runs k d) u → Q u → ⊥
+
+  pub none_more : (Q : List (Option ℤ) → Type 0) (runs : List (ℕ × ℕ)) (i : ℕ) (d : ℕ × ℕ) → i < length runs → NoneBelowHas Q runs i
+      → ((u : List (Option ℤ)) → (u ≡ [] → ⊥) → PairHolds own removed (get_or runs i d) u → Q u → ⊥) → NoneBelowHas Q runs (i + 1)
+  none_more Q runs i d within below here k e h u some holds q = elim (cases_lt k i) [
+    | inl lt ↦ below k e lt u some holds q
+    | inr ge ↦
+        let is : k ≡ i = omega (arith, h, ge) in
+        let same : get_or runs k e ≡ get_or runs i d = ap (λ j. get_or runs j e) is ∙ get_or_default runs i e d within in
+        here u some (subst (λ r. PairHolds own removed r u) same holds) q
+  ]
+
+  pub none_all : (Q : List (Option ℤ) → Type 0) (runs : List (ℕ × ℕ)) (i : ℕ) → length runs ≤ i → NoneBelowHas Q runs i → NoRunHas Q runs
+  none_all Q runs i all below run inside u some holds q =
+      let lt : inside.0 < length runs = inside.1 in
+      below inside.0 run (omega (arith, lt, all)) u some (subst (λ r. PairHolds own removed r u) (sym inside.2) holds) q
+
+  pub some_end : (Q : List (Option ℤ) → Type 0) (runs : List (ℕ × ℕ)) (w : List (Option ℤ)) → Stands own removed runs w → SomeRunHas Q runs → SomeEnd Q w
+  some_end Q runs w st r = let s = st.sound r.0 r.1 in (s.1, s.2, r.2 (drop s.1 w) (some-drop w s.1 s.2) s.3)
+
+  pub no_end : (Q : List (Option ℤ) → Type 0) (runs : List (ℕ × ℕ)) (w : List (Option ℤ)) → ((u : List (Option ℤ)) → Q u → InSome own u) → Stands own removed runs w → NoRunHas Q runs → SomeEnd Q w → ⊥
+  no_end Q runs w within st none e =
+      let u = drop e.0 w in
+      let some = some-drop w e.0 e.1 in
+      elim (st.complete e.0 e.1) [
+        | inl dead ↦ false≢true ((some_accepts-means false 0 0 u own false (not_fresh u some) dead (some_accepts-dead 0 own)).1 (within u e.2))
+        | inr r ↦ none r.0 r.1 u some r.2 e.2
+      ]
+
+  -- the runs after the sample tell whether a window counts, and whether one ends
+  pub kept-from : (runs : List (ℕ × ℕ)) (w : List (Option ℤ)) (answer : Bool) → Stands own removed runs w
+      → (answer ≡ true → SomeRunHas (Remains own removed) runs) → (answer ≡ false → NoRunHas (Remains own removed) runs) → (answer ≡ true) ↔ EndsKept own removed w
+  kept-from runs w answer st found none = (
+    (λ e. let s = some_end (Remains own removed) runs w st (found e) in record { from = s.0; some = s.1; in_own = s.2.0; not_removed = s.2.1 }),
+    (λ k. must answer (λ e. no_end (Remains own removed) runs w (λ u r. r.0) st (none e) (k.from, k.some, (k.in_own, k.not_removed)))),
   )
-    where
-      must : (b : Bool) → (b ≡ false → ⊥) → b ≡ true
-      must true n = refl
-      must false n = absurd (n refl)
+
+  pub window-from : (runs : List (ℕ × ℕ)) (w : List (Option ℤ)) (answer : Bool) → Stands own removed runs w
+      → (answer ≡ true → SomeRunHas (λ u. InSome own u) runs) → (answer ≡ false → NoRunHas (λ u. InSome own u) runs) → (answer ≡ true) ↔ EndsWindow own w
+  window-from runs w answer st found none = (
+    (λ e. let s = some_end (λ u. InSome own u) runs w st (found e) in record { from = s.0; some = s.1; is_list = s.2 }),
+    (λ k. must answer (λ e. no_end (λ u. InSome own u) runs w (λ u i. i) st (none e) (k.from, k.some, k.is_list))),
+  )
 
 -- the runs that still reach an own cell
 abbrev pub is_live : ℕ × ℕ → Bool

@@ -65,8 +65,8 @@ SeqInside v start lower items one = (b : ℕ) → ItemsLaid b items one → IsCl
 abbrev pub SeqEnters : Bool → ℕ → ℕ → ℕ → List ItemCells → Type 0
 SeqEnters fresh old start lower one = (b : ℕ) (items : List Item) → ItemsLaid b items one → IsClear b start → Adds b (cells_of_items items) start lower (λ mask. ItemsEnter fresh b old mask items)
 
-abbrev pub SeqAccepts : ℕ → Bool → List ItemCells → Type 0
-SeqAccepts mask complete one = (b : ℕ) (items : List Item) → ItemsLaid b items one → Accepts false b mask items complete
+abbrev pub SeqAccepts : Bool → ℕ → Bool → List ItemCells → Type 0
+SeqAccepts fresh mask complete one = (b : ℕ) (items : List Item) → ItemsLaid b items one → Accepts fresh b mask items complete
 
 pub seqs_inside-cons : (base start lower new : ℕ) (v : Option ℤ) (seq : Seq) (seqs : List Seq) (one : List ItemCells) (rest : List (List ItemCells))
     → SeqsLaid base (seq ∷ seqs) (one ∷ rest) → IsClear base start
@@ -96,17 +96,17 @@ seqs_enter-cons fresh base old start lower new (seq ∷ seqs) one rest laid clea
     adds-then base n (cells_of_seqs seqs) start lower new (λ mask. ItemsEnter fresh base old mask seq.items) (λ mask. SeqsEnter fresh (base + n) old mask seqs)
     (λ same held. items-enter-same fresh base old new lower seq.items same held) here (others (base + n) seqs laid.1 here.above)
 
-pub seqs_accept-nil : (base mask : ℕ) (found : Bool) (seqs : List Seq) (cells : List (List ItemCells)) → length cells < 1 → SeqsLaid base seqs cells → (some : Bool) × SomeAccepts base mask seqs some × (found ≡ (found || some))
-seqs_accept-nil base mask found [] cells none laid = (false, refl, sym (or-false found))
-seqs_accept-nil base mask found (seq ∷ seqs) [] none laid = absurd laid
-seqs_accept-nil base mask found (seq ∷ seqs) (one ∷ rest) none laid = absurd (omega (arith, none))
+pub seqs_accept-nil : (fresh : Bool) (base mask : ℕ) (found : Bool) (seqs : List Seq) (cells : List (List ItemCells)) → length cells < 1 → SeqsLaid base seqs cells → (some : Bool) × SomeAccepts fresh base mask seqs some × (found ≡ (found || some))
+seqs_accept-nil fresh base mask found [] cells none laid = (false, refl, sym (or-false found))
+seqs_accept-nil fresh base mask found (seq ∷ seqs) [] none laid = absurd laid
+seqs_accept-nil fresh base mask found (seq ∷ seqs) (one ∷ rest) none laid = absurd (omega (arith, none))
 
-pub seqs_accept-cons : (base mask : ℕ) (found : Bool) (seqs : List Seq) (one : List ItemCells) (rest : List (List ItemCells)) (complete answer : Bool)
+pub seqs_accept-cons : (fresh : Bool) (base mask : ℕ) (found : Bool) (seqs : List Seq) (one : List ItemCells) (rest : List (List ItemCells)) (complete answer : Bool)
     → SeqsLaid base seqs (one ∷ rest)
-    → SeqAccepts mask complete one
-    → ((b : ℕ) (others : List Seq) → SeqsLaid b others rest → (some : Bool) × SomeAccepts b mask others some × (answer ≡ ((found || complete) || some)))
-    → (some : Bool) × SomeAccepts base mask seqs some × (answer ≡ (found || some))
-seqs_accept-cons base mask found [] one rest complete answer laid first others = absurd (no-cons laid)
-seqs_accept-cons base mask found (seq ∷ seqs) one rest complete answer laid first others =
+    → SeqAccepts fresh mask complete one
+    → ((b : ℕ) (others : List Seq) → SeqsLaid b others rest → (some : Bool) × SomeAccepts fresh b mask others some × (answer ≡ ((found || complete) || some)))
+    → (some : Bool) × SomeAccepts fresh base mask seqs some × (answer ≡ (found || some))
+seqs_accept-cons fresh base mask found [] one rest complete answer laid first others = absurd (no-cons laid)
+seqs_accept-cons fresh base mask found (seq ∷ seqs) one rest complete answer laid first others =
     let s = others (base + cells_of_items seq.items) seqs laid.1 in
     (complete || s.0, (complete, s.0, first base seq.items laid.0, s.1, refl), s.2 ∙ or_assoc found complete s.0)

@@ -35,18 +35,18 @@ skips (Goto low high) = eqb low 0
 skips (NonConsec low high) = eqb low 0
 
 -- whether cell k of an item is marked
-abbrev pub marked : Mark → Repeat → Bool → ℕ → Bool
-marked All r last k = true
-marked First r last k = eqb k 0
-marked Later r last k = not (eqb k 0)
-marked Run r last k = is_run r
-marked Gap r last k = not (is_run r) && eqb (k % 2) 0
-marked End r last k = not (is_run r) && eqb (k % 2) 1
-marked Done r last k = is_done r last k
+abbrev pub is_marked : Mark → Repeat → Bool → ℕ → Bool
+is_marked All r last k = true
+is_marked First r last k = eqb k 0
+is_marked Later r last k = not (eqb k 0)
+is_marked Run r last k = is_run r
+is_marked Gap r last k = not (is_run r) && eqb (k % 2) 0
+is_marked End r last k = not (is_run r) && eqb (k % 2) 1
+is_marked Done r last k = is_done r last k
 
 -- the mask has the marked cells of the item
 abbrev pub IsMarked : Mark → ℕ → Repeat → Bool → ℕ → Type 0
-IsMarked mark base r last mask = (k : ℕ) → k < cells_of_repeat r → has_bit mask (base + k) ≡ marked mark r last k
+IsMarked mark base r last mask = (k : ℕ) → k < cells_of_repeat r → has_bit mask (base + k) ≡ is_marked mark r last k
 
 -- and no other bit
 pub record IsMarkedAlone (mark : Mark) (base : ℕ) (r : Repeat) (last : Bool) (mask : ℕ) : Type 0 where

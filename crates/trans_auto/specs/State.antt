@@ -1,10 +1,9 @@
 -- What the runs of an automaton stand for.
-use Rattle.std.specs.Prelude.{◌≡◌, ◌≢◌, ℕ, ◌<◌, ◌⊎◌, Bool, true, false, Option, List, length, drop, Contains, AllPairs, ℤ}
+use Rattle.std.specs.Prelude.{◌≡◌, ◌≢◌, ℕ, ◌<◌, ◌⊎◌, Bool, true, false, Option, List, [], ◌∷◌, ◌++◌, length, drop, Contains, AllPairs, ℤ, ◌↔◌, IsTrue}
 use Rattle.trans_seq.specs.declared.seq.Seq.{Seq}
-use Rattle.trans_seq.specs.Windows.{InSome}
+use Rattle.trans_seq.specs.Windows.{InSome, EndsWindow, EndsKept}
 use Rattle.trans_auto.specs.Masks.{SeqsHold}
 use Rattle.trans_auto.specs.Steps.{SeqsStep}
-use Rattle.trans_auto.specs.Layout.{SeqsInside}
 
 module _ (own removed : List Seq) where
   -- the pair of masks says which own and removed cells the list reaches
@@ -21,14 +20,23 @@ module _ (own removed : List Seq) where
     pub complete : (from : ℕ) → from < length w → Covers runs (drop from w)
     pub once : AllPairs (λ a b. a ≢ b) runs
 
+  -- the answer says of each trace that the runs stand for whether with the sample a window ends that counts
+  abbrev pub SaysKept : List (ℕ × ℕ) → Option ℤ → Bool → Type 0
+  SaysKept runs v answer = (w : List (Option ℤ)) → Stands runs w → IsTrue answer ↔ EndsKept own removed (w ++ v ∷ [])
+
+  -- and whether a window of own ends at all
+  abbrev pub SaysWindow : List (ℕ × ℕ) → Option ℤ → Bool → Type 0
+  SaysWindow runs v answer = (w : List (Option ℤ)) → Stands runs w → IsTrue answer ↔ EndsWindow own (w ++ v ∷ [])
+
+  -- of each trace that the runs stand for, the next runs stand for the trace with the sample behind it
+  abbrev pub TakesSample : List (ℕ × ℕ) → Option ℤ → List (ℕ × ℕ) → Type 0
+  TakesSample runs v next = (w : List (Option ℤ)) → Stands runs w → Stands next (w ++ v ∷ [])
+
   -- a list is in a sequence of own and in none of removed
   abbrev pub Remains : List (Option ℤ) → Type 0
   Remains w = InSome own w × (InSome removed w → ⊥)
 
-  -- the masks say which items the sample is inside
-  abbrev pub PairInside : ℕ × ℕ → Option ℤ → Type 0
-  PairInside inside v = SeqsInside 0 inside.0 v own × SeqsInside 0 inside.1 v removed
-
+  -- what a pair of masks becomes at a sample
   abbrev pub PairSteps : Option ℤ → Bool → ℕ × ℕ → ℕ × ℕ → Type 0
   PairSteps v fresh a b = SeqsStep fresh 0 a.0 b.0 v own × SeqsStep fresh 0 a.1 b.1 v removed
 

@@ -69,9 +69,9 @@ Accepts enter base mask (item ∷ items) answer =
     (next : Bool) × ((next ≡ true) ↔ Leaves enter base mask item.repeat (is_end items))
     × Accepts next (base + cells_of_repeat item.repeat) mask items answer
 
-abbrev pub SomeAccepts : ℕ → ℕ → List Seq → Bool → Type 0
-SomeAccepts base mask [] answer = answer ≡ false
-SomeAccepts base mask (seq ∷ seqs) answer =
-    (one : Bool) × (others : Bool) × Accepts false base mask seq.items one
-    × SomeAccepts (base + cells_of_items seq.items) mask seqs others
+abbrev pub SomeAccepts : Bool → ℕ → ℕ → List Seq → Bool → Type 0
+SomeAccepts fresh base mask [] answer = answer ≡ false
+SomeAccepts fresh base mask (seq ∷ seqs) answer =
+    (one : Bool) × (others : Bool) × Accepts fresh base mask seq.items one
+    × SomeAccepts fresh (base + cells_of_items seq.items) mask seqs others
     × (answer ≡ (one || others))

@@ -1,19 +1,19 @@
-//! The automaton of a transition bin, and its state along a trace.
-ghost use Rattle.std.specs.Prelude.{◌≡◌, List, ℤ, Option, [], ◌∷◌, ◌++◌, min, ◌<◌, ◌≤◌, ◌↔◌, IsTrue, IsOk, IfOk, OnOk, OnErr, IsOkUnless};
-ghost use Rattle.trans_seq.specs.Cells.{cells_of_seqs};
-ghost use Rattle.trans_seq.specs.Windows.{Counts};
-ghost use Rattle.trans_auto.specs.State.{Stands};
+//! The automaton of a transition bin that shares its removing sequences with no other bin.
+ghost use Rattle.std.specs.Prelude.{◌≡◌, List, ℤ, Option, [], min, ◌<◌, ◌≤◌, IsOk, IfOk, OnOk, OnErr, IsOkUnless, Err};
+ghost use Rattle.cov_ground.specs.Limits.{most_cells};
+ghost use Rattle.trans_seq.specs.Cells.{cells_of_seqs as cells_of};
+ghost use Rattle.trans_auto.specs.State.{Stands, SaysKept, TakesSample};
 
 use crate::fault::AutoFault;
+use crate::removing::Step;
 use crate::runs::push_runs;
 use crate::side::Side;
+use crate::state::TransState;
 use cov_base::{Int, Memory};
+use cov_ground::limits::MOST_CELLS;
 use std::alloc::Global;
 use std::marker::Model;
-use trans_seq::{Seq, cells};
-
-/// The most cells that the own sequences may have together, and the removing ones too.
-const MOST_CELLS: u64 = 120;
+use trans_seq::{Seq, cells_of_seqs};
 
 /// The automaton of a bin's own sequences, and of those that remove windows from it.
 #[derive(Drop, Debug)]
@@ -31,48 +31,23 @@ impl Model for Automaton {
     ghost view = { λ a. (a.own, a.removed) };
 }
 
-/// Where a trace stands: for each start of a window that may still count, the masks of the own and of the removing
-/// cells that the samples from there reach, equal pairs once.
-#[derive(Drop, Debug)]
-pub struct TransState {
-    /// The pairs of masks, in no order of meaning.
-    pub runs: Vec<(u128, u128)>,
-}
-
-impl Model for TransState {
-    ghost use Rattle.std.specs.Prelude.{List, ℕ};
-
-    ghost Value = { List (ℕ × ℕ) };
-
-    ghost view = { λ s. s.runs.items };
-}
-
-/// How many cells the sequences have together; the greatest `u64` where that is larger.
-fn all_cells(seqs: &[Seq]) -> u64
-    ensures { result ≡ min (cells_of_seqs seqs.now) u64.MAX }
-{
-    let mut sum: u64 = 0;
-    for seq in seqs {
-        sum = sum.saturating_add(cells(seq));
-    }
-    sum
-}
-
 impl Automaton {
-    /// The automaton of the own sequences and of the removing ones. Each side may have 120 cells together.
+    /// The automaton of the own sequences and of the removing ones. Each side may have `MOST_CELLS` cells together.
     pub fn new(alloc: Global, own: &[Seq], removed: &[Seq]) -> Result<Automaton, AutoFault>
         ensures made { IfOk result (λ a. a ≡ (own.now, removed.now)) }
-        ensures fits { IsOk result → (cells_of_seqs own.now ≤ 120) × (cells_of_seqs removed.now ≤ 120) }
-        ensures otherwise_memory { (cells_of_seqs own.now ≤ 120) × (cells_of_seqs removed.now ≤ 120) → IsOkUnless result AutoFault.Memory }
-        ensures own_first { 120 < cells_of_seqs own.now → result ≡ Err (AutoFault.TooLong (min (cells_of_seqs own.now) u64.MAX)) }
-        ensures removed_then { cells_of_seqs own.now ≤ 120 → 120 < cells_of_seqs removed.now
-            → result ≡ Err (AutoFault.TooLong (min (cells_of_seqs removed.now) u64.MAX)) }
+        ensures fits { IsOk result → (cells_of own.now ≤ most_cells) × (cells_of removed.now ≤ most_cells) }
+        ensures otherwise_memory { (cells_of own.now ≤ most_cells) × (cells_of removed.now ≤ most_cells)
+            → IsOkUnless result AutoFault.Memory }
+        ensures own_first { most_cells < cells_of own.now
+            → result ≡ Err (AutoFault.TooLong (min (cells_of own.now) u64.MAX)) }
+        ensures removed_then { cells_of own.now ≤ most_cells → most_cells < cells_of removed.now
+            → result ≡ Err (AutoFault.TooLong (min (cells_of removed.now) u64.MAX)) }
     {
-        let own_cells = all_cells(own);
+        let own_cells = cells_of_seqs(own);
         if own_cells > MOST_CELLS {
             return Err(AutoFault::TooLong { cells: own_cells });
         }
-        let removed_cells = all_cells(removed);
+        let removed_cells = cells_of_seqs(removed);
         if removed_cells > MOST_CELLS {
             return Err(AutoFault::TooLong {
                 cells: removed_cells,
@@ -99,12 +74,18 @@ impl Automaton {
     /// takes memory only where it begins a run and the room for runs is used up. After want of memory the state is
     /// as before.
     pub fn push(&self, state: &mut TransState, sample: Option<Int>) -> Result<bool, Memory>
-        ensures answer { IfOk result (λ answer. (w : List (Option ℤ)) → Stands self.now.0 self.now.1 state.old w
-            → IsTrue answer ↔ Counts self.now.0 self.now.1 (w ++ sample ∷ [])) }
-        ensures stands { OnOk result ((w : List (Option ℤ)) → Stands self.now.0 self.now.1 state.old w
-            → Stands self.now.0 self.now.1 state.new (w ++ sample ∷ [])) }
+        ensures answer { IfOk result (λ answer. SaysKept self.now.0 self.now.1 state.old sample answer) }
+        ensures stands { OnOk result (TakesSample self.now.0 self.now.1 state.old sample state.new) }
         ensures memory { OnErr result (state.new ≡ state.old) }
     {
-        push_runs(&self.own, &self.removed, &sample, &mut state.runs)
+        let mut step = Step::once(self.own.allocator(), &self.removed, &sample);
+        let answer = push_runs(
+            &self.own,
+            &self.removed,
+            &mut step,
+            &sample,
+            &mut state.runs,
+        )?;
+        Ok(answer.counts)
     }
 }

@@ -1,9 +1,10 @@
 //! The cells of items in a mask, and which of them are marked.
 ghost use Rattle.std.specs.Prelude.{◌≡◌, ℕ, ◌+◌, ◌<◌, ◌≤◌, false, OnOk, IfOk};
+ghost use Rattle.cov_ground.specs.Limits.{most_cells};
 ghost use Rattle.trans_seq.specs.Windows.{is_end};
 ghost use Rattle.trans_seq.specs.Cells.{cells_of_repeat, cells_of_items, cells_of_seqs};
 ghost use Rattle.trans_auto.specs.Masks.{has_bit};
-ghost use Rattle.trans_auto.specs.Layout.{marked as marked_in, is_run as is_run_of, is_done as is_done_of, skips as skips_of, IsMarked, IsMarkedAlone, ItemsMarked, SeqsMarked, IsLaid, ItemsLaid, SeqsLaid, Grows};
+ghost use Rattle.trans_auto.specs.Layout.{is_marked as is_marked_of, is_run as is_run_of, is_done as is_done_of, skips as skips_of, IsMarked, IsMarkedAlone, ItemsMarked, SeqsMarked, IsLaid, ItemsLaid, SeqsLaid, Grows};
 
 use crate::bits::put;
 use cov_base::Memory;
@@ -45,15 +46,10 @@ pub(crate) struct ItemCells {
 
 /// How many cells an item has, where there are few.
 fn cells(repeat: Repeat) -> u32
-    requires { cells_of_repeat repeat ≤ 120 }
+    requires { cells_of_repeat repeat ≤ most_cells }
     ensures { result ≡ cells_of_repeat repeat }
 {
-    match repeat {
-        Repeat::Once => 1,
-        Repeat::Consec { high, .. } => high,
-        Repeat::Goto { high, .. } => 2 * high,
-        Repeat::NonConsec { high, .. } => 2 * high + 1,
-    }
+    repeat.cells() as u32
 }
 
 fn is_run(repeat: Repeat) -> bool
@@ -67,7 +63,7 @@ fn is_run(repeat: Repeat) -> bool
 
 /// Whether the item may be complete at its cell k.
 fn is_done(repeat: Repeat, last: bool, k: u32) -> bool
-    requires { k < 120 }
+    requires { k < most_cells }
     ensures { result ≡ is_done_of repeat last k }
 {
     match repeat {
@@ -91,9 +87,9 @@ fn skips(repeat: Repeat) -> bool
 }
 
 /// Whether cell k of an item is marked.
-fn marked(mark: Mark, repeat: Repeat, last: bool, k: u32) -> bool
-    requires { k < 120 }
-    ensures { result ≡ marked_in mark repeat last k }
+fn is_marked(mark: Mark, repeat: Repeat, last: bool, k: u32) -> bool
+    requires { k < most_cells }
+    ensures { result ≡ is_marked_of mark repeat last k }
 {
     match mark {
         Mark::All => true,
@@ -108,7 +104,7 @@ fn marked(mark: Mark, repeat: Repeat, last: bool, k: u32) -> bool
 
 /// Sets the bits of an item's marked cells, which begin at bit `base`.
 fn mark_item(mark: Mark, repeat: Repeat, last: bool, base: u32, start: u128) -> u128
-    requires fits { base + cells_of_repeat repeat ≤ 120 }
+    requires fits { base + cells_of_repeat repeat ≤ most_cells }
     requires clear { (k : ℕ) → base ≤ k → has_bit start k ≡ false }
     ensures below { (k : ℕ) → k < base → has_bit result k ≡ has_bit start k }
     ensures here { IsMarked mark base repeat last result }
@@ -116,14 +112,14 @@ fn mark_item(mark: Mark, repeat: Repeat, last: bool, base: u32, start: u128) -> 
 {
     let mut mask = start;
     for k in 0..cells(repeat) {
-        mask = put(mask, base + k, marked(mark, repeat, last, k));
+        mask = put(mask, base + k, is_marked(mark, repeat, last, k));
     }
     mask
 }
 
 /// The mask of an item's marked cells, which begin at bit `base`.
 fn item_mask(mark: Mark, repeat: Repeat, last: bool, base: u32) -> u128
-    requires { base + cells_of_repeat repeat ≤ 120 }
+    requires { base + cells_of_repeat repeat ≤ most_cells }
     ensures { IsMarkedAlone mark base repeat last result }
 {
     mark_item(mark, repeat, last, base, 0)
@@ -131,7 +127,7 @@ fn item_mask(mark: Mark, repeat: Repeat, last: bool, base: u32) -> u128
 
 /// The cells of an item, which begin at bit `base`.
 fn cells_of_item(repeat: Repeat, last: bool, base: u32) -> ItemCells
-    requires { base + cells_of_repeat repeat ≤ 120 }
+    requires { base + cells_of_repeat repeat ≤ most_cells }
     ensures { IsLaid base repeat last result }
 {
     ItemCells {
@@ -144,18 +140,15 @@ fn cells_of_item(repeat: Repeat, last: bool, base: u32) -> ItemCells
 
 /// How many cells the items have, where there are few.
 fn cells_of(items: &[Item]) -> u32
-    requires { cells_of_items items.now ≤ 120 }
+    requires { cells_of_items items.now ≤ most_cells }
     ensures { result ≡ cells_of_items items.now }
 {
-    match items {
-        [] => 0,
-        [item, rest @ ..] => cells(item.repeat) + cells_of(rest),
-    }
+    trans_seq::cells_of_items(items) as u32
 }
 
 /// Sets the bits of the items' marked cells.
 fn mark_items(mark: Mark, items: &[Item], base: u32, start: u128) -> u128
-    requires fits { base + cells_of_items items.now ≤ 120 }
+    requires fits { base + cells_of_items items.now ≤ most_cells }
     requires clear { (k : ℕ) → base ≤ k → has_bit start k ≡ false }
     ensures below { (k : ℕ) → k < base → has_bit result k ≡ has_bit start k }
     ensures here { ItemsMarked mark base result items.now }
@@ -172,7 +165,7 @@ fn mark_items(mark: Mark, items: &[Item], base: u32, start: u128) -> u128
 
 /// Sets the bits of the sequences' marked cells.
 pub(crate) fn mark_seqs(mark: Mark, seqs: &[Seq], base: u32, start: u128) -> u128
-    requires fits { base + cells_of_seqs seqs.now ≤ 120 }
+    requires fits { base + cells_of_seqs seqs.now ≤ most_cells }
     requires clear { (k : ℕ) → base ≤ k → has_bit start k ≡ false }
     ensures below { (k : ℕ) → k < base → has_bit result k ≡ has_bit start k }
     ensures here { SeqsMarked mark base result seqs.now }
@@ -189,7 +182,7 @@ pub(crate) fn mark_seqs(mark: Mark, seqs: &[Seq], base: u32, start: u128) -> u12
 
 /// Adds the cells of each item.
 fn lay_items(items: &[Item], base: u32, out: &mut Vec<ItemCells>) -> Result<(), Memory>
-    requires { base + cells_of_items items.now ≤ 120 }
+    requires { base + cells_of_items items.now ≤ most_cells }
     ensures { OnOk result (Grows out.old.items out.new.items (λ cells. ItemsLaid base items.now cells)) }
 {
     match items {
@@ -203,7 +196,7 @@ fn lay_items(items: &[Item], base: u32, out: &mut Vec<ItemCells>) -> Result<(), 
 
 /// The cells of each item.
 fn laid_items(alloc: Global, items: &[Item], base: u32) -> Result<List<ItemCells>, Memory>
-    requires { base + cells_of_items items.now ≤ 120 }
+    requires { base + cells_of_items items.now ≤ most_cells }
     ensures { IfOk result (λ cells. ItemsLaid base items.now cells) }
 {
     let mut cells = Vec::new(alloc);
@@ -218,7 +211,7 @@ pub(crate) fn lay_seqs(
     base: u32,
     out: &mut Vec<List<ItemCells>>,
 ) -> Result<(), Memory>
-    requires { base + cells_of_seqs seqs.now ≤ 120 }
+    requires { base + cells_of_seqs seqs.now ≤ most_cells }
     ensures { OnOk result (Grows out.old.items out.new.items (λ cells. SeqsLaid base seqs.now cells)) }
 {
     match seqs {

@@ -1,74 +1,98 @@
 //! The live starts of windows, as pairs of masks.
-ghost use Rattle.std.specs.Prelude.{◌≡◌, ◌≢◌, ℕ, List, ℤ, Option, [], ◌∷◌, ◌++◌, length, slice_index_or, ◌<◌, ◌≤◌, ◌↔◌, true, false, IsTrue, OnOk, OnErr, IfOk, Contains, AllPairs, ◌==◌, not};
+ghost use Rattle.std.specs.Prelude.{◌≡◌, ◌≢◌, ℕ, List, ℤ, Option, length, slice_index_or, ◌<◌, ◌≤◌, ◌↔◌, false, [], IsTrue, OnOk, OnErr, IfOk, Contains, AllPairs, ◌==◌, not};
 ghost use Rattle.std.specs.List.{filter};
-ghost use Rattle.trans_seq.specs.Windows.{Counts};
-ghost use Rattle.trans_auto.specs.State.{PairHolds, Stands, Remains, PairInside, PairSteps, Advances};
+ghost use Rattle.trans_seq.specs.Windows.{InSome, EndsWindow, EndsKept};
+ghost use Rattle.trans_auto.specs.Layout.{SeqsInside};
+ghost use Rattle.trans_auto.specs.State.{PairHolds, Stands, Remains, PairSteps, Advances, SaysKept, SaysWindow, TakesSample};
+ghost use Rattle.trans_auto.specs.Removing.{IsStep};
 
+use crate::removing::Step;
 use crate::side::Side;
+use crate::watcher::Answer;
 use cov_base::{Int, Memory};
 
-/// Which items of both sides the sample is inside.
-fn inside_of(own: &Side, removed: &Side, sample: &Option<Int>) -> (u128, u128)
-    ensures { PairInside own.now removed.now result sample.now }
-{
-    (own.inside(sample), removed.inside(sample))
-}
-
-/// What a run becomes at a sample.
-fn step_pair(
+/// What a run becomes at a sample, of which `inside` says where it is inside of the own items.
+fn moved_run(
     own: &Side,
     removed: &Side,
-    inside: (u128, u128),
-    fresh: bool,
+    inside: u128,
+    step: &mut Step,
     run: (u128, u128),
 ) -> (u128, u128)
-    ensures { (v : Option ℤ) → PairInside own.now removed.now inside v → PairSteps own.now removed.now v fresh run result }
+    ensures is { (v : Option ℤ) → SeqsInside 0 inside v own.now → IsStep removed.now v step.old
+        → PairSteps own.now removed.now v false run result }
+    ensures kept { (v : Option ℤ) → IsStep removed.now v step.old → IsStep removed.now v step.new }
 {
-    (
-        own.step(inside.0, fresh, run.0),
-        removed.step(inside.1, fresh, run.1),
-    )
+    let mine = own.step(inside, false, run.0);
+    let theirs = step.moved(removed, run.1);
+    (mine, theirs)
 }
 
-/// Whether a run's windows count.
-fn remains(own: &Side, removed: &Side, run: (u128, u128)) -> bool
-    ensures { (u : List (Option ℤ)) → (u ≡ [] → ⊥) → PairHolds own.now removed.now run u
-        → IsTrue result ↔ Remains own.now removed.now u }
+/// What a run says of the windows that it stands for.
+fn answer_of(own: &Side, removed: &Side, run: (u128, u128)) -> Answer
+    ensures counts { (u : List (Option ℤ)) → (u ≡ [] → ⊥) → PairHolds own.now removed.now run u
+        → IsTrue result.counts ↔ Remains own.now removed.now u }
+    ensures ends { (u : List (Option ℤ)) → (u ≡ [] → ⊥) → PairHolds own.now removed.now run u
+        → IsTrue result.ends ↔ InSome own.now u }
 {
-    let mine = own.accepts(run.0);
-    let theirs = removed.accepts(run.1);
-    mine && !theirs
-}
-
-/// Whether the windows of some run count.
-fn some_remains(own: &Side, removed: &Side, runs: &[(u128, u128)]) -> bool
-    ensures { (w : List (Option ℤ)) → Stands own.now removed.now runs.now w → IsTrue result ↔ Counts own.now removed.now w }
-{
-    for run in runs {
-        if remains(own, removed, *run) {
-            return true;
+    let ends = own.accepts(run.0, false);
+    if ends {
+        let removed = removed.accepts(run.1, false);
+        Answer {
+            counts: !removed,
+            ends: true,
+        }
+    } else {
+        Answer {
+            counts: false,
+            ends: false,
         }
     }
-    false
+}
+
+/// What the runs say together.
+fn answer(own: &Side, removed: &Side, runs: &[(u128, u128)]) -> Answer
+    ensures counts { (w : List (Option ℤ)) → Stands own.now removed.now runs.now w
+        → IsTrue result.counts ↔ EndsKept own.now removed.now w }
+    ensures ends { (w : List (Option ℤ)) → Stands own.now removed.now runs.now w
+        → IsTrue result.ends ↔ EndsWindow own.now w }
+{
+    let mut ends = false;
+    for run in runs {
+        let one = answer_of(own, removed, *run);
+        if one.counts {
+            return one;
+        }
+        if one.ends {
+            ends = true;
+        }
+    }
+    Answer {
+        counts: false,
+        ends,
+    }
 }
 
 /// Moves the first `count` runs by the sample.
 fn move_runs(
     own: &Side,
     removed: &Side,
-    inside: (u128, u128),
+    inside: u128,
+    step: &mut Step,
     runs: &mut Vec<(u128, u128)>,
     count: usize,
 )
     requires within { count ≤ length runs.old.items }
     ensures len { length runs.new.items ≡ length runs.old.items }
-    ensures moved { (v : Option ℤ) → PairInside own.now removed.now inside v → (k : ℕ) (d : ℕ × ℕ) → k < count
+    ensures step { (v : Option ℤ) → IsStep removed.now v step.old → IsStep removed.now v step.new }
+    ensures moved { (v : Option ℤ) → SeqsInside 0 inside v own.now → IsStep removed.now v step.old
+        → (k : ℕ) (d : ℕ × ℕ) → k < count
         → PairSteps own.now removed.now v false (slice_index_or runs.old.items k d) (slice_index_or runs.new.items k d) }
     ensures rest { (k : ℕ) (d : ℕ × ℕ) → count ≤ k → slice_index_or runs.new.items k d ≡ slice_index_or runs.old.items k d }
 {
     for k in 0..count {
         let run = runs[k];
-        runs[k] = step_pair(own, removed, inside, false, run);
+        runs[k] = moved_run(own, removed, inside, step, run);
     }
 }
 
@@ -104,37 +128,42 @@ fn keep_once(runs: &mut Vec<(u128, u128)>)
 fn advance(
     own: &Side,
     removed: &Side,
+    step: &mut Step,
     sample: &Option<Int>,
     runs: &mut Vec<(u128, u128)>,
 ) -> Result<(), Memory>
+    requires { IsStep removed.now sample.now step.old }
+    ensures step { IsStep removed.now sample.now step.new }
     ensures ok { OnOk result (Advances own.now removed.now sample.now runs.old.items runs.new.items) }
     ensures err { OnErr result (runs.new.items ≡ runs.old.items) }
 {
     let count = runs.len();
-    let inside = inside_of(own, removed, sample);
-    let begun = step_pair(own, removed, inside, true, (0, 0));
-    if begun.0 != 0 {
-        runs.push(begun)?;
+    let inside = own.inside(sample);
+    let begun = own.step(inside, true, 0);
+    if begun != 0 {
+        runs.push((begun, step.begun()))?;
     }
-    move_runs(own, removed, inside, runs, count);
+    move_runs(own, removed, inside, step, runs, count);
     keep_live(runs);
     keep_once(runs);
     Ok(())
 }
 
-/// Takes the runs over a sample, and says whether a window that ends there counts.
+/// Takes the runs over a sample, and says whether a window that ends there counts, and whether one ends there.
 pub(crate) fn push_runs(
     own: &Side,
     removed: &Side,
+    step: &mut Step,
     sample: &Option<Int>,
     runs: &mut Vec<(u128, u128)>,
-) -> Result<bool, Memory>
-    ensures answer { IfOk result (λ answer. (w : List (Option ℤ)) → Stands own.now removed.now runs.old.items w
-        → IsTrue answer ↔ Counts own.now removed.now (w ++ sample.now ∷ [])) }
-    ensures stands { OnOk result ((w : List (Option ℤ)) → Stands own.now removed.now runs.old.items w
-        → Stands own.now removed.now runs.new.items (w ++ sample.now ∷ [])) }
+) -> Result<Answer, Memory>
+    requires { IsStep removed.now sample.now step.old }
+    ensures step { IsStep removed.now sample.now step.new }
+    ensures counts { IfOk result (λ answer. SaysKept own.now removed.now runs.old.items sample.now answer.counts) }
+    ensures ends { IfOk result (λ answer. SaysWindow own.now removed.now runs.old.items sample.now answer.ends) }
+    ensures stands { OnOk result (TakesSample own.now removed.now runs.old.items sample.now runs.new.items) }
     ensures err { OnErr result (runs.new.items ≡ runs.old.items) }
 {
-    advance(own, removed, sample, runs)?;
-    Ok(some_remains(own, removed, runs.as_slice()))
+    advance(own, removed, step, sample, runs)?;
+    Ok(answer(own, removed, runs.as_slice()))
 }

@@ -1,6 +1,8 @@
 //! Sequences with the cells that they have in a mask.
-ghost use Rattle.std.specs.Prelude.{◌≡◌, ℕ, Option, ℤ, ◌≤◌, IfOk, Bool};
+ghost use Rattle.std.specs.Prelude.{◌≡◌, ℕ, Option, ℤ, ◌≤◌, ◌↔◌, IfOk, IsTrue, Bool, false};
+ghost use Rattle.cov_ground.specs.Limits.{most_cells};
 ghost use Rattle.trans_seq.specs.Cells.{cells_of_seqs};
+ghost use Rattle.trans_seq.specs.Windows.{SomeHasWord};
 ghost use Rattle.trans_auto.specs.Steps.{SeqsStep, SomeAccepts};
 ghost use Rattle.trans_auto.specs.Layout.{SeqsInside};
 
@@ -23,6 +25,7 @@ pub(crate) struct Side {
 impl Model for Side {
     ghost use Rattle.std.specs.Prelude.{List, ◌≤◌};
     ghost use Rattle.trans_seq.specs.declared.seq.Seq.{Seq};
+    ghost use Rattle.cov_ground.specs.Limits.{most_cells};
     ghost use Rattle.trans_seq.specs.Cells.{cells_of_seqs};
     ghost use Rattle.trans_auto.specs.Layout.{SeqsLaid, MasksLaid};
 
@@ -30,7 +33,7 @@ impl Model for Side {
 
     ghost view = { λ s. s.seqs.items };
 
-    ghost invariant = { λ s. (cells_of_seqs s.seqs.items ≤ 120) × SeqsLaid 0 s.seqs.items s.cells.items × MasksLaid s.seqs.items s.masks };
+    ghost invariant = { λ s. (cells_of_seqs s.seqs.items ≤ most_cells) × SeqsLaid 0 s.seqs.items s.cells.items × MasksLaid s.seqs.items s.masks };
 }
 
 fn copied_seqs(alloc: Global, seqs: &[Seq]) -> Result<Vec<Seq>, Memory>
@@ -46,7 +49,7 @@ fn copied_seqs(alloc: Global, seqs: &[Seq]) -> Result<Vec<Seq>, Memory>
 impl Side {
     /// The side of these sequences.
     pub(crate) fn new(alloc: Global, seqs: &[Seq]) -> Result<Side, Memory>
-        requires { cells_of_seqs seqs.now ≤ 120 }
+        requires { cells_of_seqs seqs.now ≤ most_cells }
         ensures { IfOk result (λ side. side ≡ seqs.now) }
     {
         let mut cells = Vec::new(alloc);
@@ -83,10 +86,22 @@ impl Side {
         moved(&self.masks, inside, enters, old)
     }
 
-    /// Whether a sequence is complete.
-    pub(crate) fn accepts(&self, mask: u128) -> bool
-        ensures { SomeAccepts 0 mask self.now result }
+    /// Whether a sequence is complete; `fresh` says whether no sample was taken.
+    pub(crate) fn accepts(&self, mask: u128, fresh: bool) -> bool
+        ensures { SomeAccepts fresh 0 mask self.now result }
     {
-        seqs_accept(&self.cells, mask, false)
+        seqs_accept(&self.cells, mask, fresh, false)
+    }
+
+    /// Whether the list of known values is a list of one of the sequences.
+    pub(crate) fn has(&self, list: &[Int]) -> bool
+        ensures { IsTrue result ↔ SomeHasWord self.now list.now }
+    {
+        let mut mask = 0;
+        for (k, value) in list.iter().enumerate() {
+            let inside = self.inside(&Some(*value));
+            mask = self.step(inside, k == 0, mask);
+        }
+        self.accepts(mask, list.is_empty())
     }
 }

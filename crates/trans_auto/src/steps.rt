@@ -127,15 +127,21 @@ fn items_accept(cells: &[ItemCells], mask: u128, enter: bool) -> bool
     }
 }
 
-/// Whether a sequence is complete, or `found`.
-pub(crate) fn seqs_accept(cells: &[cov_tree::List<ItemCells>], mask: u128, found: bool) -> bool
-    ensures { (base : ℕ) (seqs : List Seq) → SeqsLaid base seqs cells.now → (some : Bool) × SomeAccepts base mask seqs some × (result ≡ (found || some)) }
+/// Whether a sequence is complete, or `found`; `fresh` says whether no sample was taken.
+pub(crate) fn seqs_accept(
+    cells: &[cov_tree::List<ItemCells>],
+    mask: u128,
+    fresh: bool,
+    found: bool,
+) -> bool
+    ensures { (base : ℕ) (seqs : List Seq) → SeqsLaid base seqs cells.now
+        → (some : Bool) × SomeAccepts fresh base mask seqs some × (result ≡ (found || some)) }
 {
     match cells {
         [] => found,
         [one, rest @ ..] => {
-            let complete = items_accept(one.as_slice(), mask, false);
-            seqs_accept(rest, mask, found | complete)
+            let complete = items_accept(one.as_slice(), mask, fresh);
+            seqs_accept(rest, mask, fresh, found | complete)
         }
     }
 }

@@ -8,20 +8,20 @@ use std::test::Fail;
 use trans_seq::{Item, Repeat, Seq, window_in};
 
 /// An item: the low and the high end of its set, and its repetition.
-struct Step {
+struct Part {
     low: i128,
     high: i128,
     repeat: Repeat,
 }
 
 /// Sequences, each by its items.
-type Steps = &'static [&'static [Step]];
+type Parts = &'static [&'static [Part]];
 
 fn int(rt: &impl Abort, number: i128) -> Int {
     Int::new(number).expect(rt, "a number of the range")
 }
 
-fn sequence(rt: &impl Abort, alloc: Global, steps: &[Step]) -> Result<Seq, Memory> {
+fn sequence(rt: &impl Abort, alloc: Global, steps: &[Part]) -> Result<Seq, Memory> {
     let mut items = Vec::new(alloc);
     for step in steps {
         let range = [(int(rt, step.low), int(rt, step.high))];
@@ -35,7 +35,7 @@ fn sequence(rt: &impl Abort, alloc: Global, steps: &[Step]) -> Result<Seq, Memor
     })
 }
 
-fn sequences(rt: &impl Abort, alloc: Global, rows: &[&[Step]]) -> Result<Vec<Seq>, Memory> {
+fn sequences(rt: &impl Abort, alloc: Global, rows: &[&[Part]]) -> Result<Vec<Seq>, Memory> {
     let mut seqs = Vec::new(alloc);
     for steps in rows {
         seqs.push(sequence(rt, alloc, steps)?)?;
@@ -45,8 +45,8 @@ fn sequences(rt: &impl Abort, alloc: Global, rows: &[&[Step]]) -> Result<Vec<Seq
 
 /// A bin's sequences, those that remove windows from it, a trace, and the answers.
 struct Trace {
-    own: Steps,
-    removed: Steps,
+    own: Parts,
+    removed: Parts,
     samples: &'static [i128],
     answers: &'static [bool],
 }
@@ -54,17 +54,17 @@ struct Trace {
 static TRACES: [Trace; 8] = [
     Trace {
         own: &[&[
-            Step {
+            Part {
                 low: 1,
                 high: 1,
                 repeat: Repeat::Once,
             },
-            Step {
+            Part {
                 low: 3,
                 high: 3,
                 repeat: Repeat::NonConsec { low: 2, high: 2 },
             },
-            Step {
+            Part {
                 low: 6,
                 high: 6,
                 repeat: Repeat::Once,
@@ -76,17 +76,17 @@ static TRACES: [Trace; 8] = [
     },
     Trace {
         own: &[&[
-            Step {
+            Part {
                 low: 1,
                 high: 1,
                 repeat: Repeat::Once,
             },
-            Step {
+            Part {
                 low: 3,
                 high: 3,
                 repeat: Repeat::NonConsec { low: 2, high: 2 },
             },
-            Step {
+            Part {
                 low: 6,
                 high: 6,
                 repeat: Repeat::Once,
@@ -98,17 +98,17 @@ static TRACES: [Trace; 8] = [
     },
     Trace {
         own: &[&[
-            Step {
+            Part {
                 low: 1,
                 high: 1,
                 repeat: Repeat::Once,
             },
-            Step {
+            Part {
                 low: 3,
                 high: 3,
                 repeat: Repeat::Goto { low: 2, high: 2 },
             },
-            Step {
+            Part {
                 low: 6,
                 high: 6,
                 repeat: Repeat::Once,
@@ -120,17 +120,17 @@ static TRACES: [Trace; 8] = [
     },
     Trace {
         own: &[&[
-            Step {
+            Part {
                 low: 1,
                 high: 1,
                 repeat: Repeat::Once,
             },
-            Step {
+            Part {
                 low: 3,
                 high: 3,
                 repeat: Repeat::Goto { low: 2, high: 2 },
             },
-            Step {
+            Part {
                 low: 6,
                 high: 6,
                 repeat: Repeat::Once,
@@ -142,29 +142,29 @@ static TRACES: [Trace; 8] = [
     },
     Trace {
         own: &[&[
-            Step {
+            Part {
                 low: 1,
                 high: 1,
                 repeat: Repeat::Once,
             },
-            Step {
+            Part {
                 low: 2,
                 high: 2,
                 repeat: Repeat::Once,
             },
         ]],
         removed: &[&[
-            Step {
+            Part {
                 low: 0,
                 high: 0,
                 repeat: Repeat::Once,
             },
-            Step {
+            Part {
                 low: 1,
                 high: 1,
                 repeat: Repeat::Once,
             },
-            Step {
+            Part {
                 low: 2,
                 high: 2,
                 repeat: Repeat::Once,
@@ -175,34 +175,34 @@ static TRACES: [Trace; 8] = [
     },
     Trace {
         own: &[&[
-            Step {
+            Part {
                 low: 0,
                 high: 0,
                 repeat: Repeat::Once,
             },
-            Step {
+            Part {
                 low: 1,
                 high: 1,
                 repeat: Repeat::Once,
             },
-            Step {
+            Part {
                 low: 2,
                 high: 2,
                 repeat: Repeat::Once,
             },
         ]],
         removed: &[&[
-            Step {
+            Part {
                 low: 0,
                 high: 0,
                 repeat: Repeat::Once,
             },
-            Step {
+            Part {
                 low: 1,
                 high: 1,
                 repeat: Repeat::Once,
             },
-            Step {
+            Part {
                 low: 2,
                 high: 2,
                 repeat: Repeat::Once,
@@ -212,7 +212,7 @@ static TRACES: [Trace; 8] = [
         answers: &[false, false, false],
     },
     Trace {
-        own: &[&[Step {
+        own: &[&[Part {
             low: 3,
             high: 3,
             repeat: Repeat::NonConsec { low: 1, high: 1 },
@@ -223,17 +223,17 @@ static TRACES: [Trace; 8] = [
     },
     Trace {
         own: &[&[
-            Step {
+            Part {
                 low: 1,
                 high: 1,
                 repeat: Repeat::Once,
             },
-            Step {
+            Part {
                 low: 2,
                 high: 2,
                 repeat: Repeat::NonConsec { low: 1, high: 1 },
             },
-            Step {
+            Part {
                 low: 3,
                 high: 3,
                 repeat: Repeat::Once,
@@ -263,31 +263,31 @@ fn worked_traces(rt: HostRuntime) -> Result<(), Fail> {
 
 /// Own and removing sequences whose answers are compared with the search.
 struct Sides {
-    own: Steps,
-    removed: Steps,
+    own: Parts,
+    removed: Parts,
 }
 
 static SIDES: [Sides; 6] = [
     Sides {
         own: &[
             &[
-                Step {
+                Part {
                     low: 1,
                     high: 1,
                     repeat: Repeat::Once,
                 },
-                Step {
+                Part {
                     low: 1,
                     high: 1,
                     repeat: Repeat::NonConsec { low: 1, high: 2 },
                 },
-                Step {
+                Part {
                     low: 2,
                     high: 2,
                     repeat: Repeat::Once,
                 },
             ],
-            &[Step {
+            &[Part {
                 low: 0,
                 high: 1,
                 repeat: Repeat::Consec { low: 2, high: 3 },
@@ -295,23 +295,23 @@ static SIDES: [Sides; 6] = [
         ],
         removed: &[
             &[
-                Step {
+                Part {
                     low: 0,
                     high: 0,
                     repeat: Repeat::Once,
                 },
-                Step {
+                Part {
                     low: 1,
                     high: 1,
                     repeat: Repeat::Once,
                 },
-                Step {
+                Part {
                     low: 2,
                     high: 2,
                     repeat: Repeat::Once,
                 },
             ],
-            &[Step {
+            &[Part {
                 low: 2,
                 high: 2,
                 repeat: Repeat::Goto { low: 2, high: 2 },
@@ -320,18 +320,18 @@ static SIDES: [Sides; 6] = [
     },
     Sides {
         own: &[&[
-            Step {
+            Part {
                 low: 0,
                 high: 1,
                 repeat: Repeat::Consec { low: 1, high: 2 },
             },
-            Step {
+            Part {
                 low: 1,
                 high: 1,
                 repeat: Repeat::Goto { low: 1, high: 2 },
             },
         ]],
-        removed: &[&[Step {
+        removed: &[&[Part {
             low: 1,
             high: 1,
             repeat: Repeat::Consec { low: 3, high: 4 },
@@ -339,28 +339,28 @@ static SIDES: [Sides; 6] = [
     },
     Sides {
         own: &[&[
-            Step {
+            Part {
                 low: 1,
                 high: 1,
                 repeat: Repeat::Consec { low: 0, high: 1 },
             },
-            Step {
+            Part {
                 low: 2,
                 high: 2,
                 repeat: Repeat::Goto { low: 0, high: 1 },
             },
-            Step {
+            Part {
                 low: 0,
                 high: 1,
                 repeat: Repeat::NonConsec { low: 0, high: 2 },
             },
-            Step {
+            Part {
                 low: 2,
                 high: 2,
                 repeat: Repeat::Once,
             },
         ]],
-        removed: &[&[Step {
+        removed: &[&[Part {
             low: 1,
             high: 2,
             repeat: Repeat::Consec { low: 2, high: 2 },
@@ -369,24 +369,24 @@ static SIDES: [Sides; 6] = [
     Sides {
         own: &[
             &[
-                Step {
+                Part {
                     low: 0,
                     high: 0,
                     repeat: Repeat::NonConsec { low: 1, high: 1 },
                 },
-                Step {
+                Part {
                     low: 1,
                     high: 1,
                     repeat: Repeat::NonConsec { low: 2, high: 2 },
                 },
             ],
             &[
-                Step {
+                Part {
                     low: 2,
                     high: 2,
                     repeat: Repeat::Once,
                 },
-                Step {
+                Part {
                     low: 0,
                     high: 0,
                     repeat: Repeat::Goto { low: 1, high: 3 },
@@ -394,12 +394,12 @@ static SIDES: [Sides; 6] = [
             ],
         ],
         removed: &[
-            &[Step {
+            &[Part {
                 low: 0,
                 high: 2,
                 repeat: Repeat::Consec { low: 5, high: 6 },
             }],
-            &[Step {
+            &[Part {
                 low: 0,
                 high: 0,
                 repeat: Repeat::NonConsec { low: 2, high: 3 },
@@ -409,18 +409,18 @@ static SIDES: [Sides; 6] = [
     Sides {
         own: &[
             &[
-                Step {
+                Part {
                     low: 1,
                     high: 1,
                     repeat: Repeat::Consec { low: 2, high: 1 },
                 },
-                Step {
+                Part {
                     low: 1,
                     high: 1,
                     repeat: Repeat::Once,
                 },
             ],
-            &[Step {
+            &[Part {
                 low: 2,
                 high: 2,
                 repeat: Repeat::NonConsec { low: 0, high: 0 },
@@ -430,30 +430,30 @@ static SIDES: [Sides; 6] = [
         removed: &[],
     },
     Sides {
-        own: &[&[Step {
+        own: &[&[Part {
             low: 0,
             high: 2,
             repeat: Repeat::Consec { low: 1, high: 6 },
         }]],
         removed: &[
-            &[Step {
+            &[Part {
                 low: 0,
                 high: 2,
                 repeat: Repeat::Consec { low: 1, high: 1 },
             }],
             &[
-                Step {
+                Part {
                     low: 1,
                     high: 1,
                     repeat: Repeat::Once,
                 },
-                Step {
+                Part {
                     low: 0,
                     high: 2,
                     repeat: Repeat::Consec { low: 1, high: 2 },
                 },
             ],
-            &[Step {
+            &[Part {
                 low: 2,
                 high: 2,
                 repeat: Repeat::Goto { low: 2, high: 3 },
@@ -466,15 +466,22 @@ fn in_some(seqs: &[Seq], window: &[Option<Int>]) -> bool {
     seqs.iter().any(|seq| window_in(seq, window))
 }
 
-/// Whether a window that ends with the trace is in an own sequence and in no removing one.
-fn counts(own: &[Seq], removed: &[Seq], trace: &[Option<Int>]) -> bool {
+/// Whether a window that ends with the trace is in an own sequence, and whether one is in no removing one.
+fn ending(own: &[Seq], removed: &[Seq], trace: &[Option<Int>]) -> Answer {
+    let mut answer = Answer {
+        counts: false,
+        ends: false,
+    };
     for from in 0..trace.len() {
         let window = &trace[from..];
-        if in_some(own, window) && !in_some(removed, window) {
-            return true;
+        if in_some(own, window) {
+            answer.ends = true;
+            if !in_some(removed, window) {
+                answer.counts = true;
+            }
         }
     }
-    false
+    answer
 }
 
 /// The sample of a digit to the base 4, of which 3 is unknown.
@@ -485,23 +492,73 @@ fn sample_of(rt: &impl Abort, digit: u32) -> Option<Int> {
     Some(int(rt, i128::from(digit)))
 }
 
+/// A bin twice, with its removing sequences and what they say of the latest sample.
+#[derive(Drop)]
+struct Twice<'a> {
+    watcher: &'a Watcher,
+    removing: &'a Removing,
+    step: &'a mut Step,
+    first: TransState,
+    second: TransState,
+}
+
+impl Twice<'_> {
+    /// The answer at the next sample, where both bins give it.
+    fn push(&mut self, sample: Option<Int>) -> Result<Option<Answer>, Memory> {
+        self.removing.begin(self.step, sample);
+        let first = self
+            .watcher
+            .push(self.removing, self.step, &mut self.first, sample)?;
+        let second = self
+            .watcher
+            .push(self.removing, self.step, &mut self.second, sample)?;
+        if first == second {
+            return Ok(Some(first));
+        }
+        Ok(None)
+    }
+}
+
 /// Pushes the trace of that number, its digits to the base 4, and compares each answer.
 fn compare(
+    rt: &impl Abort,
+    own: &[Seq],
+    removed: &[Seq],
+    bins: &mut Twice<'_>,
+    trace: &mut Vec<Option<Int>>,
+    number: u32,
+) -> Result<(), Memory> {
+    let mut rest = number;
+    for _ in 0..5 {
+        let sample = sample_of(rt, rest % 4);
+        trace.push(sample)?;
+        let given = bins.push(sample)?;
+        rest /= 4;
+        assert!(rt; given == Some(ending(own, removed, trace.as_slice())));
+    }
+    Ok(())
+}
+
+/// All traces of five samples.
+fn compare_all(
     rt: &impl Abort,
     alloc: Global,
     own: &[Seq],
     removed: &[Seq],
-    number: u32,
-) -> Result<(), Fail> {
-    let automaton = Automaton::new(alloc, own, removed)?;
-    let mut state = automaton.start();
-    let mut trace = Vec::new(alloc);
-    let mut rest = number;
-    for _ in 0..6 {
-        trace.push(sample_of(rt, rest % 4))?;
-        let given = automaton.push(&mut state, sample_of(rt, rest % 4))?;
-        rest /= 4;
-        assert_eq!(rt; given, counts(own, removed, trace.as_slice()));
+) -> Result<(), AutoFault> {
+    let watcher = Watcher::new(alloc, own)?;
+    let removing = Removing::new(alloc, removed)?;
+    let mut step = Step::new(alloc);
+    for number in 0..1024 {
+        let mut trace = Vec::new(alloc);
+        let mut bins = Twice {
+            watcher: &watcher,
+            removing: &removing,
+            step: &mut step,
+            first: watcher.start(),
+            second: watcher.start(),
+        };
+        compare(rt, own, removed, &mut bins, &mut trace, number)?;
     }
     Ok(())
 }
@@ -512,8 +569,54 @@ fn beside_the_search(rt: HostRuntime) -> Result<(), Fail> {
     for row in &SIDES {
         let own = sequences(&rt, alloc, row.own)?;
         let removed = sequences(&rt, alloc, row.removed)?;
-        for number in 0..4096 {
-            compare(&rt, alloc, own.as_slice(), removed.as_slice(), number)?;
+        compare_all(&rt, alloc, own.as_slice(), removed.as_slice())?;
+    }
+    Ok(())
+}
+
+/// The list of that number, its digits to the base 3, as values and as samples.
+fn list_of(
+    rt: &impl Abort,
+    len: u32,
+    number: u32,
+    list: &mut Vec<Int>,
+    window: &mut Vec<Option<Int>>,
+) -> Result<(), Memory> {
+    let mut rest = number;
+    for _ in 0..len {
+        let value = int(rt, i128::from(rest % 3));
+        list.push(value)?;
+        window.push(Some(value))?;
+        rest /= 3;
+    }
+    Ok(())
+}
+
+/// Whether each list of that many values is removed where the search finds it among the sequences.
+fn removes_each(
+    rt: &impl Abort,
+    alloc: Global,
+    removing: &Removing,
+    removed: &[Seq],
+    len: u32,
+) -> Result<(), Memory> {
+    for number in 0..3u32.saturating_pow(len) {
+        let mut list = Vec::new(alloc);
+        let mut window = Vec::new(alloc);
+        list_of(rt, len, number, &mut list, &mut window)?;
+        assert!(rt; removing.removes(list.as_slice()) == in_some(removed, window.as_slice()));
+    }
+    Ok(())
+}
+
+#[test]
+fn removes_whole_lists(rt: HostRuntime) -> Result<(), Fail> {
+    let alloc = rt.alloc();
+    for row in &SIDES {
+        let removed = sequences(&rt, alloc, row.own)?;
+        let removing = Removing::new(alloc, removed.as_slice())?;
+        for len in 0..6 {
+            removes_each(&rt, alloc, &removing, removed.as_slice(), len)?;
         }
     }
     Ok(())
@@ -521,19 +624,19 @@ fn beside_the_search(rt: HostRuntime) -> Result<(), Fail> {
 
 /// Two sides, and the refusal.
 struct Refused {
-    own: Steps,
-    removed: Steps,
+    own: Parts,
+    removed: Parts,
     outcome: Result<(), AutoFault>,
 }
 
 static REFUSED: [Refused; 4] = [
     Refused {
-        own: &[&[Step {
+        own: &[&[Part {
             low: 5,
             high: 5,
             repeat: Repeat::Goto { low: 1, high: 60 },
         }]],
-        removed: &[&[Step {
+        removed: &[&[Part {
             low: 5,
             high: 5,
             repeat: Repeat::Goto { low: 1, high: 60 },
@@ -541,18 +644,18 @@ static REFUSED: [Refused; 4] = [
         outcome: Ok(()),
     },
     Refused {
-        own: &[&[Step {
+        own: &[&[Part {
             low: 5,
             high: 5,
             repeat: Repeat::NonConsec { low: 1, high: 60 },
         }]],
         removed: &[&[
-            Step {
+            Part {
                 low: 5,
                 high: 5,
                 repeat: Repeat::Consec { low: 1, high: 120 },
             },
-            Step {
+            Part {
                 low: 5,
                 high: 5,
                 repeat: Repeat::Goto { low: 1, high: 1 },
@@ -561,18 +664,18 @@ static REFUSED: [Refused; 4] = [
         outcome: Err(AutoFault::TooLong { cells: 121 }),
     },
     Refused {
-        own: &[&[Step {
+        own: &[&[Part {
             low: 5,
             high: 5,
             repeat: Repeat::Goto { low: 1, high: 60 },
         }]],
         removed: &[&[
-            Step {
+            Part {
                 low: 5,
                 high: 5,
                 repeat: Repeat::Consec { low: 1, high: 120 },
             },
-            Step {
+            Part {
                 low: 5,
                 high: 5,
                 repeat: Repeat::Goto { low: 1, high: 1 },
@@ -582,7 +685,7 @@ static REFUSED: [Refused; 4] = [
     },
     Refused {
         own: &[
-            &[Step {
+            &[Part {
                 low: 5,
                 high: 5,
                 repeat: Repeat::NonConsec {
@@ -590,7 +693,7 @@ static REFUSED: [Refused; 4] = [
                     high: 4294967295,
                 },
             }],
-            &[Step {
+            &[Part {
                 low: 1,
                 high: 1,
                 repeat: Repeat::Once,

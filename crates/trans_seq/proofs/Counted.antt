@@ -56,6 +56,11 @@ news_from before (x ∷ xs) w h =
       | inr later ↦ among_later x xs w (news_from (grown before x) xs w later)
     ]
 
+-- the lists of a sequence are distinct
+pub listed-differ : (items : List Item) → AllDiffer (listed items)
+unfolding listed
+listed-differ items = news_differ [] (all_of (by_lengths items))
+
 -- ---- there are no more of them than of lists that have an image of each
 
 without_one : Word → List Word → List Word
@@ -86,7 +91,7 @@ unfolding without_one
 stays w [] u ne h = h
 stays w (x ∷ xs) u ne h = stays_by w x xs (pointwise int_eq w x) refl u ne (among_cons x xs u h) (stays w xs u ne)
 
-no_more : (f : Word → Word) → ((u w : Word) → f u ≡ f w → u ≡ w) → (ys : List Word) → AllDiffer ys → (zs : List Word) → ((w : Word) → is_among ys w ≡ true → is_among zs (f w) ≡ true) → length ys ≤ length zs
+pub no_more : (f : Word → Word) → ((u w : Word) → f u ≡ f w → u ≡ w) → (ys : List Word) → AllDiffer ys → (zs : List Word) → ((w : Word) → is_among ys w ≡ true → is_among zs (f w) ≡ true) → length ys ≤ length zs
 no_more f one [] differ zs has = omega arith
 no_more f one (y ∷ ys) differ zs has =
     let here = shorter (f y) zs (has y (among_first y ys)) in
@@ -216,7 +221,7 @@ continued-joined numbers zero first group =
     ∙ ap (λ l. map (λ w. first ++ w) l) (sym (append-nil (map (λ o. [] ++ o) group)))
 continued-joined numbers (suc n) first group = continued_by numbers numbers n first group (λ v. continued-joined numbers n (first ++ v ∷ []) group)
 
-map-same : (xs : List Word) → map (λ w. [] ++ w) xs ≡ xs
+pub map-same : (xs : List Word) → map (λ w. [] ++ w) xs ≡ xs
 map-same [] = refl
 map-same (x ∷ xs) = ap (λ l. x ∷ l) (map-same xs)
 

@@ -8,3 +8,6 @@ pub mod Counted
 pub mod FoundLemmas
 pub mod ListingLemmas
 pub mod Written
+pub mod MergeLemmas
+pub mod ReachLemmas
+pub mod WordLemmas

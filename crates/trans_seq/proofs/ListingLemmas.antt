@@ -6,6 +6,7 @@ use Rattle.std.specs.List.{list_any}
 use Rattle.std.proofs.lemmas.Slice.{first_rest}
 use Rattle.std.proofs.lemmas.List.Elements.{Contains-get_or}
 use Rattle.cov_base.specs.Sets.{written}
+use Rattle.cov_ground.specs.Limits.{most_bins, most_cells}
 use Rattle.trans_seq.specs.declared.found.Found.{Found}
 use Rattle.trans_seq.specs.declared.fault.ExpandFault.{ExpandFault}
 use Rattle.trans_seq.specs.declared.fault.ExpandFault.TheVariants.{Unbounded, TooLong, TooManyBins, Memory}
@@ -36,7 +37,7 @@ size_at ns low n i size are within is = is ∙ sym (from_on_at low n i size with
 pub made : (start end : Found) (gs : List (List Word)) → start.groups.items ≡ [] → Extends start end gs → end.groups.items ≡ packed (new_groups [] gs)
 made start end gs none e = e.groups ∙ ap (λ l. l ++ packed (new_groups (all_of l) gs)) none
 
-pub made_few : (end : Found) → Holds end → end.fresh.items ≡ [] → length (all_of end.groups.items) ≤ 65536
+pub made_few : (end : Found) → Holds end → end.fresh.items ≡ [] → length (all_of end.groups.items) ≤ most_bins
 made_few end h none =
     let all : lists_of end ≡ all_of end.groups.items = ap (λ f. all_of end.groups.items ++ f) none ∙ append-nil (all_of end.groups.items) in
     omega (arith, h.few, h.count, ap length all)
@@ -93,7 +94,7 @@ listed_none = refl
 
 -- ---- refusals
 
-pub refuses_after : (items : List Item) (f : ExpandFault) → list_any is_endless items ≡ false → cells_of_items items ≤ 120 → FailsAfter [] (all_of (by_lengths items)) f → RefusesToExpand items f
+pub refuses_after : (items : List Item) (f : ExpandFault) → list_any is_endless items ≡ false → cells_of_items items ≤ most_cells → FailsAfter [] (all_of (by_lengths items)) f → RefusesToExpand items f
 unfolding listed
 refuses_after items Unbounded bounded short h = absurd h
 refuses_after items (TooLong cells) bounded short h = absurd h
@@ -168,9 +169,9 @@ no_items [] h = refl
 no_items (item ∷ items) h = absurd (omega (arith, h))
 
 pub few_listed : {E : Type 0} (items : List Item) (groups : List (List Word)) → groups ≡ packed (new_groups [] (by_lengths items))
-    → (r : Result (Vec (List Word) Global) E) → IfOk r (λ made. made.items ≡ groups) → IfOk r (λ made. length (all_of made.items) ≤ 65536) → IfOk r (λ made. length (listed items) ≤ 65536)
+    → (r : Result (Vec (List Word) Global) E) → IfOk r (λ made. made.items ≡ groups) → IfOk r (λ made. length (all_of made.items) ≤ most_bins) → IfOk r (λ made. length (listed items) ≤ most_bins)
 few_listed items groups same (Ok made) is few = omega (arith, few, ap length (listed_all items ∙ sym (ap all_of (is ∙ same))))
 few_listed items groups same (Err e) is few = few
 
-pub short_cells : (cells most : ℕ) → most ≡ min cells (2 ^ 64 - 1) → most ≤ 120 → cells ≤ 120
+pub short_cells : (cells most : ℕ) → most ≡ min cells (2 ^ 64 - 1) → most ≤ most_cells → cells ≤ most_cells
 short_cells cells most e h = omega (arith, e, h)

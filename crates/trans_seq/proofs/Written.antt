@@ -27,7 +27,7 @@ module _ {X Y : Type 0} where
     | inr later ↦ let s = from_map f xs y later in (s.0, later_in x xs s.0 s.1, s.2)
   ]
 
-  from_flat_map : (g : X → List Y) (xs : List X) (y : Y) → Contains (flat_map g xs) y → (x : X) × Contains xs x × Contains (g x) y
+  pub from_flat_map : (g : X → List Y) (xs : List X) (y : Y) → Contains (flat_map g xs) y → (x : X) × Contains xs x × Contains (g x) y
   from_flat_map g [] y c = absurd (none_in y c)
   from_flat_map g (x ∷ xs) y c = elim (Contains-append_cases (g x) (flat_map g xs) y c) [
     | inl here ↦ (x, first_in x xs, here)
@@ -163,14 +163,14 @@ from-one (item ∷ items) bounded w held =
     let there = in_flat_map (λ n. map (λ group. joined (choices numbers n) group) groups) (lengths item.repeat) n group here.0 (in_map (λ group. joined (choices numbers n) group) groups g.0 g.1) in
     subst (λ u. Contains (all_of (by_lengths (item ∷ items))) u) (take-append-drop cut w) (in_flat_map (λ group. group) (by_lengths (item ∷ items)) group (first ++ other) there made)
 
-among-of : (lists : List Word) (w : Word) → Contains lists w → is_among lists w ≡ true
+pub among-of : (lists : List Word) (w : Word) → Contains lists w → is_among lists w ≡ true
 among-of [] w c = absurd (none_in w c)
 among-of (x ∷ xs) w c = elim (cases_in x xs w c) [
   | inl same ↦ subst (λ u. is_among (x ∷ xs) u ≡ true) same (among_first x xs)
   | inr later ↦ among_later x xs w (among-of xs w later)
 ]
 
-among-from : (lists : List Word) (w : Word) → is_among lists w ≡ true → Contains lists w
+pub among-from : (lists : List Word) (w : Word) → is_among lists w ≡ true → Contains lists w
 among-from [] w e = absurd (true≢false (sym e))
 among-from (x ∷ xs) w e = elim (among_cons x xs w e) [
   | inl same ↦ subst (λ u. Contains (x ∷ xs) u) (sym same) (first_in x xs)

@@ -1,5 +1,5 @@
 -- How large sequences are.
-use Rattle.std.specs.Prelude.{ℕ, ◌+◌, ◌*◌, List, [], ◌∷◌}
+use Rattle.std.specs.Prelude.{◌≡◌, ℕ, ◌+◌, ◌*◌, List, [], ◌∷◌, ◌++◌}
 use Rattle.trans_seq.specs.declared.seq.Item.{Item}
 use Rattle.trans_seq.specs.declared.seq.Seq.{Seq}
 use Rattle.trans_seq.specs.declared.seq.Repeat.{Repeat}
@@ -21,3 +21,7 @@ cells_of_items (item ∷ items) = cells_of_repeat item.repeat + cells_of_items i
 abbrev pub cells_of_seqs : List Seq → ℕ
 cells_of_seqs [] = 0
 cells_of_seqs (seq ∷ seqs) = cells_of_items seq.items + cells_of_seqs seqs
+
+-- a law: lists of sequences that stand one behind the other have the sum of their cells
+abbrev pub CellsAdd : Type 0
+CellsAdd = (first rest : List Seq) → cells_of_seqs (first ++ rest) ≡ cells_of_seqs first + cells_of_seqs rest

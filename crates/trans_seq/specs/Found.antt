@@ -5,6 +5,7 @@ use Rattle.std.specs.List.{flat_map}
 use Rattle.std.specs.Cmp.Lexicographic.{pointwise}
 use Rattle.std.specs.HashSet.{contains}
 use Rattle.cov_base.specs.Sets.{written}
+use Rattle.cov_ground.specs.Limits.{most_bins}
 use Rattle.std.specs.Prelude.{Vec}
 use Rattle.std.specs.Global.{Global}
 use Rattle.trans_seq.specs.declared.found.Found.{Found}
@@ -54,7 +55,7 @@ lists_of found = all_of found.groups.items ++ found.fresh.items
 pub record Holds (found : Found) : Type 0 where
   pub seen : (key : Vec ℤ Global) → contains (λ a b. pointwise int_eq a.items b.items) found.seen key ≡ is_among (lists_of found) key.items
   pub count : found.count ≡ length (lists_of found)
-  pub few : found.count ≤ 65536
+  pub few : found.count ≤ most_bins
 
 -- the lists were tried one after the other, and the new ones among them taken into the open group
 pub record Takes (old new : Found) (ws : List (List ℤ)) : Type 0 where
@@ -66,7 +67,7 @@ pub record Takes (old new : Found) (ws : List (List ℤ)) : Type 0 where
 abbrev pub FailsAfter : List (List ℤ) → List (List ℤ) → ExpandFault → Type 0
 FailsAfter before ws Unbounded = ⊥
 FailsAfter before ws (TooLong cells) = ⊥
-FailsAfter before ws (TooManyBins count) = (count ≡ 65537) × (65536 < length before + length (news before ws))
+FailsAfter before ws (TooManyBins count) = (count ≡ most_bins + 1) × (most_bins < length before + length (news before ws))
 FailsAfter before ws Memory = ⊤
 
 -- the open group was closed

@@ -1,4 +1,6 @@
 pub mod Cells
+pub mod Reach
 pub mod Found
 pub mod Lists
 pub mod Windows
+pub mod Words

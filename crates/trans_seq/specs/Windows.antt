@@ -1,5 +1,5 @@
 -- Which windows of samples are lists of an item and of a sequence (IEEE 1800-2017, 19.5.2).
-use Rattle.std.specs.Prelude.{◌≡◌, ℕ, ◌<◌, ◌≤◌, not, Bool, true, false, Option, Some, None, List, [], ◌∷◌, length, take, drop, All, Any, zero, suc, ℤ}
+use Rattle.std.specs.Prelude.{◌≡◌, ℕ, ◌<◌, ◌≤◌, not, Bool, true, false, Option, Some, None, List, [], ◌∷◌, length, take, drop, map, All, Any, zero, suc, ℤ}
 use Rattle.cov_base.specs.Sets.{written, is_in}
 use Rattle.trans_seq.specs.declared.seq.Item.{Item}
 use Rattle.trans_seq.specs.declared.seq.Seq.{Seq}
@@ -80,9 +80,22 @@ InSeq (item ∷ items) w = Then (InItem item (is_end items)) (InSeq items) w
 abbrev pub InSome : List Seq → List (Option ℤ) → Type 0
 InSome seqs w = Any (λ seq. InSeq seq.items w) seqs
 
+-- the list of values is a list of the sequence, or of one of them
+abbrev pub HasWord : Seq → List ℤ → Type 0
+HasWord seq word = InSeq seq.items (map Some word)
+
+abbrev pub SomeHasWord : List Seq → List ℤ → Type 0
+SomeHasWord seqs word = InSome seqs (map Some word)
+
+-- some window that ends with the last sample, and isn't empty, is in one of the sequences
+pub record EndsWindow (seqs : List Seq) (w : List (Option ℤ)) : Type 0 where
+  pub from : ℕ
+  pub some : from < length w
+  pub is_list : InSome seqs (drop from w)
+
 -- Some window that ends with the last sample, and isn't empty, is in a sequence of own and in none of removed: those of
 -- the ignored and the illegal transitions (19.5.5, 19.5.6).
-pub record Counts (own removed : List Seq) (w : List (Option ℤ)) : Type 0 where
+pub record EndsKept (own removed : List Seq) (w : List (Option ℤ)) : Type 0 where
   pub from : ℕ
   pub some : from < length w
   pub in_own : InSome own (drop from w)

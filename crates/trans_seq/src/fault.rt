@@ -11,11 +11,11 @@ pub enum ExpandFault {
     /// An item has `[->` or `[=`, and so lists of any length.
     #[error("the sequence has lists of any length")]
     Unbounded,
-    /// The greatest lengths of the items are more than 120 together: that many, or the greatest `u64` where they are
+    /// The greatest lengths of the items are more than `MOST_CELLS` together: that many, or the greatest `u64` where they are
     /// more than it says.
     #[error("the sequence has lists of {cells} values")]
     TooLong { cells: u64 },
-    /// More than 65,536 lists are distinct: `count` is 65,537, at which the search ends.
+    /// More than `MOST_BINS` lists are distinct: `count` is one more than the limit, at which the search ends.
     #[error("the sequence has {count} lists or more")]
     TooManyBins { count: u64 },
     /// Memory ran out.

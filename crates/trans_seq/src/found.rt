@@ -6,19 +6,17 @@ ghost use Rattle.trans_seq.specs.Lists.{choices, joined, all_of};
 
 use crate::fault::ExpandFault;
 use cov_base::{Int, Memory, ValueSet};
+use cov_ground::limits::MOST_BINS;
 use cov_tree::List;
 use std::alloc::Global;
 use std::collections::HashSet;
 use std::mem;
 
-/// The most lists that may be distinct.
-const MOST_LISTS: usize = 65_536;
-
 /// The lists found so far, in groups of the same lengths, of which the last is still open.
 #[derive(Drop)]
 pub(crate) struct Found {
     pub(crate) groups: Vec<List<List<Int>>>,
-    fresh: Vec<List<Int>>,
+    pub(crate) fresh: Vec<List<Int>>,
     seen: HashSet<Vec<i128>>,
     count: usize,
 }
@@ -76,9 +74,9 @@ fn take_list(
     if !found.seen.insert(key_of(alloc, first, rest)?)? {
         return Ok(());
     }
-    if found.count == MOST_LISTS {
+    if found.count == MOST_BINS {
         return Err(ExpandFault::TooManyBins {
-            count: MOST_LISTS as u64 + 1,
+            count: MOST_BINS as u64 + 1,
         });
     }
     found.fresh.push(list_of(alloc, first, rest)?)?;
@@ -87,7 +85,7 @@ fn take_list(
 }
 
 /// Takes the lists that begin with `first` and end with one of the group.
-fn take_group(
+pub(crate) fn take_group(
     alloc: Global,
     first: &[Int],
     group: &[List<Int>],

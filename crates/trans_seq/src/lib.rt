@@ -3,15 +3,17 @@
 
 mod fault;
 mod found;
+pub mod laws;
 mod listing;
+mod reach;
 mod seq;
 mod size;
 mod windows;
 
 pub use fault::ExpandFault;
-pub use listing::expand;
+pub use listing::{expand, expand_all};
 pub use seq::{Item, Repeat, Seq};
-pub use size::cells;
+pub use size::{cells, cells_of_items, cells_of_seqs};
 pub use windows::{is_inside, window_in};
 
 #[cfg(test)]

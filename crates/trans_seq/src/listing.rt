@@ -1,21 +1,20 @@
 //! The lists of a sequence, written out.
-ghost use Rattle.std.specs.Prelude.{◌≡◌, ◌+◌, ◌-◌, ◌<◌, ◌≤◌, ◌↔◌, ℤ, Some, Contains, List, [], false, map, length, IsTrue, IfOk, IfErr, OnOk};
+ghost use Rattle.std.specs.Prelude.{◌≡◌, ◌+◌, ◌-◌, ◌<◌, ◌≤◌, ◌↔◌, ℤ, Contains, List, [], false, map, length, IsTrue, IfOk, IfErr, IfSome, IfNone, OnOk, All};
 ghost use Rattle.std.specs.List.{list_any};
 ghost use Rattle.cov_base.specs.Sets.{written};
+ghost use Rattle.cov_ground.specs.Limits.{most_bins, most_cells};
 ghost use Rattle.trans_seq.specs.Found.{Holds, FailsAfter, Extends, HasList, NoList, AllHaveList, SomeNoList, fronted, new_groups, packed};
-ghost use Rattle.trans_seq.specs.Windows.{InSeq};
-ghost use Rattle.trans_seq.specs.Lists.{lengths, choices, by_lengths, from_on, all_of, listed, is_endless, HasEndless, Expands, RefusesToExpand};
+ghost use Rattle.trans_seq.specs.Windows.{HasWord, SomeHasWord};
+ghost use Rattle.trans_seq.specs.Lists.{lengths, choices, by_lengths, from_on, all_of, listed, is_endless, has_endless as seq_has_endless, IsShort, IsFirstLong, HasEndless, Expands, RefusesToExpand, ExpandsAll, RefusesToExpandAll, lists_by_all, listed_by_all};
 
 use crate::fault::ExpandFault;
-use crate::found::{none_found, take_length};
+use crate::found::{none_found, take_group, take_length};
 use crate::seq::{Item, Repeat, Seq};
 use crate::size::cells;
 use cov_base::{Int, Memory};
+use cov_ground::limits::MOST_CELLS;
 use cov_tree::List;
 use std::alloc::Global;
-
-/// The most values that a list may have.
-const MOST_VALUES: u64 = 120;
 
 /// Whether the item has lists of any length.
 fn is_unbounded(item: &Item) -> bool
@@ -76,7 +75,7 @@ fn with_item(
     groups: &[List<List<Int>>],
 ) -> Result<Vec<List<List<Int>>>, ExpandFault>
     ensures ok { IfOk result (λ made. made.items ≡ packed (new_groups [] (fronted (choices (written item.now.set)) groups.now (lengths item.now.repeat)))) }
-    ensures few { IfOk result (λ made. length (all_of made.items) ≤ 65536) }
+    ensures few { IfOk result (λ made. length (all_of made.items) ≤ most_bins) }
     ensures err { IfErr result (FailsAfter [] (all_of (fronted (choices (written item.now.set)) groups.now (lengths item.now.repeat)))) }
 {
     let (low, high) = ends(item.repeat);
@@ -91,7 +90,7 @@ fn with_item(
 fn grouped(alloc: Global, items: &[Item]) -> Result<Vec<List<List<Int>>>, ExpandFault>
     requires { AllHaveList items.now }
     ensures ok { IfOk result (λ made. made.items ≡ packed (new_groups [] (by_lengths items.now))) }
-    ensures few { IfOk result (λ made. length (listed items.now) ≤ 65536) }
+    ensures few { IfOk result (λ made. length (listed items.now) ≤ most_bins) }
     ensures err { IfErr result (FailsAfter [] (all_of (by_lengths items.now))) }
 {
     match items {
@@ -122,12 +121,12 @@ fn flattened(alloc: Global, groups: Vec<List<List<Int>>>) -> Result<Vec<List<Int
 /// parts, ascending, the first item's length running slowest; lists of the same lengths stand by ascending values,
 /// the last one running fastest. A list that was there before is left out.
 ///
-/// It is refused where an item has `[->` or `[=`; else where the greatest lengths of the items are more than 120
-/// together, even where an item has no list; else where more than 65,536 lists are distinct. The work grows with the
-/// number of distinct lists, not with the ways to make them.
+/// It is refused where an item has `[->` or `[=`; else where the greatest lengths of the items are more than
+/// `MOST_CELLS` together, even where an item has no list; else where more than `MOST_BINS` lists are distinct. The work
+/// grows with the number of distinct lists, not with the ways to make them.
 pub fn expand(alloc: Global, seq: &Seq) -> Result<Vec<List<Int>>, ExpandFault>
     ensures lists { IfOk result (λ lists. Expands seq.now.items lists.items) }
-    ensures windows { IfOk result (λ lists. (w : List ℤ) → Contains lists.items w ↔ InSeq seq.now.items (map Some w)) }
+    ensures windows { IfOk result (λ lists. (w : List ℤ) → Contains lists.items w ↔ HasWord seq.now w) }
     ensures refuses { IfErr result (RefusesToExpand seq.now.items) }
 {
     let items = seq.items.as_slice();
@@ -135,7 +134,7 @@ pub fn expand(alloc: Global, seq: &Seq) -> Result<Vec<List<Int>>, ExpandFault>
         return Err(ExpandFault::Unbounded);
     }
     let values = cells(seq);
-    if values > MOST_VALUES {
+    if values > MOST_CELLS {
         return Err(ExpandFault::TooLong { cells: values });
     }
     if !all_have_list(items) {
@@ -143,4 +142,60 @@ pub fn expand(alloc: Global, seq: &Seq) -> Result<Vec<List<Int>>, ExpandFault>
     }
     let groups = grouped(alloc, items)?;
     Ok(flattened(alloc, groups)?)
+}
+
+/// Whether an item of a sequence has lists of any length.
+fn some_has_unbounded(seqs: &[Seq]) -> bool
+    ensures { result ≡ list_any seq_has_endless seqs.now }
+{
+    seqs.iter().any(|seq| has_unbounded(seq.items.as_slice()))
+}
+
+/// How many cells the first sequence has that has too many, if there is one.
+fn first_too_long(seqs: &[Seq]) -> Option<u64>
+    ensures none { IfNone result (All IsShort seqs.now) }
+    ensures some { IfSome result (λ cells. IsFirstLong seqs.now cells) }
+{
+    for seq in seqs {
+        let values = cells(seq);
+        if values > MOST_CELLS {
+            return Some(values);
+        }
+    }
+    None
+}
+
+/// The distinct lists of values that the sequences of one declaration stand for: those of the first sequence in the
+/// order of `expand`, then those of the next, of which one that was there before is left out.
+///
+/// It is refused where an item has `[->` or `[=`; else where a sequence has more than `MOST_CELLS` cells, the first such
+/// one being told; else where more than `MOST_BINS` lists are distinct over all sequences.
+pub fn expand_all(alloc: Global, seqs: &[Seq]) -> Result<Vec<List<Int>>, ExpandFault>
+    ensures lists { IfOk result (λ lists. ExpandsAll seqs.now lists.items) }
+    ensures windows { IfOk result (λ lists. (w : List ℤ) → Contains lists.items w ↔ SomeHasWord seqs.now w) }
+    ensures refuses { IfErr result (RefusesToExpandAll seqs.now) }
+{
+    if some_has_unbounded(seqs) {
+        return Err(ExpandFault::Unbounded);
+    }
+    if let Some(cells) = first_too_long(seqs) {
+        return Err(ExpandFault::TooLong { cells });
+    }
+    merged(alloc, seqs)
+}
+
+/// The distinct lists of the sequences, each of which is within the limit on values.
+fn merged(alloc: Global, seqs: &[Seq]) -> Result<Vec<List<Int>>, ExpandFault>
+    requires bounded { list_any seq_has_endless seqs.now ≡ false }
+    requires short { All IsShort seqs.now }
+    ensures lists { IfOk result (λ lists. lists.items ≡ listed_by_all seqs.now) }
+    ensures few { IfOk result (λ lists. length (listed_by_all seqs.now) ≤ most_bins) }
+    ensures err { IfErr result (FailsAfter [] (lists_by_all seqs.now)) }
+{
+    let mut found = none_found(alloc);
+    for seq in seqs {
+        let lists = expand(alloc, seq)?;
+        take_group(alloc, &[], lists.as_slice(), &mut found)?;
+    }
+    Ok(found.fresh)
 }

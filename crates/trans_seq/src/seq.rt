@@ -1,5 +1,6 @@
 //! What a transition sequence is written of.
 ghost use Rattle.std.specs.Prelude.{◌≡◌, IfOk};
+ghost use Rattle.trans_seq.specs.Cells.{cells_of_repeat};
 
 use cov_base::{Memory, ValueSet};
 use cov_tree::List;
@@ -21,7 +22,7 @@ pub enum Repeat {
 }
 
 /// One item of a sequence: the values, and how often they stand.
-#[derive(Drop, Debug)]
+#[derive(Drop, Debug, PartialEq, Eq)]
 pub struct Item {
     /// The values that are inside. An unknown sample never is.
     pub set: ValueSet,
@@ -34,6 +35,20 @@ pub struct Item {
 pub struct Seq {
     /// The items in order.
     pub items: List<Item>,
+}
+
+impl Repeat {
+    /// How many cells an automaton has for an item of this repetition.
+    pub fn cells(self) -> u64
+        ensures { result ≡ cells_of_repeat self }
+    {
+        match self {
+            Repeat::Once => 1,
+            Repeat::Consec { high, .. } => u64::from(high),
+            Repeat::Goto { high, .. } => 2 * u64::from(high),
+            Repeat::NonConsec { high, .. } => 2 * u64::from(high) + 1,
+        }
+    }
 }
 
 impl Item {

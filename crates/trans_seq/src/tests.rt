@@ -15,6 +15,13 @@ struct Step {
     repeat: Repeat,
 }
 
+const ONE_OR_TWO: Repeat = Repeat::Consec { low: 1, high: 2 };
+
+const FIVES: Step = Step {
+    ranges: &[(5, 5)],
+    repeat: ONE_OR_TWO,
+};
+
 fn int(rt: &impl Abort, number: i128) -> Int {
     Int::new(number).expect(rt, "a number of the range")
 }

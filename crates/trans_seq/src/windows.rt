@@ -2,6 +2,7 @@
 ghost use Rattle.std.specs.Prelude.{◌≡◌, ◌≤◌, ◌⊎◌, ◌↔◌, true, false, IsTrue};
 ghost use Rattle.trans_seq.specs.Windows.{is_known_in, InBlocks, InItem, InSeq};
 
+use crate::reach::{MOST_CUTS, short_window_in};
 use crate::seq::{Item, Repeat, Seq};
 use cov_base::{Int, ValueSet};
 
@@ -74,10 +75,17 @@ fn window_in_items(items: &[Item], window: &[Option<Int>]) -> bool
     }
 }
 
-/// Whether the window is a list of the sequence. It tries each way to cut the window, takes no memory, and is slow:
-/// samples that come one by one are pushed through an automaton instead.
+/// Whether the window is a list of the sequence. It takes no memory. A window of fewer than 128 samples, and so each
+/// list of known values that a sequence within the limits is written out as, takes at most as many steps as the
+/// sequence has cells, each of which goes over the window. A longer window is tried by each way to cut it: samples that
+/// come one by one are pushed through an automaton instead.
 pub fn window_in(seq: &Seq, window: &[Option<Int>]) -> bool
     ensures { IsTrue result ↔ InSeq seq.now.items window.now }
 {
-    window_in_items(seq.items.as_slice(), window)
+    let items = seq.items.as_slice();
+    if window.len() < MOST_CUTS {
+        short_window_in(items, window)
+    } else {
+        window_in_items(items, window)
+    }
 }

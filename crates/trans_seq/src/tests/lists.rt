@@ -7,13 +7,6 @@ struct Listed {
     lists: &'static [&'static [i128]],
 }
 
-const ONE_OR_TWO: Repeat = Repeat::Consec { low: 1, high: 2 };
-
-const FIVES: Step = Step {
-    ranges: &[(5, 5)],
-    repeat: ONE_OR_TWO,
-};
-
 static LISTED: [Listed; 9] = [
     Listed {
         items: &[
@@ -243,6 +236,77 @@ fn refusals(rt: HostRuntime) -> Result<(), Fail> {
     for row in &REFUSED {
         let seq = sequence(&rt, alloc, row.items)?;
         let outcome = match expand(alloc, &seq) {
+            Ok(lists) => Ok(lists.len()),
+            Err(fault) => Err(fault),
+        };
+        assert!(rt; outcome == row.outcome);
+    }
+    Ok(())
+}
+
+/// Two sequences of one declaration, and how many lists they have together, or why they aren't written out.
+struct Declared {
+    first: &'static [Step],
+    second: &'static [Step],
+    outcome: Result<usize, ExpandFault>,
+}
+
+const MANY: Step = Step {
+    ranges: &[(0, 65_535)],
+    repeat: Repeat::Once,
+};
+
+const LONG: Step = Step {
+    ranges: FIVE,
+    repeat: Repeat::Consec { low: 1, high: 121 },
+};
+
+const ENDLESS: Step = Step {
+    ranges: FIVE,
+    repeat: Repeat::Goto { low: 1, high: 1 },
+};
+
+static DECLARED: [Declared; 5] = [
+    Declared {
+        first: &[FIVES, FIVES],
+        second: &[FIVES],
+        outcome: Ok(4),
+    },
+    Declared {
+        first: &[MANY],
+        second: &[FIVES],
+        outcome: Err(ExpandFault::TooManyBins { count: 65_537 }),
+    },
+    Declared {
+        first: &[MANY],
+        second: &[MANY],
+        outcome: Ok(65_536),
+    },
+    Declared {
+        first: &[LONG],
+        second: &[ENDLESS],
+        outcome: Err(ExpandFault::Unbounded),
+    },
+    Declared {
+        first: &[MANY],
+        second: &[LONG, FIVES],
+        outcome: Err(ExpandFault::TooLong { cells: 123 }),
+    },
+];
+
+fn two_sequences(rt: &impl Abort, alloc: Global, row: &Declared) -> Result<Vec<Seq>, Memory> {
+    let mut seqs = Vec::new(alloc);
+    seqs.push(sequence(rt, alloc, row.first)?)?;
+    seqs.push(sequence(rt, alloc, row.second)?)?;
+    Ok(seqs)
+}
+
+#[test]
+fn several_sequences(rt: HostRuntime) -> Result<(), Fail> {
+    let alloc = rt.alloc();
+    for row in &DECLARED {
+        let seqs = two_sequences(&rt, alloc, row)?;
+        let outcome = match expand_all(alloc, seqs.as_slice()) {
             Ok(lists) => Ok(lists.len()),
             Err(fault) => Err(fault),
         };

@@ -306,3 +306,55 @@ fn all_short_windows(rt: HostRuntime) -> Result<(), Fail> {
     }
     Ok(())
 }
+
+/// 24 items of one or two 5, and then a 6.
+fn many_items(rt: &impl Abort, alloc: Global) -> Result<Seq, Memory> {
+    let mut items = Vec::new(alloc);
+    for _ in 0..24 {
+        items.push(item(rt, alloc, &FIVES)?)?;
+    }
+    items.push(item(rt, alloc, &ONCE_6)?)?;
+    Ok(Seq {
+        items: List::of(items),
+    })
+}
+
+/// That many samples of one number, and a last one of another.
+fn ending_with(
+    rt: &impl Abort,
+    alloc: Global,
+    len: u32,
+    number: i128,
+    last: i128,
+) -> Result<Vec<Option<Int>>, Memory> {
+    let mut window = Vec::new(alloc);
+    for _ in 0..len {
+        window.push(Some(int(rt, number)))?;
+    }
+    window.push(Some(int(rt, last)))?;
+    Ok(window)
+}
+
+/// A window can be cut in 2^24 ways.
+#[test]
+fn many_ways_to_cut(rt: HostRuntime) -> Result<(), Fail> {
+    let alloc = rt.alloc();
+    let seq = many_items(&rt, alloc)?;
+    for (last, is_list) in [(5, false), (6, true)] {
+        let window = ending_with(&rt, alloc, 24, 5, last)?;
+        assert!(rt; window_in(&seq, window.as_slice()) == is_list);
+    }
+    Ok(())
+}
+
+/// A window of too many samples for the marks of its cuts.
+#[test]
+fn a_long_window(rt: HostRuntime) -> Result<(), Fail> {
+    let alloc = rt.alloc();
+    let seq = sequence(&rt, alloc, &LAST)?;
+    for (last, is_list) in [(0, false), (1, true)] {
+        let window = ending_with(&rt, alloc, 200, 0, last)?;
+        assert!(rt; window_in(&seq, window.as_slice()) == is_list);
+    }
+    Ok(())
+}

@@ -1,6 +1,7 @@
 use Rattle.std.proofs.Common.{rules, ◌≡◌, ◌≤◌, [], length, ap, subst, sym, ◌∙◌, arith}
 use Rattle.std.specs.Prelude.{false}
 use Rattle.std.specs.List.{list_any}
+use Rattle.cov_ground.specs.Limits.{most_bins}
 use Rattle.trans_seq.specs.Cells.{cells_of_items}
 use Rattle.trans_seq.specs.Lists.{by_lengths, all_of, listed, is_endless, RefusesToExpand}
 use Rattle.trans_seq.specs.Found.{FailsAfter, SomeNoList, new_groups, packed}
@@ -15,7 +16,7 @@ returns-then-not-all_have_list-clause-lists c =
     record {
       are = c.new.ensures.items ∙ sym none;
       bounded = subst (λ l. list_any is_endless l ≡ false) c.as_slice-items.ensures (sym c.has_unbounded.ensures ∙ c.if-has_unbounded.false);
-      short = short_cells (cells_of_items items) c.cells-values.result c.cells-values.ensures c.if-values-gt-MOST_VALUES.false;
+      short = short_cells (cells_of_items items) c.cells-values.result c.cells-values.ensures c.if-values-gt-MOST_CELLS.false;
       few = omega (arith, ap length none);
     }
 
@@ -26,7 +27,7 @@ returns-in_err-groups-clause-refuses c =
     let failed : FailsAfter [] (all_of (by_lengths items)) e = subst (λ l. FailsAfter [] (all_of (by_lengths l)) e) c.as_slice-items.ensures c.in_err-groups.ensures.err in
     let refused : RefusesToExpand items e = refuses_after items e
     (subst (λ l. list_any is_endless l ≡ false) c.as_slice-items.ensures (sym c.has_unbounded.ensures ∙ c.if-has_unbounded.false))
-    (short_cells (cells_of_items items) c.cells-values.result c.cells-values.ensures c.if-values-gt-MOST_VALUES.false) failed in
+    (short_cells (cells_of_items items) c.cells-values.result c.cells-values.ensures c.if-values-gt-MOST_CELLS.false) failed in
     search (rules, refused)
 
 pub returns-clause-lists : goal.returns-clause-lists
@@ -36,8 +37,8 @@ returns-clause-lists c =
     record {
       are = c.in_ok-flattened.ensures ∙ ap all_of groups ∙ sym (listed_all items);
       bounded = subst (λ l. list_any is_endless l ≡ false) c.as_slice-items.ensures (sym c.has_unbounded.ensures ∙ c.if-has_unbounded.false);
-      short = short_cells (cells_of_items items) c.cells-values.result c.cells-values.ensures c.if-values-gt-MOST_VALUES.false;
-      few = subst (λ l. length (listed l) ≤ 65536) c.as_slice-items.ensures c.in_ok-groups.ensures.few;
+      short = short_cells (cells_of_items items) c.cells-values.result c.cells-values.ensures c.if-values-gt-MOST_CELLS.false;
+      few = subst (λ l. length (listed l) ≤ most_bins) c.as_slice-items.ensures c.in_ok-groups.ensures.few;
     }
 
 pub returns-then-not-all_have_list-clause-windows : goal.returns-then-not-all_have_list-clause-windows
