@@ -1,11 +1,16 @@
 -- Numbers taken off ranges, of which the first stands last.
-use Rattle.std.proofs.Common.{◌≡◌, ◌∙◌, refl, ap, sym, ℕ, ◌+◌, ◌-◌, ◌*◌, ◌/◌, ◌<◌, ◌≤◌, max, map, add-one, length-drop, ℤ, pos, ◌+ℤ◌, List, [], ◌∷◌, ◌++◌, length, take, drop, reverse, append_assoc, take_all, arith}
+use Rattle.std.proofs.Common.{◌≡◌, ◌∙◌, refl, ap, sym, ℕ, ◌+◌, ◌-◌, ◌*◌, ◌/◌, ◌<◌, ◌≤◌, max, map, add-one, length-drop, ℤ, pos, ◌+ℤ◌, List, [], ◌∷◌, ◌++◌, length, take, drop, reverse, append_assoc, take_all, arith, Bool}
 use Rattle.std.proofs.lemmas.Int.{ints}
 use Rattle.std.proofs.lemmas.List.{reverse-append, append-nil, drop_all, drop-drop}
 use Rattle.std.proofs.Math.Nat.{suc-mul}
-use Rattle.cov_base.specs.Sets.{count_from, size, span, written, set_of}
+use Rattle.std.specs.Prelude.{◌||◌}
+use Rattle.std.specs.List.{list_any, flat_map}
+use Rattle.cov_base.specs.Sets.{count_from, size, span, written, set_of, is_in}
+use Rattle.cov_base.proofs.Members.{is_in-append}
+use Rattle.cov_base.proofs.Runs.{set_of_numbers}
+use Rattle.value_bins.specs.Listed.{spread_sets, HaveTogether}
 use Rattle.bin_spec.specs.Parts.{part, parts, places, share}
-use Rattle.bin_spec.proofs.Spreads.{part_before, part_end, next_part, all_parts}
+use Rattle.bin_spec.proofs.Spreads.{part_before, part_end, next_part, all_parts, parts_together}
 use Rattle.value_bins.proofs.Written.{written-one, written-nil, take_past, drop_past, take_within, drop_within, span_of}
 
 -- what is taken and what is still missing of the first `count` numbers, and what is left behind them
@@ -107,3 +112,17 @@ sets_end numbers n bin per total sets new rest set many is last left set_is adde
   where
     joined : {xs ys : List (List (ℤ × ℤ))} {x y : List (ℤ × ℤ)} → xs ≡ ys → x ≡ y → xs ++ x ∷ [] ≡ ys ++ y ∷ []
     joined e f = λ i. e i ++ f i ∷ []
+
+-- ---- all bins together
+
+any_of_sets : (lists : List (List ℤ)) (v : ℤ) → list_any (λ set. is_in (written set) v) (map set_of lists) ≡ is_in (flat_map (λ xs. xs) lists) v
+any_of_sets [] v = refl
+any_of_sets (xs ∷ lists) v = either (set_of_numbers xs v) (any_of_sets lists v) ∙ sym (is_in-append xs (flat_map (λ xs. xs) lists) v)
+  where
+    either : {a b c d : Bool} → a ≡ c → b ≡ d → (a || b) ≡ (c || d)
+    either e f = λ i. e i || f i
+
+-- the bins have together the numbers that are listed
+pub spread_together : (ranges : List (ℤ × ℤ)) (sets : List (List (ℤ × ℤ))) (n : ℕ) → 0 < n → sets ≡ spread_sets ranges n → HaveTogether sets (written ranges)
+spread_together ranges sets n some is = λ v.
+    ap (list_any (λ set. is_in (written set) v)) is ∙ (any_of_sets (parts (written ranges) n) v ∙ ap (λ (xs : List ℤ). is_in xs v) (parts_together (written ranges) n some))

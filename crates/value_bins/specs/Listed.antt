@@ -1,13 +1,17 @@
 -- Numbers that a list of ranges stands for, one after the other, and what is kept of them.
 use Rattle.std.specs.Prelude.{◌≡◌, ℤ, ℕ, List, [], ◌∷◌, ◌++◌, Bool, map}
-use Rattle.std.specs.List.{items_where_true}
-use Rattle.cov_base.specs.Sets.{set_of, written}
+use Rattle.std.specs.List.{items_where_true, list_any}
+use Rattle.cov_base.specs.Sets.{set_of, written, is_in}
 use Rattle.bin_spec.specs.Parts.{parts}
 
 -- The sets of n bins over which the listed numbers of ranges are spread, each number as often as it is listed
 -- (IEEE 1800-2017, 19.5.1).
 abbrev pub spread_sets : List (ℤ × ℤ) → ℕ → List (List (ℤ × ℤ))
 spread_sets ranges n = map set_of (parts (written ranges) n)
+
+-- sets that together have the numbers of a list
+abbrev pub HaveTogether : List (List (ℤ × ℤ)) → List ℤ → Type 0
+HaveTogether sets numbers = (v : ℤ) → list_any (λ set. is_in (written set) v) sets ≡ is_in numbers v
 
 -- for each number, in order, an answer that the filter may give of it
 abbrev pub AnswersEach : (ℤ → Bool → Type 0) → List ℤ → List Bool → Type 0

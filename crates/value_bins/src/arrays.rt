@@ -1,15 +1,14 @@
 //! Listed numbers spread over so many bins.
 ghost use Rattle.std.specs.Prelude.{◌≡◌, ℕ, ◌<◌, ◌≤◌, ◌↔◌, ◌++◌, take, drop, reverse, Err, IfOk, OnOk};
 ghost use Rattle.cov_base.specs.Sets.{set_of, written};
-ghost use Rattle.value_bins.specs.Listed.{spread_sets};
+ghost use Rattle.cov_ground.specs.Limits.{most_bins};
+ghost use Rattle.value_bins.specs.Listed.{spread_sets, HaveTogether};
 
 use crate::ranges::{count_of, plus, size_of};
 use crate::{Elems, SpreadFault};
 use cov_base::{Int, Memory, ValueSet};
+use cov_ground::limits::MOST_BINS;
 use std::alloc::Global;
-
-/// The most bins of a coverage point.
-pub(crate) const MOST_BINS: u32 = 65_536;
 
 /// Takes the first `count` numbers, or all where there are fewer, off the ranges in `rest`, of which the first stands
 /// last, and adds them to `bin`.
@@ -18,8 +17,10 @@ fn take_numbers(
     count: u128,
     bin: &mut Vec<(Int, Int)>,
 ) -> Result<(), Memory>
-    ensures taken { OnOk result (written bin.new.items ≡ written bin.old.items ++ take count (written (reverse rest.old.items))) }
-    ensures left { OnOk result (written (reverse rest.new.items) ≡ drop count (written (reverse rest.old.items))) }
+    ensures taken { OnOk result (written bin.new.items
+        ≡ written bin.old.items ++ take count (written (reverse rest.old.items))) }
+    ensures left { OnOk result
+        (written (reverse rest.new.items) ≡ drop count (written (reverse rest.old.items))) }
 {
     let mut missing = count;
     while missing > 0 {
@@ -41,7 +42,8 @@ fn take_numbers(
 /// The set of the first `count` numbers of the ranges in `rest`, of which the first stands last; they are taken off.
 fn next_set(alloc: Global, rest: &mut Vec<(Int, Int)>, count: u128) -> Result<ValueSet, Memory>
     ensures set { IfOk result (λ set. set ≡ set_of (take count (written (reverse rest.old.items)))) }
-    ensures left { OnOk result (written (reverse rest.new.items) ≡ drop count (written (reverse rest.old.items))) }
+    ensures left { OnOk result
+        (written (reverse rest.new.items) ≡ drop count (written (reverse rest.old.items))) }
 {
     let mut bin = Vec::new(alloc);
     take_numbers(rest, count, &mut bin)?;
@@ -81,15 +83,17 @@ fn sets_of(alloc: Global, ranges: &[(Int, Int)], n: u32) -> Result<Vec<ValueSet>
 /// never written out.
 pub fn spread(alloc: Global, elems: &Elems, n: u32) -> Result<Vec<ValueSet>, SpreadFault>
     ensures sets { IfOk result (λ sets. sets.items ≡ spread_sets elems.now n) }
+    ensures together { IfOk result (λ sets. HaveTogether sets.items (written elems.now)) }
     ensures some { OnOk result (0 < n) }
-    ensures most { OnOk result (n ≤ 65536) }
+    ensures most { OnOk result (n ≤ most_bins) }
     ensures zero { (result ≡ Err SpreadFault.ZeroBins) ↔ (n ≡ 0) }
-    ensures too_many { (count : ℕ) → (result ≡ Err (SpreadFault.TooManyBins count)) ↔ ((65536 < n) × (count ≡ n)) }
+    ensures too_many { (count : ℕ)
+        → (result ≡ Err (SpreadFault.TooManyBins count)) ↔ ((most_bins < n) × (count ≡ n)) }
 {
     if n == 0 {
         return Err(SpreadFault::ZeroBins);
     }
-    if n > MOST_BINS {
+    if n as usize > MOST_BINS {
         return Err(SpreadFault::TooManyBins { count: n as u64 });
     }
     let sets = sets_of(alloc, elems.as_slice(), n)?;

@@ -1,11 +1,12 @@
 //! One bin for each listed number.
 ghost use Rattle.std.specs.Prelude.{◌≡◌, ◌≢◌, ℕ, ◌<◌, ◌≤◌, ◌-◌, ◌^◌, ◌++◌, length, min, Err, IfOk, OnOk};
 ghost use Rattle.cov_base.specs.Sets.{ascending, written, span};
+ghost use Rattle.cov_ground.specs.Limits.{most_bins};
 
-use crate::arrays::MOST_BINS;
 use crate::ranges::{plus, size_of};
 use crate::{Elems, SpreadFault};
 use cov_base::{Int, Memory, ValueSet};
+use cov_ground::limits::MOST_BINS;
 use std::alloc::Global;
 
 /// Adds the numbers of a range.
@@ -33,9 +34,11 @@ fn numbers_of(alloc: Global, ranges: &[(Int, Int)]) -> Result<Vec<Int>, Memory>
 /// More than 65,536 are refused, with how many there are, at most 2^64 - 1.
 pub fn singles(alloc: Global, elems: &Elems) -> Result<Vec<Int>, SpreadFault>
     ensures numbers { IfOk result (λ numbers. numbers.items ≡ ascending (written elems.now)) }
-    ensures most { OnOk result (length (ascending (written elems.now)) ≤ 65536) }
+    ensures most { OnOk result (length (ascending (written elems.now)) ≤ most_bins) }
     ensures some { result ≢ Err SpreadFault.ZeroBins }
-    ensures too_many { (count : ℕ) → result ≡ Err (SpreadFault.TooManyBins count) → (65536 < length (ascending (written elems.now))) × (count ≡ min (length (ascending (written elems.now))) (2 ^ 64 - 1)) }
+    ensures too_many { (count : ℕ) → result ≡ Err (SpreadFault.TooManyBins count)
+        → let distinct = length (ascending (written elems.now)) in
+        (most_bins < distinct) × (count ≡ min distinct (2 ^ 64 - 1)) }
 {
     let set = ValueSet::from_ranges(alloc, elems.as_slice())?;
     let count = set.count();

@@ -2,15 +2,14 @@
 ghost use Rattle.std.specs.Prelude.{◌≡◌, ℤ, ℕ, ◌<◌, ◌≤◌, ◌↔◌, Bool, [], ◌∷◌, ◌++◌, length, filter, Err, IfOk, OnOk};
 ghost use Rattle.std.specs.List.{items_where_true};
 ghost use Rattle.cov_base.specs.Sets.{written, span, IsInt};
+ghost use Rattle.cov_ground.specs.Limits.{most_values};
 ghost use Rattle.value_bins.specs.Listed.{Keeps};
 
 use crate::ranges::{count_of, plus, size_of};
 use crate::{Elems, FilterFault};
 use cov_base::{Int, Memory};
+use cov_ground::limits::MOST_VALUES;
 use std::alloc::Global;
-
-/// The most numbers that one filter is asked of.
-const MOST_VALUES: u128 = 1_048_576;
 
 /// Adds a number, if the filter keeps it.
 fn keep_number<F: Fn(Int) -> bool>(
@@ -53,14 +52,18 @@ pub fn filter_with<F: Fn(Int) -> bool>(
     keep: &F,
 ) -> Result<Elems, FilterFault>
     requires { (v : ℤ) → IsInt v → F.pre keep.now v }
-    ensures asked { IfOk result (λ kept. Keeps (λ v b. IsInt v × F.post keep.now v b) (written elems.now) [] (written kept)) }
+    ensures asked { IfOk result
+        (λ kept. Keeps (λ v b. IsInt v × F.post keep.now v b) (written elems.now) [] (written kept)) }
     // where the filter is a test, what is kept is what passes it
-    ensures kept { IfOk result (λ kept. (test : ℤ → Bool) → ((v : ℤ) (b : Bool) → IsInt v → F.post keep.now v b → b ≡ test v) → written kept ≡ filter test (written elems.now)) }
-    ensures most { OnOk result (length (written elems.now) ≤ 1048576) }
-    ensures too_many { (count : ℕ) → (result ≡ Err (FilterFault.TooManyValues count)) ↔ ((1048576 < length (written elems.now)) × (count ≡ length (written elems.now))) }
+    ensures kept { IfOk result (λ kept. (test : ℤ → Bool)
+        → ((v : ℤ) (b : Bool) → IsInt v → F.post keep.now v b → b ≡ test v)
+        → written kept ≡ filter test (written elems.now)) }
+    ensures most { OnOk result (length (written elems.now) ≤ most_values) }
+    ensures too_many { (count : ℕ) → (result ≡ Err (FilterFault.TooManyValues count))
+        ↔ ((most_values < length (written elems.now)) × (count ≡ length (written elems.now))) }
 {
     let count = count_of(elems.as_slice());
-    if count > MOST_VALUES {
+    if count > MOST_VALUES as u128 {
         return Err(FilterFault::TooManyValues { count });
     }
     let mut kept = Vec::new(alloc);
