@@ -1,11 +1,12 @@
 -- Numbers that follow each other: their first ones, those behind them, and the ranges that they make.
-use Rattle.std.proofs.Common.{◌≡◌, ◌∙◌, refl, ap, sym, ℕ, zero, suc, ◌+◌, ◌-◌, ◌*◌, ◌/◌, ◌^◌, ◌<◌, ◌≤◌, ℤ, pos, ◌+ℤ◌, ◌-ℤ◌, List, [], ◌∷◌, ◌++◌, length, take, drop, map, arith, pow-suc, add-one, min, max, Bool, true, false, Option, Some, None}
+use Rattle.std.proofs.Common.{◌≡◌, ◌∙◌, refl, ap, sym, subst, ◌≤ℤ◌, ℕ, zero, suc, ◌+◌, ◌-◌, ◌*◌, ◌/◌, ◌^◌, ◌<◌, ◌≤◌, ℤ, pos, ◌+ℤ◌, ◌-ℤ◌, List, [], ◌∷◌, ◌++◌, length, take, drop, map, arith, pow-suc, add-one, min, max, Bool, true, false, Option, Some, None}
 use Rattle.std.specs.Option.{SomeIff}
 use Rattle.std.proofs.lemmas.Int.{ints}
 use Rattle.std.proofs.lemmas.List.{map-append}
 use Rattle.std.proofs.Math.Nat.{mul-le-mul_right, mul-div-le, suc-mul, le-div_iff_mul-le}
-use Rattle.auto_bins.specs.Automatic.{automatic_parts}
-use Rattle.cov_base.specs.Sets.{count_from, span, natural}
+use Rattle.auto_bins.specs.Automatic.{automatic_parts, automatic_ranges, first_number, last_number, ends_of, AllInOrder}
+use Rattle.cov_base.specs.Sets.{count_from, size, span, natural}
+use Rattle.cov_base.proofs.Members.{size_of_some}
 use Rattle.bin_spec.specs.Parts.{share, part, parts, places}
 use Rattle.bin_spec.proofs.Spreads.{part_before, part_end}
 use Rattle.bin_spec.specs.Types.{lowest, domain}
@@ -119,3 +120,35 @@ automatic_is width signed most bins count low ranges some from many is was =
 
     both : {xs ys : List ℤ} {m n : ℕ} → xs ≡ ys → m ≡ n → parts xs m ≡ parts ys n
     both e f = λ i. parts (e i) (f i)
+
+-- ---- the ends of the parts
+
+pub in_order-last : (ranges : List (ℤ × ℤ)) (range : ℤ × ℤ) → AllInOrder ranges → range.0 ≤ℤ range.1 → AllInOrder (ranges ++ range ∷ [])
+in_order-last [] range order le = (le, tt)
+in_order-last (r ∷ rs) range order le = (order.0, in_order-last rs range order.1 le)
+
+-- one range more, in order
+pub in_order_next : (old new : List (ℤ × ℤ)) (range : ℤ × ℤ) → new ≡ old ++ range ∷ [] → AllInOrder old → range.0 ≤ℤ range.1 → AllInOrder new
+in_order_next old new range added order le = subst AllInOrder (sym added) (in_order-last old range order le)
+
+last_of_count : (n : ℕ) (low : ℤ) → last_number (count_from low (suc n)) ≡ low +ℤ pos n
+last_of_count zero low = omega (arith, ints)
+last_of_count (suc n) low = last_of_count n (low +ℤ pos 1) ∙ next low n
+  where
+    next : (low : ℤ) (n : ℕ) → (low +ℤ pos 1) +ℤ pos n ≡ low +ℤ pos (suc n)
+    next low n = omega (arith, ints)
+
+ends_of-span : (range : ℤ × ℤ) → range.0 ≤ℤ range.1 → ends_of (span range) ≡ range
+unfolding span
+ends_of-span range le = by (size range) (size_of_some range le)
+  where
+    by : (n : ℕ) → pos n ≡ (range.1 +ℤ pos 1) -ℤ range.0 → ends_of (count_from range.0 n) ≡ range
+    by zero e = absurd (omega (arith, ints, le, e))
+    by (suc n) e = let last = last_of_count n range.0 in let is : range.0 +ℤ pos n ≡ range.1 = omega (arith, ints, e) in λ i. (range.0, (last ∙ is) i)
+
+ends_are : (ranges : List (ℤ × ℤ)) → AllInOrder ranges → map ends_of (map span ranges) ≡ ranges
+ends_are [] order = refl
+ends_are (r ∷ rs) order = λ i. ends_of-span r order.0 i ∷ ends_are rs order.1 i
+
+pub ranges_are : (width most : ℕ) (signed : Bool) (ranges : List (ℤ × ℤ)) → AllInOrder ranges → map span ranges ≡ automatic_parts width signed most → ranges ≡ automatic_ranges width signed most
+ranges_are width most signed ranges order is = sym (ends_are ranges order) ∙ ap (map ends_of) is

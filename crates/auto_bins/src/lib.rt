@@ -3,7 +3,7 @@
 
 mod ranges;
 
-pub use ranges::{Typ2, auto_ranges};
+pub use ranges::{Typ2, auto_ranges, ends};
 
 #[cfg(test)]
 mod tests;

@@ -2,8 +2,9 @@
 ghost use Rattle.std.specs.Prelude.{◌≡◌, ◌+◌, ◌^◌, ◌≤◌, pos, ◌+ℤ◌, ◌-ℤ◌, ◌≤ℤ◌, map, IfOk};
 ghost use Rattle.cov_base.specs.Sets.{span, count_from, least, greatest};
 ghost use Rattle.bin_spec.specs.Parts.{parts};
-ghost use Rattle.bin_spec.specs.Types.{lowest};
-ghost use Rattle.auto_bins.specs.Automatic.{automatic_parts};
+ghost use Rattle.bin_spec.specs.Types.{lowest, highest};
+ghost use Rattle.cov_ground.specs.Limits.{most_bins, most_bits};
+ghost use Rattle.auto_bins.specs.Automatic.{automatic_parts, automatic_ranges, AllInOrder};
 
 use cov_base::{Int, Memory};
 use std::alloc::Global;
@@ -27,7 +28,7 @@ fn int_of(number: i128) -> Int
 /// The least number of a type.
 fn lowest_of(typ: Typ2) -> Int
     requires narrowest { 1 ≤ typ.width }
-    requires widest { typ.width ≤ 64 }
+    requires widest { typ.width ≤ most_bits }
     ensures { result ≡ lowest typ.width typ.signed }
 {
     if typ.signed {
@@ -37,9 +38,32 @@ fn lowest_of(typ: Typ2) -> Int
     }
 }
 
+/// The greatest number of a type.
+fn highest_of(typ: Typ2) -> Int
+    requires narrowest { 1 ≤ typ.width }
+    requires widest { typ.width ≤ most_bits }
+    ensures { result ≡ highest typ.width typ.signed }
+{
+    if typ.signed {
+        int_of((1 << (typ.width - 1)) - 1)
+    } else {
+        int_of((1 << typ.width) - 1)
+    }
+}
+
+/// The least and the greatest number of a type, of 1 to 64 bits (IEEE 1800-2017, 6.11). It takes no memory.
+pub fn ends(typ: Typ2) -> (Int, Int)
+    requires narrowest { 1 ≤ typ.width }
+    requires widest { typ.width ≤ most_bits }
+    ensures least { result.0 ≡ lowest typ.width typ.signed }
+    ensures greatest { result.1 ≡ highest typ.width typ.signed }
+{
+    (lowest_of(typ), highest_of(typ))
+}
+
 /// How many numbers a type has.
 fn count_of(typ: Typ2) -> u128
-    requires { typ.width ≤ 64 }
+    requires { typ.width ≤ most_bits }
     ensures { result ≡ 2 ^ typ.width }
 {
     1 << typ.width
@@ -51,6 +75,7 @@ fn range_at(low: Int, first: u128, count: u128) -> (Int, Int)
     requires high { (low +ℤ pos (first + count)) ≤ℤ (greatest +ℤ pos 1) }
     ensures low_end { result.0 ≡ low +ℤ pos first }
     ensures high_end { result.1 ≡ (low +ℤ pos (first + count)) -ℤ pos 1 }
+    ensures order { result.0 ≤ℤ result.1 }
 {
     let start = low.get() + first as i128;
     let end = start + (count - 1) as i128;
@@ -62,7 +87,8 @@ fn spread_from(alloc: Global, low: Int, count: u128, bins: u128) -> Result<Vec<(
     requires high { (low +ℤ pos count) ≤ℤ (greatest +ℤ pos 1) }
     requires some { 1 ≤ bins }
     requires most { bins ≤ count }
-    ensures { IfOk result (λ ranges. map span ranges.items ≡ parts (count_from low count) bins) }
+    ensures spread { IfOk result (λ ranges. map span ranges.items ≡ parts (count_from low count) bins) }
+    ensures order { IfOk result (λ ranges. AllInOrder ranges.items) }
 {
     let share = count / bins;
     let last = bins - 1;
@@ -79,11 +105,15 @@ fn spread_from(alloc: Global, low: Int, count: u128, bins: u128) -> Result<Vec<(
 /// left over too.
 pub fn auto_ranges(alloc: Global, typ: Typ2, max: u32) -> Result<Vec<(Int, Int)>, Memory>
     requires narrowest { 1 ≤ typ.width }
-    requires widest { typ.width ≤ 64 }
+    requires widest { typ.width ≤ most_bits }
     requires some { 1 ≤ max }
-    requires most { max ≤ 65536 }
-    ensures { IfOk result (λ ranges. map span ranges.items ≡ automatic_parts typ.width typ.signed max) }
+    requires most { max ≤ most_bins }
+    ensures parts { IfOk result
+        (λ ranges. map span ranges.items ≡ automatic_parts typ.width typ.signed max) }
+    ensures ranges { IfOk result
+        (λ ranges. ranges.items ≡ automatic_ranges typ.width typ.signed max) }
 {
     let count = count_of(typ);
-    spread_from(alloc, lowest_of(typ), count, count.min(max as u128))
+    let ranges = spread_from(alloc, lowest_of(typ), count, count.min(max as u128))?;
+    Ok(ranges)
 }

@@ -1,6 +1,8 @@
-use Rattle.std.proofs.lemmas.Result.{IfOk-weaker}
-use Rattle.auto_bins.proofs.Counting.{automatic_is}
+use Rattle.auto_bins.proofs.Counting.{automatic_is, ranges_are}
 use Rattle.auto_bins.proofs.ranges.auto_ranges.Goals as goal
 
-pub returns : goal.returns
-returns c = IfOk-weaker c.spread_from.result _ _ (λ ranges is. automatic_is c.args.typ.width c.args.typ.signed c.args.max c.min.result _ _ ranges.items c.requires.narrowest c.lowest_of.ensures c.count_of-count.ensures c.min.ensures is) c.spread_from.ensures
+pub returns-clause-parts : goal.returns-clause-parts
+returns-clause-parts c = automatic_is c.args.typ.width c.args.typ.signed c.args.max c.min.result _ _ c.in_ok-ranges.ranges.items c.requires.narrowest c.lowest_of.ensures c.count_of-count.ensures c.min.ensures c.in_ok-ranges.ensures.spread
+
+pub returns-clause-ranges : goal.returns-clause-ranges
+returns-clause-ranges c = ranges_are c.args.typ.width c.args.max c.args.typ.signed c.in_ok-ranges.ranges.items c.in_ok-ranges.ensures.order (returns-clause-parts c)
