@@ -12,14 +12,23 @@ fn rounds_down(rt: HostRuntime) {
     ] {
         assert_eq!(rt; item(covered, bins), millionths, "{covered} of {bins}");
     }
+}
+
+#[test]
+fn weighs(rt: HostRuntime) {
     assert_eq!(rt; weighted(&[(2, 500_000), (1, 0)]), 333_333);
     assert_eq!(rt; weighted(&[]), 1_000_000);
     assert_eq!(rt; weighted(&[(0, 5), (0, 7)]), 1_000_000);
-    assert_eq!(rt;
-        weighted(&[
-            (4_294_967_295, 4_294_967_295),
-            (4_294_967_295, 4_294_967_295)
-        ]),
-        4_294_967_295
-    );
+    let most = 4_294_967_295;
+    assert_eq!(rt; weighted(&[(most, most), (most, most)]), most);
+}
+
+#[test]
+fn takes_pairs_one_after_another(rt: HostRuntime) {
+    let mut mean = Mean::new();
+    assert_eq!(rt; mean.get(), 1_000_000);
+    mean.add(2, 500_000);
+    assert_eq!(rt; mean.get(), 500_000);
+    mean.add(1, 0);
+    assert_eq!(rt; mean.get(), 333_333);
 }
