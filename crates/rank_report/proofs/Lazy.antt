@@ -8,7 +8,7 @@ use Rattle.rank_report.proofs.Greatest.{open_here, taken_here}
 module _ (gains : List ℕ) (taken : List Bool) (numbers : List ℕ) (same : length numbers ≡ length gains) (above : StandAbove gains taken numbers) where
   -- where no number is above 0 no gain is
   pub no_gain : IsBest numbers taken None → IsBest gains taken None
-  no_gain none place lt = let a = above place lt in let z = none place (omega arith) in omega (arith, a, z)
+  no_gain none index lt = let a = above index lt in let z = none index (omega arith) in omega (arith, a, z)
 
   free : (row : Ranked) → IsBestRow numbers taken row → (t : Bool) → slice_index_or taken row.test false ≡ t → slice_index_or taken row.test false ≡ false
   free row b false e = e
@@ -19,7 +19,7 @@ module _ (gains : List ℕ) (taken : List Bool) (numbers : List ℕ) (same : len
   open_exact row b = open_here gains taken row.test (free row b (slice_index_or taken row.test false) refl)
 
   -- where one open gain is known all numbers that stand at it or above it are needed alone
-  pub best_fresh : (floor place : ℕ) → place < length gains → floor ≤ open_gain gains taken place → AreFresh gains taken floor numbers → (next : Option Ranked) → IsBest numbers taken next → IsBest gains taken next
+  pub best_fresh : (floor index : ℕ) → index < length gains → floor ≤ open_gain gains taken index → AreFresh gains taken floor numbers → (next : Option Ranked) → IsBest numbers taken next → IsBest gains taken next
   best_fresh floor at lt high fresh None b = no_gain b
   best_fresh floor at lt high fresh (Some row) b =
       let a = above at lt in
@@ -29,12 +29,12 @@ module _ (gains : List ℕ) (taken : List Bool) (numbers : List ℕ) (same : len
         inside = omega (arith, b.inside);
         is = b.is ∙ e;
         some = b.some;
-        greatest = λ place lt. let a = above place lt in let g = b.greatest place (omega arith) in omega (arith, a, g);
-        earliest = λ place lt. let a = above place (omega (arith, b.inside)) in let e = b.earliest place lt in omega (arith, a, e);
+        greatest = λ index lt. let a = above index lt in let g = b.greatest index (omega arith) in omega (arith, a, g);
+        earliest = λ index lt. let a = above index (omega (arith, b.inside)) in let e = b.earliest index lt in omega (arith, a, e);
       }
 
 -- ---- one after the other
 
--- the numbers of the places before i that aren't below `floor` are the gains
+-- the numbers of the pairs before i that aren't below `floor` are the gains
 abbrev pub FreshBelow : List ℕ → List Bool → ℕ → ℕ → List ℕ → Type 0
-FreshBelow gains taken floor i numbers = (place : ℕ) → place < i → floor ≤ open_gain numbers taken place → open_gain numbers taken place ≡ open_gain gains taken place
+FreshBelow gains taken floor i numbers = (index : ℕ) → index < i → floor ≤ open_gain numbers taken index → open_gain numbers taken index ≡ open_gain gains taken index

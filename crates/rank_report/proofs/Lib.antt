@@ -1,8 +1,10 @@
+pub mod AnyOrder
 pub mod Collected
 pub mod Greatest
 pub mod HitsLemmas
 pub mod Lazy
 pub mod NeverGrow
+pub mod OneRanking
 pub mod RankLemmas
 pub mod Rows
 pub mod Walk

@@ -61,26 +61,26 @@ missing_first (pair ∷ wanted) = joined (omega arith) (missing_first wanted)
 pub record Reached (tests : List Test) (wanted : List (ℕ × ℕ)) (ranked : List Ranked) (missing : List (ℕ × ℕ)) (taken : List Bool) : Type 0 where
   pub greedy : IsGreedy tests wanted ranked
   pub lacks : missing ≡ missing_of wanted (tests_of tests ranked)
-  pub marks : (place : ℕ) → place < length tests → slice_index_or taken place false ≡ is_taken ranked place
+  pub marks : (index : ℕ) → index < length tests → slice_index_or taken index false ≡ is_taken ranked index
 
 module _ (tests : List Test) (wanted : List (ℕ × ℕ)) (ranked : List Ranked) (missing : List (ℕ × ℕ)) (taken : List Bool) (r : Reached tests wanted ranked missing taken) where
-  gain_is : (place : ℕ) → place < length tests → slice_index (map (λ test. added test missing) tests) place ≡ gain_at tests wanted ranked place
-  gain_is place lt =
-      let a : slice_index (map (λ test. added test missing) tests) place ≡ added (test_at tests place) missing = get_or-map (λ test. added test missing) tests place [] 0 lt in
-      let b = raised wanted (tests_of tests ranked) (test_at tests place) in
-      let c : added (test_at tests place) missing ≡ added (test_at tests place) (missing_of wanted (tests_of tests ranked)) = ap (added (test_at tests place)) r.lacks in
+  gain_is : (index : ℕ) → index < length tests → slice_index (map (λ test. added test missing) tests) index ≡ gain_at tests wanted ranked index
+  gain_is index lt =
+      let a : slice_index (map (λ test. added test missing) tests) index ≡ added (test_at tests index) missing = get_or-map (λ test. added test missing) tests index [] 0 lt in
+      let b = raised wanted (tests_of tests ranked) (test_at tests index) in
+      let c : added (test_at tests index) missing ≡ added (test_at tests index) (missing_of wanted (tests_of tests ranked)) = ap (added (test_at tests index)) r.lacks in
       omega (arith, a, b, c)
 
-  open_is : (place : ℕ) → place < length tests → is_taken ranked place ≡ false → open_gain (map (λ test. added test missing) tests) taken place ≡ gain_at tests wanted ranked place
-  open_is place lt free = open_here (map (λ test. added test missing) tests) taken place (r.marks place lt ∙ free) ∙ gain_is place lt
+  open_is : (index : ℕ) → index < length tests → is_taken ranked index ≡ false → open_gain (map (λ test. added test missing) tests) taken index ≡ gain_at tests wanted ranked index
+  open_is index lt free = open_here (map (λ test. added test missing) tests) taken index (r.marks index lt ∙ free) ∙ gain_is index lt
 
-  open_zero : (place : ℕ) → place < length tests → is_taken ranked place ≡ true → open_gain (map (λ test. added test missing) tests) taken place ≡ 0
-  open_zero place lt gone = taken_here (map (λ test. added test missing) tests) taken place (r.marks place lt ∙ gone)
+  open_zero : (index : ℕ) → index < length tests → is_taken ranked index ≡ true → open_gain (map (λ test. added test missing) tests) taken index ≡ 0
+  open_zero index lt gone = taken_here (map (λ test. added test missing) tests) taken index (r.marks index lt ∙ gone)
 
-  pub ends : ((place : ℕ) → place < length (map (λ test. added test missing) tests) → open_gain (map (λ test. added test missing) tests) taken place ≡ 0) → IsRanking tests wanted ranked
+  pub ends : ((index : ℕ) → index < length (map (λ test. added test missing) tests) → open_gain (map (λ test. added test missing) tests) taken index ≡ 0) → IsRanking tests wanted ranked
   ends none_left = record {
     greedy = r.greedy;
-    end = λ place lt free. sym (open_is place lt free) ∙ none_left place (omega (arith, length-map tests (λ test. added test missing)));
+    end = λ index lt free. sym (open_is index lt free) ∙ none_left index (omega (arith, length-map tests (λ test. added test missing)));
   }
 
   module _ (row : Ranked) (b : IsBestRow (map (λ test. added test missing) tests) taken row) where
@@ -100,15 +100,15 @@ module _ (tests : List Test) (wanted : List (ℕ × ℕ)) (ranked : List Ranked)
       left = free;
       gains = b.is ∙ open_is row.test row_inside free;
       some = b.some;
-      greatest = λ place lt left. let e = open_is place lt left in let g = b.greatest place (omega (arith, length-map tests (λ test. added test missing))) in omega (arith, e, g);
-      earliest = λ place lt left. let e = open_is place (omega (arith, row_inside)) left in let g = b.earliest place lt in omega (arith, e, g);
+      greatest = λ index lt left. let e = open_is index lt left in let g = b.greatest index (omega (arith, length-map tests (λ test. added test missing))) in omega (arith, e, g);
+      earliest = λ index lt left. let e = open_is index (omega (arith, row_inside)) left in let g = b.earliest index lt in omega (arith, e, g);
     }
 
     tests_more : tests_of tests (ranked ++ (row ∷ [])) ≡ tests_of tests ranked ++ (test_at tests row.test ∷ [])
     tests_more = map-append (λ row. test_at tests row.test) ranked (row ∷ [])
 
-    taken_more : (place : ℕ) → is_taken (ranked ++ (row ∷ [])) place ≡ (is_taken ranked place || ((row.test == place) || false))
-    taken_more place = list_any-append (λ row. row.test == place) ranked (row ∷ [])
+    taken_more : (index : ℕ) → is_taken (ranked ++ (row ∷ [])) index ≡ (is_taken ranked index || ((row.test == index) || false))
+    taken_more index = list_any-append (λ row. row.test == index) ranked (row ∷ [])
 
     or_true : (b : Bool) → (b || (true || false)) ≡ true
     or_true true = refl
@@ -118,10 +118,10 @@ module _ (tests : List Test) (wanted : List (ℕ × ℕ)) (ranked : List Ranked)
     or_false true = refl
     or_false false = refl
 
-    marks_more : (n : ℕ) → length taken ≡ n → n ≡ length tests → (place : ℕ) → place < length tests → slice_index_or (set taken row.test true) place false ≡ is_taken (ranked ++ (row ∷ [])) place
-    marks_more n long same place lt = elim (cases_eq row.test place) [
+    marks_more : (n : ℕ) → length taken ≡ n → n ≡ length tests → (index : ℕ) → index < length tests → slice_index_or (set taken row.test true) index false ≡ is_taken (ranked ++ (row ∷ [])) index
+    marks_more n long same index lt = elim (cases_eq row.test index) [
       | inl e ↦ subst (λ (k : ℕ). slice_index_or (set taken row.test true) k false ≡ is_taken (ranked ++ (row ∷ [])) k) e (get_or-set_same taken row.test true false (omega (arith, row_inside)) ∙ sym (taken_more row.test ∙ rw (eq-eqb row.test row.test refl) (or_true (is_taken ranked row.test))))
-      | inr ne ↦ get_or-set_other taken row.test place true false (λ e. ne (sym e)) ∙ (r.marks place lt ∙ sym (taken_more place ∙ rw (ne_eqb row.test place ne) (or_false (is_taken ranked place))))
+      | inr ne ↦ get_or-set_other taken row.test index true false (λ e. ne (sym e)) ∙ (r.marks index lt ∙ sym (taken_more index ∙ rw (ne_eqb row.test index ne) (or_false (is_taken ranked index))))
     ]
 
     pub one_more : (n : ℕ) → length taken ≡ n → n ≡ length tests → Reached tests wanted (ranked ++ (row ∷ [])) (less (test_at tests row.test) missing) (set taken row.test true)
@@ -154,13 +154,13 @@ pub first_reached : (tests : List Test) (wanted : List (ℕ × ℕ)) (n : ℕ) �
 first_reached tests wanted n = record {
   greedy = none;
   lacks = missing_first wanted;
-  marks = λ place lt. unmarked n place;
+  marks = λ index lt. unmarked n index;
 }
   where
-    unmarked : (n place : ℕ) → get_or (replicate n false) place false ≡ false
-    unmarked zero place = refl
+    unmarked : (n index : ℕ) → get_or (replicate n false) index false ≡ false
+    unmarked zero index = refl
     unmarked (suc n) zero = refl
-    unmarked (suc n) (suc place) = unmarked n place
+    unmarked (suc n) (suc index) = unmarked n index
 
 pub started : (tests : List Test) (wanted : List (ℕ × ℕ)) (n : ℕ) (ranked : List Ranked) (missing : List (ℕ × ℕ)) (taken : List Bool) → ranked ≡ [] → missing ≡ wanted → taken ≡ replicate n false → Reached tests wanted ranked missing taken
 started tests wanted n ranked missing taken e f g = rw (e, f, g) (first_reached tests wanted n)

@@ -29,34 +29,34 @@ never_grows test other (m ∷ missing) =
 
 module _ (tests : List Test) (other : Test) (missing : List (ℕ × ℕ)) (taken : List Bool) (numbers : List ℕ) (at : ℕ) (inside : at < length taken) where
   -- a test that isn't taken wasn't before
-  unmarked : (place : ℕ) → slice_index_or (set taken at true) place false ≡ false → slice_index_or taken place false ≡ false
-  unmarked place e = elim (cases_eq at place) [
+  unmarked : (index : ℕ) → slice_index_or (set taken at true) index false ≡ false → slice_index_or taken index false ≡ false
+  unmarked index e = elim (cases_eq at index) [
     | inl same ↦ absurd (differ (sym (get_or-set_same taken at true false inside) ∙ (ap (λ (k : ℕ). slice_index_or (set taken at true) k false) same ∙ e)))
-    | inr ne ↦ sym (get_or-set_other taken at place true false (λ e. ne (sym e))) ∙ e
+    | inr ne ↦ sym (get_or-set_other taken at index true false (λ e. ne (sym e))) ∙ e
   ]
     where
       differ : true ≡ false → ⊥
       differ e = cc
 
-  stays : (place : ℕ) (mark : Bool) → place < length tests → slice_index_or (set taken at true) place false ≡ mark → StandAbove (map (λ test. added test missing) tests) taken numbers
-      → open_gain (map (λ test. added test (less other missing)) tests) (set taken at true) place ≤ open_gain numbers (set taken at true) place
-  stays place true lt e above =
-      let z = taken_here (map (λ test. added test (less other missing)) tests) (set taken at true) place e in
+  stays : (index : ℕ) (mark : Bool) → index < length tests → slice_index_or (set taken at true) index false ≡ mark → StandAbove (map (λ test. added test missing) tests) taken numbers
+      → open_gain (map (λ test. added test (less other missing)) tests) (set taken at true) index ≤ open_gain numbers (set taken at true) index
+  stays index true lt e above =
+      let z = taken_here (map (λ test. added test (less other missing)) tests) (set taken at true) index e in
       omega (arith, z)
-  stays place false lt e above =
-      let before = unmarked place e in
-      let new = open_here (map (λ test. added test (less other missing)) tests) (set taken at true) place e in
-      let old = open_here (map (λ test. added test missing) tests) taken place before in
-      let left = open_here numbers (set taken at true) place e in
-      let was = open_here numbers taken place before in
-      let new_is : slice_index (map (λ test. added test (less other missing)) tests) place ≡ added (test_at tests place) (less other missing) = get_or-map (λ test. added test (less other missing)) tests place [] 0 lt in
-      let old_is : slice_index (map (λ test. added test missing) tests) place ≡ added (test_at tests place) missing = get_or-map (λ test. added test missing) tests place [] 0 lt in
-      let grows = never_grows (test_at tests place) other missing in
-      let high = above place (omega (arith, length-map tests (λ test. added test missing))) in
+  stays index false lt e above =
+      let before = unmarked index e in
+      let new = open_here (map (λ test. added test (less other missing)) tests) (set taken at true) index e in
+      let old = open_here (map (λ test. added test missing) tests) taken index before in
+      let left = open_here numbers (set taken at true) index e in
+      let was = open_here numbers taken index before in
+      let new_is : slice_index (map (λ test. added test (less other missing)) tests) index ≡ added (test_at tests index) (less other missing) = get_or-map (λ test. added test (less other missing)) tests index [] 0 lt in
+      let old_is : slice_index (map (λ test. added test missing) tests) index ≡ added (test_at tests index) missing = get_or-map (λ test. added test missing) tests index [] 0 lt in
+      let grows = never_grows (test_at tests index) other missing in
+      let high = above index (omega (arith, length-map tests (λ test. added test missing))) in
       omega (arith, new, old, left, was, new_is, old_is, grows, high)
 
   pub still_above : StandAbove (map (λ test. added test missing) tests) taken numbers → StandAbove (map (λ test. added test (less other missing)) tests) (set taken at true) numbers
-  still_above above place lt = stays place (slice_index_or (set taken at true) place false) (omega (arith, length-map tests (λ test. added test (less other missing)))) refl above
+  still_above above index lt = stays index (slice_index_or (set taken at true) index false) (omega (arith, length-map tests (λ test. added test (less other missing)))) refl above
 
 -- ---- hits and tests
 
@@ -81,7 +81,7 @@ module _ {X : Type 0} (h : X → Test) (xs : List X) (wanted : List (ℕ × ℕ)
       let before : StandAbove (map (λ test. added test missing) (map h xs)) taken numbers = rw (← gains_are missing u, ← e, ← f, ← g) above in
       rw (w, l, gains_are (less other missing) (is_of_less other missing wanted u)) (still_above (map h xs) other missing taken numbers at inside before)
 
-  -- the hits at a place take off what its test does
+  -- the hits at an index take off what its test does
   pub fills : (missing : List (ℕ × ℕ)) (at : ℕ) (hit : List (ℕ × ℕ)) → IsOf missing wanted → at < length xs → hit ≡ slice_index_or hits at hit → less_by hit missing ≡ less (test_at (map h xs) at) missing
   fills missing at hit u lt is = rw (is_hit) (leaves (test_at (map h xs) at) wanted missing [] 0 refl u)
     where
@@ -94,4 +94,4 @@ module _ {X : Type 0} (h : X → Test) (xs : List X) (wanted : List (ℕ × ℕ)
       is_hit = is ∙ (ap (λ (l : List (List (ℕ × ℕ))). slice_index_or l at hit) are ∙ at_place h xs at hit lt)
 
 pub first_above : (gains gains' : List ℕ) (taken : List Bool) → gains' ≡ gains → StandAbove gains taken gains'
-first_above gains gains' taken e place lt = let s : open_gain gains' taken place ≡ open_gain gains taken place = ap (λ (l : List ℕ). open_gain l taken place) e in omega (arith, s)
+first_above gains gains' taken e index lt = let s : open_gain gains' taken index ≡ open_gain gains taken index = ap (λ (l : List ℕ). open_gain l taken index) e in omega (arith, s)

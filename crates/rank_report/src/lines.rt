@@ -3,7 +3,7 @@ ghost use Rattle.std.specs.Prelude.{◌≡◌, ◌<◌, ◌++◌, length, decima
 ghost use Rattle.std.specs.List.{All};
 ghost use Rattle.rank_report.specs.Lines.{rank_line, rank_text};
 
-use cov_base::Memory;
+use cov_ground::Memory;
 use cov_tree::Name;
 use itoa::Buffer;
 use std::alloc::Global;

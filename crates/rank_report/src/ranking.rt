@@ -5,10 +5,10 @@
 ghost use Rattle.std.specs.Prelude.{◌≡◌, ◌<◌, ◌^◌, length, map, IfOk, OnOk};
 ghost use Rattle.std.specs.Arc.{arc_value};
 ghost use Rattle.rank_report.specs.Ranking.{IsRanking};
-ghost use Rattle.rank_report.specs.Steps.{hits_from, added_by, IsBest, StandAbove, AreFresh};
+ghost use Rattle.rank_report.specs.Steps.{hits_from, added_by, IsBest, StandAbove, AreFresh, AscendByBin};
 
 use crate::hits::Hits;
-use cov_base::Memory;
+use cov_ground::Memory;
 use cov_tree::List;
 use rayon::prelude::*;
 use std::alloc::{AllocError, Global};
@@ -32,6 +32,23 @@ pub fn rank<R: Threads + Sync>(
     requires wanted { length wanted.now < 2 ^ 32 }
     ensures { IfOk result (λ ranked. IsRanking (map arc_value tests.now) wanted.now ranked) }
 {
+    let mut sorted = Vec::from_slice(alloc, wanted)?;
+    sorted.sort_unstable_by_key(|pair| pair.0);
+    rank_sorted(rt, alloc, tests, sorted.as_slice())
+}
+
+/// The greedy ranking, where the wanted pairs ascend by their bins.
+fn rank_sorted<R: Threads + Sync>(
+    rt: &R,
+    alloc: Global,
+    tests: &[Arc<Tally>],
+    wanted: &[(u32, u32)],
+) -> Result<List<Ranked>, Memory>
+    requires tests { length tests.now < 2 ^ 32 }
+    requires wanted { length wanted.now < 2 ^ 32 }
+    requires ascend { AscendByBin wanted.now }
+    ensures { IfOk result (λ ranked. IsRanking (map arc_value tests.now) wanted.now ranked) }
+{
     let hits = hits_of(rt, alloc, tests, wanted)?;
     let mut missing = Vec::from_slice(alloc, wanted)?;
     let mut gains = gains_of(rt, alloc, &hits, &missing)?;
@@ -39,9 +56,9 @@ pub fn rank<R: Threads + Sync>(
     let mut ranked = Vec::new(alloc);
     'rows: while let Some(next) = next_of(rt, alloc, &hits, &taken, &missing, &mut gains)? {
         ranked.push(next)?;
-        let place = next.test as usize;
-        taken[place] = true;
-        hits[place].fill(&mut missing);
+        let test = next.test as usize;
+        taken[test] = true;
+        hits[test].fill(&mut missing);
     }
     Ok(List::of(ranked))
 }
@@ -53,14 +70,15 @@ fn hits_of<R: Threads + Sync>(
     tests: &[Arc<Tally>],
     wanted: &[(u32, u32)],
 ) -> Result<Vec<Hits>, Memory>
-    requires { length wanted.now < 2 ^ 32 }
+    requires few { length wanted.now < 2 ^ 32 }
+    requires ascend { AscendByBin wanted.now }
     ensures { IfOk result (λ hits. hits.items ≡ map (λ test. hits_from 0 (arc_value test) wanted.now) tests.now) }
 {
     let hits: Result<Result<Vec<Hits>, Memory>, AllocError> = tests
         .par_iter()
         .map(
             |test: &Arc<Tally>| -> Result<Hits, Memory>
-                requires { length wanted.now < 2 ^ 32 }
+                requires { (length wanted.now < 2 ^ 32) × AscendByBin wanted.now }
                 ensures { IfOk result (λ hits. hits ≡ hits_from 0 (arc_value test.now) wanted.entry.now) }
             { Hits::of(alloc, test, wanted) },
         )
@@ -139,9 +157,9 @@ fn refresh_few(hits: &[Hits], taken: &[bool], missing: &[(u32, u32)], floor: u64
     ensures above { StandAbove (map (λ hits. added_by hits missing.now) hits.now) taken.now gains.new }
     ensures fresh { AreFresh (map (λ hits. added_by hits missing.now) hits.now) taken.now floor gains.new }
 {
-    for (place, hits) in hits.iter().enumerate() {
-        if !taken[place] && gains[place] >= floor {
-            gains[place] = hits.gain(missing);
+    for (index, hits) in hits.iter().enumerate() {
+        if !taken[index] && gains[index] >= floor {
+            gains[index] = hits.gain(missing);
         }
     }
 }
@@ -167,17 +185,17 @@ fn gains_of<R: Threads + Sync>(
     Ok(gains?)
 }
 
-/// The place of the greatest gain of a test that isn't taken, the first among equals; none where no such test gains.
+/// The index of the greatest gain of a test that isn't taken, the first among equals; none where no such test gains.
 fn best(gains: &[u64], taken: &[bool]) -> Option<Ranked>
     requires same { length taken.now ≡ length gains.now }
     requires few { length gains.now < 2 ^ 32 }
     ensures { IsBest gains.now taken.now result }
 {
     let mut best = Ranked { test: 0, gain: 0 };
-    for (place, gain) in gains.iter().enumerate() {
-        if !taken[place] && *gain > best.gain {
+    for (index, gain) in gains.iter().enumerate() {
+        if !taken[index] && *gain > best.gain {
             best = Ranked {
-                test: place as u32,
+                test: index as u32,
                 gain: *gain,
             };
         }

@@ -1,5 +1,5 @@
 use Rattle.rank_report.proofs.Greatest.{Greatest}
 use Rattle.rank_report.proofs.ranking.best.Given as goal
 
-abbrev pub invariant-loop-place : goal.invariant-loop-place
-invariant-loop-place l = Greatest l.gains l.taken l.place l.best
+abbrev pub invariant-loop-index : goal.invariant-loop-index
+invariant-loop-index l = Greatest l.gains l.taken l.index l.best

@@ -4,7 +4,7 @@ use Rattle.std.specs.List.{sum_by}
 use Rattle.std.specs.Arc.{arc_value}
 use Rattle.rank_report.specs.Steps.{added_by, StandAbove}
 use Rattle.rank_report.proofs.RankLemmas.{Reached}
-use Rattle.rank_report.proofs.ranking.rank.Given as goal
+use Rattle.rank_report.proofs.ranking.rank_sorted.Given as goal
 
 abbrev pub invariant-rows : goal.invariant-rows
 invariant-rows g l = record {
