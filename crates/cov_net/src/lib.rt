@@ -3,6 +3,7 @@
 #![tactic(auto)]
 
 mod again;
+mod disk;
 mod shelf;
 mod streams;
 

@@ -3,13 +3,14 @@ ghost use Rattle.std.specs.Prelude.{◌≡◌, ◌≢◌, ◌+◌, ◌<◌, ◌�
 ghost use Rattle.std.specs.IoError.{error_kind};
 ghost use Rattle.std.specs.Io.KnownBytes.{Consumes, IsAtEnd};
 ghost use Rattle.cov_base.specs.Loads.{Loads};
-ghost use Rattle.cov_net.specs.Sizes.{IsSize};
+ghost use Rattle.cov_net.specs.Sizes.{IsSize, IsReadRefusal, IsFileRefusal};
 ghost use Rattle.cov_net.specs.Counted.{CountedLoad, IsUntoldRefusal};
 
 use crate::again::read_again;
+use crate::disk::Disk;
 use cov_base::{Shelf, ShelfRefusal};
 use std::alloc::Global;
-use std::fs::{File, Metadata, OpenFile};
+use std::fs::Metadata;
 use std::io;
 use std::io::{ErrorKind, Read};
 use std::marker::Model;
@@ -28,34 +29,6 @@ fn refusal_of(error: &io::Error) -> ShelfRefusal
     } else {
         ShelfRefusal::Failed
     }
-}
-
-/// Opens the file to be read. An interrupted call is made again.
-fn open<R: Files>(rt: &R, name: &str) -> io::Result<R::File>
-    ensures { IfErr result (λ e. error_kind e ≢ ErrorKind.Interrupted) }
-{
-    for _ in 0..u64::MAX {
-        match File::open(rt, name) {
-            Ok(file) => return Ok(file),
-            Err(error) if error.kind() == ErrorKind::Interrupted => {}
-            Err(error) => return Err(error),
-        }
-    }
-    Err(io::Error::from(ErrorKind::TimedOut))
-}
-
-/// What the system says of the file. An interrupted call is made again.
-fn metadata_of<F: OpenFile>(file: &F) -> io::Result<Metadata>
-    ensures { IfErr result (λ e. error_kind e ≢ ErrorKind.Interrupted) }
-{
-    for _ in 0..u64::MAX {
-        match file.metadata() {
-            Ok(metadata) => return Ok(metadata),
-            Err(error) if error.kind() == ErrorKind::Interrupted => {}
-            Err(error) => return Err(error),
-        }
-    }
-    Err(io::Error::from(ErrorKind::TimedOut))
 }
 
 /// The bytes that the system says that the file has. A directory can't be read.
@@ -84,7 +57,7 @@ fn append_piece<F: Read>(
     requires most { vec_len bytes.old ≤ most }
     ensures room { length room.new ≡ length room.old }
     ensures bound { IfOk result (λ n. vec_len bytes.new ≤ most) }
-    ensures refusal { IfErr result (λ cause. IsUntoldRefusal most cause) }
+    ensures refusal { IfErr result (IsReadRefusal (F.remaining file.old) (F.remaining file.new) (vec_len bytes.old) most (length room.old)) }
     ensures bytes { IfOk result (λ n. (piece : List ℕ) × (length piece ≡ n) × (bytes.new.items ≡ bytes.old.items ++ piece) × Consumes (F.remaining file.old) (F.remaining file.new) piece) }
     ensures end { IfOk result (λ n. n ≡ 0 → IsAtEnd (F.remaining file.new)) }
 {
@@ -107,7 +80,7 @@ pub(crate) fn read_whole<F: Read>(
     most: u64,
 ) -> Result<Vec<u8>, ShelfRefusal>
     ensures bound { IfOk result (λ bytes. length bytes.items ≤ most) }
-    ensures refusal { IfErr result (λ cause. IsUntoldRefusal most cause) }
+    ensures refusal { IfErr result (IsReadRefusal (F.remaining file.old) (F.remaining file.new) 0 most PIECE) }
     ensures bytes { IfOk result (λ bytes. Consumes (F.remaining file.old) (F.remaining file.new) bytes.items) }
     ensures end { OnOk result (IsAtEnd (F.remaining file.new)) }
 {
@@ -116,25 +89,33 @@ pub(crate) fn read_whole<F: Read>(
     let mut room = Vec::new(alloc);
     room.resize(PIECE, 0u8).map_err(|_| ShelfRefusal::Memory)?;
     for _ in 0..u64::MAX {
-        if append_piece(file, room.as_mut_slice(), &mut bytes, most)? == 0 {
-            return Ok(bytes);
+        match append_piece(file, room.as_mut_slice(), &mut bytes, most) {
+            Ok(count) if count == 0 => return Ok(bytes),
+            Ok(_) => {}
+            Err(cause) => return Err(cause),
         }
     }
     Err(ShelfRefusal::Failed)
 }
 
 /// The file's bytes. Where the system says that it has more than `most`, none is read.
-fn read_file<R: Files>(
-    rt: &R,
+fn read_file<D: Disk>(
+    disk: &D,
     alloc: Global,
     name: &str,
     most: u64,
 ) -> Result<Vec<u8>, ShelfRefusal>
     ensures bound { IfOk result (λ bytes. length bytes.items ≤ most) }
-    ensures refusal { IfErr result (λ cause. IsUntoldRefusal most cause) }
+    ensures refusal { IfErr result (IsFileRefusal (D.opens disk.now name.now) D.tells most PIECE) }
 {
-    let mut file = open(rt, name).map_err(|error| refusal_of(&error))?;
-    let metadata = metadata_of(&file).map_err(|error| refusal_of(&error))?;
+    let mut file = match disk.open(name) {
+        Ok(file) => file,
+        Err(error) => return Err(refusal_of(&error)),
+    };
+    let metadata = match disk.metadata_of(&file) {
+        Ok(metadata) => metadata,
+        Err(error) => return Err(refusal_of(&error)),
+    };
     let size = size_of(&metadata, most)?;
     read_whole(&mut file, alloc, size, most)
 }
