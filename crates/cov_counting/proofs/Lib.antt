@@ -1,0 +1,10 @@
+pub mod Bins
+pub mod Counts
+pub mod CrossHits
+pub mod Done
+pub mod Hits
+pub mod Others
+pub mod Products
+pub mod Plain
+pub mod Wide
+pub mod Windows

@@ -1,0 +1,6 @@
+pub mod Hits
+pub mod Crosses
+pub mod Tallies
+pub mod Laws
+pub mod Steps
+pub use Rattle.cov_spec.specs.Number
