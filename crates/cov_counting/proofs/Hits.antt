@@ -8,7 +8,7 @@ use Rattle.std.proofs.lemmas.List.Elements.{filter_more}
 use Rattle.std.proofs.lemmas.Option.{cond_some}
 use Rattle.const_eval.specs.Terms.{Term}
 use Rattle.const_eval.specs.Values.{value}
-use Rattle.trans_seq.specs.Windows.{Counts}
+use Rattle.trans_seq.specs.Windows.{EndsKept}
 use Rattle.design_data.specs.declared.infos.ItemInfo.{ItemInfo}
 use Rattle.design_data.specs.declared.infos.BinInfo.{BinInfo}
 use Rattle.design_data.specs.declared.infos.BinRule.{BinRule}
@@ -54,7 +54,7 @@ pub kept : RemovedNeverCount
 kept item expr bin seqs all k lt rule hit =
     let before = trace expr item.guard (take k all) in
     let now = value expr (slice_index_or all k []) None in
-    let c : Counts seqs (removing_seqs item bin.kind) (before ++ now ∷ []) = subst (λ (r : BinRule). Meets item bin.kind r before now) rule hit.meets in
+    let c : EndsKept seqs (removing_seqs item bin.kind) (before ++ now ∷ []) = subst (λ (r : BinRule). Meets item bin.kind r before now) rule hit.meets in
     subst (λ (w : List Value). HasKept seqs (removing_seqs item bin.kind) w) (sym (trace_more expr item.guard all k lt hit.in_trace))
     (record { from = c.from; some = c.some; is_own = c.in_own; not_removed = c.not_removed })
 

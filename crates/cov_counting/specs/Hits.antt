@@ -4,7 +4,7 @@ use Rattle.std.specs.List.{All}
 use Rattle.const_eval.specs.Terms.{Term}
 use Rattle.const_eval.specs.Values.{value, is_true}
 use Rattle.trans_seq.specs.declared.seq.Seq.{Seq}
-use Rattle.trans_seq.specs.Windows.{is_known_in, InSome, Counts}
+use Rattle.trans_seq.specs.Windows.{is_known_in, InSome, EndsKept}
 use Rattle.design_data.specs.declared.infos.ItemInfo.{ItemInfo}
 use Rattle.design_data.specs.declared.infos.BinInfo.{BinInfo}
 use Rattle.design_data.specs.declared.infos.BinKind.{BinKind}
@@ -42,7 +42,7 @@ pub record IsDefaultSequence (item : ItemInfo) (before : List Value) (now : Valu
 abbrev pub Meets : ItemInfo → BinKind → BinRule → List Value → Value → Type 0
 Meets item kind (Values set) before now = is_known_in set now ≡ true
 Meets item kind (Patterns patterns) before now = in_patterns patterns now ≡ true
-Meets item kind (Trans seqs) before now = Counts seqs (removing_seqs item kind) (before ++ now ∷ [])
+Meets item kind (Trans seqs) before now = EndsKept seqs (removing_seqs item kind) (before ++ now ∷ [])
 Meets item kind Default before now = is_listed item.bins now ≡ false
 Meets item kind (DefaultValues set) before now = is_known_in set now ≡ true
 Meets item kind DefaultSequence before now = IsDefaultSequence item before now

@@ -1,6 +1,6 @@
 //! When a bin of a point is hit, by definition: the windows that end at a sample are searched one by one.
 ghost use Rattle.std.specs.Prelude.{◌≡◌, ◌++◌, ◌∷◌, [], ◌<◌, ◌≤◌, ◌↔◌, IsTrue, IfOk, length, All};
-ghost use Rattle.trans_seq.specs.Windows.{InSome, Counts};
+ghost use Rattle.trans_seq.specs.Windows.{InSome, EndsKept};
 ghost use Rattle.const_eval.specs.Values.{is_true as is_true_of};
 ghost use Rattle.design_data.specs.Bins.{removing_seqs, seqs_of as seqs_of_rule};
 ghost use Rattle.design_data.specs.Laws.{in_patterns as in_patterns_of, lists as lists_of, is_listed as is_listed_in};
@@ -115,7 +115,7 @@ fn removing(item: &ItemInfo, kind: BinKind) -> (&[Seq], &[Seq])
 
 /// Whether some window that ends with the last value is one of the sequences and none of those that remove.
 fn counts(seqs: &[Seq], ignored: &[Seq], illegal: &[Seq], values: &[Option<Int>]) -> bool
-    ensures { IsTrue result ↔ Counts seqs.now (ignored.now ++ illegal.now) values.now }
+    ensures { IsTrue result ↔ EndsKept seqs.now (ignored.now ++ illegal.now) values.now }
 {
     for from in 0..values.len() {
         if is_kept(seqs, ignored, illegal, &values[from..]) {
