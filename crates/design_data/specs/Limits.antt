@@ -25,16 +25,6 @@ use Rattle.design_data.specs.Left.{has_seq_left}
 abbrev pub HasWidth : ℕ → Type 0
 HasWidth width = (1 ≤ width) × (width ≤ most_bits)
 
--- the most bytes of a name
-abbrev pub longest_name : ℕ
-longest_name = 1024
-
--- a name of a signal, a group or an instance, as a record has it: printable bytes without spaces
-pub record IsName (name : List ℕ) : Type 0 where
-  pub some : 1 ≤ length name
-  pub short : length name ≤ longest_name
-  pub bytes : AllByRecursion (λ byte. (33 ≤ byte) × (byte < 127)) name
-
 -- ---- sets
 
 -- a set with some number, of not too many intervals
@@ -111,7 +101,6 @@ pub record IsItem (items : List ItemInfo) (item : ItemInfo) : Type 0 where
 
 -- an instance of one of so many groups
 pub record IsInstance (groups : ℕ) (inst : InstInfo) : Type 0 where
-  pub name : IsName inst.name
   pub group : inst.group < groups
   pub arg_count : length inst.args ≤ most_arguments
   pub args : AllByRecursion (λ arg. HasWidth arg.width) inst.args
@@ -122,8 +111,6 @@ pub record IsInstance (groups : ℕ) (inst : InstInfo) : Type 0 where
 pub record IsDesign (signals : List Signal) (groups : List GroupInfo) (instances : List InstInfo) (bin_count : ℕ) : Type 0 where
   pub signal_count : length signals ≤ most_signals
   pub widths : AllByRecursion (λ signal. HasWidth signal.width) signals
-  pub signal_names : AllByRecursion (λ signal. IsName signal.name) signals
-  pub group_names : AllByRecursion (λ group. IsName group.name) groups
   pub instance_count : length instances ≤ most_instances
   pub item_count : items_in instances ≤ most_items
   pub each : AllByRecursion (IsInstance (length groups)) instances
@@ -133,9 +120,6 @@ pub record IsDesign (signals : List Signal) (groups : List GroupInfo) (instances
   pub few_ranges : ranges_in (numbered_items groups instances) ≤ most_design_ranges
 
 -- ---- each of these is known in one way at most, as a field of a type must be
-
-pub IsName-prop : (name : List ℕ) → IsProp (IsName name)
-IsName-prop name = hlevel props
 
 pub IsProduct-prop : (sizes product : List ℕ) → IsProp (IsProduct sizes product)
 IsProduct-prop [] [] = hlevel props
@@ -174,11 +158,11 @@ pub IsItem-prop : (items : List ItemInfo) (item : ItemInfo) → IsProp (IsItem i
 IsItem-prop items item = hlevel (props, IsShape-prop)
 
 pub IsInstance-prop : (groups : ℕ) (inst : InstInfo) → IsProp (IsInstance groups inst)
-IsInstance-prop groups inst = hlevel (props, IsItem-prop, IsName-prop)
+IsInstance-prop groups inst = hlevel (props, IsItem-prop)
 
 pub IsNumberedFrom-prop : (first : ℕ) (items : List ItemInfo) → IsProp (IsNumberedFrom first items)
 IsNumberedFrom-prop first [] = hlevel props
 IsNumberedFrom-prop first (item ∷ items) = hlevel (props, IsNumberedFrom-prop (first + length item.bins) items)
 
 pub IsDesign-prop : (signals : List Signal) (groups : List GroupInfo) (instances : List InstInfo) (bin_count : ℕ) → IsProp (IsDesign signals groups instances bin_count)
-IsDesign-prop signals groups instances bin_count = hlevel (props, IsInstance-prop, IsNumberedFrom-prop, IsName-prop)
+IsDesign-prop signals groups instances bin_count = hlevel (props, IsInstance-prop, IsNumberedFrom-prop)
