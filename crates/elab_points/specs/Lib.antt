@@ -1,0 +1,5 @@
+pub mod Built
+pub mod Declarations
+pub mod Left
+pub mod Made
+pub mod Ranges

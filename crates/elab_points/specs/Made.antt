@@ -1,0 +1,78 @@
+-- The bins of one declaration: one of all listed numbers, one of each, or so many over which they are spread
+-- (IEEE 1800-2017, 19.5.1).
+use Rattle.std.specs.Prelude.{ℕ, ◌+◌, ◌≤◌, nat_le, ℤ, pos, int_le, unsigned_abs, List, [], ◌∷◌, ◌++◌, length, map, Option, Result, Ok, Err}
+use Rattle.std.specs.Fmt.{decimal, signed_decimal}
+use Rattle.cov_ground.specs.Limits.{most_bins}
+use Rattle.cov_base.specs.Sets.{written, set_of, ascending}
+use Rattle.bin_spec.specs.Parts.{parts}
+use Rattle.cov_tree.specs.declared.bins.Size.{Size}
+use Rattle.cov_tree.specs.declared.bins.Size.TheVariants as sizes
+use Rattle.const_eval.specs.Terms.{Term}
+use Rattle.const_eval.specs.Scopes.{Levels}
+use Rattle.design_data.specs.declared.infos.BinKind.{BinKind}
+use Rattle.design_data.specs.declared.infos.BinRule.TheVariants.{Values}
+use Rattle.elab_base.specs.declared.fault.ElabKind.TheVariants as kind
+use Rattle.elab_base.specs.Gives.{Refusal, ◌>>=◌, needs}
+use Rattle.elab_base.specs.Steps.{number_in}
+use Rattle.elab_points.specs.declared.made.Made.{Made}
+use Rattle.elab_points.specs.declared.made.Wanted.{Wanted}
+use Rattle.elab_points.specs.declared.made.Wanted.TheVariants as wants
+use Rattle.elab_points.specs.declared.made.Plan.{Plan}
+use Rattle.elab_points.specs.declared.made.Plan.TheVariants as plans
+
+-- what a declaration asks for; the number of bins is at least 1
+unfoldable pub wanted_in : Levels → Size → ℕ → Result Wanted Refusal
+wanted_in levels sizes.Scalar at = Ok wants.One
+wanted_in levels sizes.Open at = Ok wants.Each
+wanted_in levels (sizes.Fixed bins) at = do
+  n ← number_in levels bins
+  _ ← needs (int_le (pos 1) n) kind.ZeroBins at
+  Ok (wants.Spread (unsigned_abs n))
+
+abbrev pub IsWanted : Wanted → Type 0
+IsWanted wants.One = Unit {0}
+IsWanted wants.Each = Unit {0}
+IsWanted (wants.Spread n) = 1 ≤ n
+
+-- how many bins that is, empty ones too
+abbrev pub bins_wanted : Wanted → List ℤ → ℕ
+bins_wanted wants.One numbers = 1
+bins_wanted wants.Each numbers = length (ascending numbers)
+bins_wanted (wants.Spread n) numbers = n
+
+abbrev pub plan_of : Wanted → List ℤ → Plan
+plan_of wants.One numbers = plans.One
+plan_of wants.Each numbers = plans.Each (ascending numbers)
+plan_of (wants.Spread n) numbers = plans.Spread n
+
+-- an item has 65,536 bins at most, before anything is removed
+unfoldable pub planned : (have : ℕ) → Wanted → List ℤ → ℕ → Result Plan Refusal
+planned have wanted numbers at = do
+  _ ← needs (nat_le (have + bins_wanted wanted numbers) most_bins) kind.TooManyBins at
+  Ok (plan_of wanted numbers)
+
+abbrev pub IsPlan : Plan → Type 0
+IsPlan plans.One = Unit {0}
+IsPlan (plans.Each numbers) = Unit {0}
+IsPlan (plans.Spread n) = (1 ≤ n) × (n ≤ most_bins)
+
+-- `name[index]`
+unfoldable pub indexed : List ℕ → List ℕ → List ℕ
+indexed name index = name ++ (91 ∷ (index ++ 93 ∷ []))
+
+abbrev pub value_bin : List ℕ → BinKind → Option Term → ℕ → List (ℤ × ℤ) → Made
+value_bin name kind guard at set = record { bin = record { name = name; kind = kind; rule = Values set; guard = guard }; at = at }
+
+-- `b[v]`, v in decimal
+abbrev pub single : List ℕ → BinKind → Option Term → ℕ → ℤ → Made
+single name kind guard at v = value_bin (indexed name (signed_decimal v)) kind guard at (set_of (written ((v, v) ∷ [])))
+
+-- `b[j]`, from a place j on
+abbrev pub part_bins : List ℕ → BinKind → Option Term → ℕ → ℕ → List (List (ℤ × ℤ)) → List Made
+part_bins name kind guard at j [] = []
+part_bins name kind guard at j (set ∷ sets) = value_bin (indexed name (decimal j)) kind guard at set ∷ part_bins name kind guard at (j + 1) sets
+
+unfoldable pub bins_made : Plan → List ℕ → BinKind → Option Term → ℕ → List ℤ → List Made
+bins_made plans.One name kind guard at numbers = value_bin name kind guard at (set_of numbers) ∷ []
+bins_made (plans.Each distinct) name kind guard at numbers = map (single name kind guard at) distinct
+bins_made (plans.Spread n) name kind guard at numbers = part_bins name kind guard at 0 (map set_of (parts numbers n))

@@ -1,0 +1,274 @@
+//! The bins of one declaration.
+ghost use Rattle.std.specs.Prelude.{◌≡◌, ◌≤◌, ◌+◌, ℕ, nat_le, IfOk, IfErr, OnOk, map};
+ghost use Rattle.std.specs.Fmt.{decimal};
+ghost use Rattle.cov_ground.specs.Limits.{most_bins};
+ghost use Rattle.cov_base.specs.Sets.{written, set_of, ascending};
+ghost use Rattle.bin_spec.specs.Parts.{parts as parts_of};
+ghost use Rattle.elab_base.specs.declared.fault.ElabKind.TheVariants as kinds;
+ghost use Rattle.elab_base.specs.Gives.{Gives, Fails, needs};
+ghost use Rattle.elab_points.specs.declared.made.Wanted.TheVariants.{Each};
+ghost use Rattle.elab_points.specs.Made.{IsWanted, IsPlan, wanted_in, planned, indexed, value_bin, single, part_bins, bins_made};
+
+use const_eval::{Bound, Scope};
+use cov_base::{Int, Memory, ValueSet};
+use cov_ground::limits::MOST_BINS;
+use cov_tree::{List, Name, Size};
+use design_data::{BinInfo, BinKind, BinRule};
+use elab_base::{ElabFault, ElabKind, copy_guard, number_in};
+use std::alloc::Global;
+use value_bins::{Elems, SpreadFault, singles, spread};
+
+/// A bin on the way, with the place of its declaration.
+#[derive(Drop, Debug)]
+pub struct Made {
+    pub bin: BinInfo,
+    pub at: u32,
+}
+
+/// How many bins a declaration asks for: `b`, `b[]`, or `b[n]`.
+#[derive(Clone, Copy, Debug, PartialEq, Eq)]
+pub enum Wanted {
+    /// One of all numbers.
+    One,
+    /// One of each number.
+    Each,
+    /// So many, over which the numbers are spread.
+    Spread { bins: u64 },
+}
+
+/// The bins that a declaration makes.
+#[derive(Drop, Debug)]
+pub enum Plan {
+    /// One of all numbers.
+    One,
+    /// One of each of these numbers.
+    Each { numbers: List<Int> },
+    /// So many, over which the numbers are spread.
+    Spread { bins: u32 },
+}
+
+/// What a declaration asks for.
+#[tactic(auto, unfolding(crate::specs::Made::wanted_in))]
+pub(crate) fn size_of(
+    alloc: Global,
+    scope: &Scope,
+    size: &Size,
+    at: u32,
+) -> Result<Wanted, ElabFault>
+    ensures gives { Gives result (wanted_in scope.now size.now at) }
+    ensures wanted { IfOk result IsWanted }
+{
+    match size {
+        Size::Scalar => Ok(Wanted::One),
+        Size::Open => Ok(Wanted::Each),
+        Size::Fixed(bins) => {
+            let bins = number_in(alloc, scope, bins)?;
+            ElabKind::ZeroBins.unless(1 <= bins.get(), at)?;
+            Ok(Wanted::Spread {
+                bins: bins.get() as u64,
+            })
+        }
+    }
+}
+
+/// The distinct listed numbers, ascending, of which there may be as many as an item may have bins.
+#[tactic(auto, using(crate::proofs::Singles::too_many), unfolding(crate::specs::Made::planned))]
+fn distinct(alloc: Global, elems: &Elems, at: u32) -> Result<Vec<Int>, ElabFault>
+    ensures numbers { IfOk result (λ numbers. numbers.items ≡ ascending (written elems.now)) }
+    ensures fault { (have : ℕ) → IfErr result (λ e. Fails e (planned have Each (written elems.now) at)) }
+{
+    match singles(alloc, elems) {
+        Ok(numbers) => Ok(numbers),
+        Err(SpreadFault::TooManyBins { .. }) => Err(ElabKind::TooManyBins.at(at)),
+        Err(SpreadFault::ZeroBins) => Err(ElabFault::Memory),
+        Err(SpreadFault::Memory) => Err(ElabFault::Memory),
+    }
+}
+
+/// Whether an item that has so many bins may have so many more.
+#[tactic(auto, unfolding(elab_base::specs::Gives::needs))]
+pub(crate) fn check_room(have: usize, more: u64, at: u32) -> Result<(), ElabFault>
+    ensures gives { Gives result (needs (nat_le (have + more) most_bins) kinds.TooManyBins at) }
+    ensures few { OnOk result (more ≤ most_bins) }
+{
+    if have > MOST_BINS || more > (MOST_BINS - have) as u64 {
+        return Err(ElabKind::TooManyBins.at(at));
+    }
+    Ok(())
+}
+
+/// The bins that a declaration makes, where its item, which has so many, has room for them.
+#[tactic(auto, unfolding(crate::specs::Made::planned))]
+pub(crate) fn make_plan(
+    alloc: Global,
+    have: usize,
+    wanted: Wanted,
+    elems: &Elems,
+    at: u32,
+) -> Result<Plan, ElabFault>
+    requires { IsWanted wanted }
+    ensures gives { Gives result (planned have wanted (written elems.now) at) }
+    ensures plan { IfOk result IsPlan }
+{
+    match wanted {
+        Wanted::One => {
+            check_room(have, 1, at)?;
+            Ok(Plan::One)
+        }
+        Wanted::Each => {
+            let numbers = distinct(alloc, elems, at)?;
+            check_room(have, numbers.len() as u64, at)?;
+            Ok(Plan::Each {
+                numbers: List::of(numbers),
+            })
+        }
+        Wanted::Spread { bins } => {
+            check_room(have, bins, at)?;
+            Ok(Plan::Spread { bins: bins as u32 })
+        }
+    }
+}
+
+/// `name[index]`
+#[tactic(auto, unfolding(crate::specs::Made::indexed))]
+fn indexed_name(alloc: Global, name: &Name, index: &[u8]) -> Result<Name, Memory>
+    ensures { IfOk result (λ text. text ≡ indexed name.now index.now) }
+{
+    let mut text = Vec::from_slice(alloc, name.as_slice())?;
+    text.push(b'[')?;
+    text.extend_from_slice(index)?;
+    text.push(b']')?;
+    Ok(Name::from_vec(text))
+}
+
+/// A bin of a set of values.
+pub(crate) fn bin_of(
+    name: Name,
+    kind: BinKind,
+    guard: Option<Bound>,
+    at: u32,
+    set: ValueSet,
+) -> Made
+    ensures { result ≡ value_bin name kind guard at set }
+{
+    Made {
+        bin: BinInfo {
+            name,
+            kind,
+            rule: BinRule::Values(set),
+            guard,
+        },
+        at,
+    }
+}
+
+fn single_bin(
+    alloc: Global,
+    name: &Name,
+    kind: BinKind,
+    guard: &Option<Bound>,
+    at: u32,
+    value: Int,
+) -> Result<Made, Memory>
+    ensures { IfOk result (λ made. made ≡ single name.now kind guard.now at value) }
+{
+    let text = value.get().to_string(alloc)?;
+    let name = indexed_name(alloc, name, text.as_bytes())?;
+    let guard = copy_guard(alloc, guard)?;
+    let set = ValueSet::from_ranges(alloc, &[(value, value)])?;
+    Ok(bin_of(name, kind, guard, at, set))
+}
+
+fn single_bins(
+    alloc: Global,
+    name: &Name,
+    kind: BinKind,
+    guard: &Option<Bound>,
+    at: u32,
+    values: &[Int],
+) -> Result<List<Made>, Memory>
+    ensures { IfOk result (λ bins. bins ≡ map (single name.now kind guard.now at) values.now) }
+{
+    let mut bins = List::new(alloc);
+    for value in values {
+        bins.push(single_bin(alloc, name, kind, guard, at, *value)?)?;
+    }
+    Ok(bins)
+}
+
+fn part_bin(
+    alloc: Global,
+    name: &Name,
+    kind: BinKind,
+    guard: &Option<Bound>,
+    at: u32,
+    place: usize,
+    set: ValueSet,
+) -> Result<Made, Memory>
+    ensures { IfOk result (λ made. made ≡ value_bin (indexed name.now (decimal place)) kind guard.now at set) }
+{
+    let text = place.to_string(alloc)?;
+    let name = indexed_name(alloc, name, text.as_bytes())?;
+    let guard = copy_guard(alloc, guard)?;
+    Ok(bin_of(name, kind, guard, at, set))
+}
+
+fn parts(
+    alloc: Global,
+    name: &Name,
+    kind: BinKind,
+    guard: &Option<Bound>,
+    at: u32,
+    sets: Vec<ValueSet>,
+) -> Result<List<Made>, Memory>
+    ensures { IfOk result (λ bins. bins ≡ part_bins name.now kind guard.now at 0 sets.items) }
+{
+    let mut bins = List::new(alloc);
+    for set in sets {
+        let place = bins.as_slice().len();
+        bins.push(part_bin(alloc, name, kind, guard, at, place, set)?)?;
+    }
+    Ok(bins)
+}
+
+/// The sets of so many bins, over which the listed numbers are spread.
+fn spread_over(alloc: Global, elems: &Elems, bins: u32) -> Result<Vec<ValueSet>, Memory>
+    requires some { 1 ≤ bins }
+    requires most { bins ≤ most_bins }
+    ensures { IfOk result (λ sets. sets.items ≡ map set_of (parts_of (written elems.now) bins)) }
+{
+    match spread(alloc, elems, bins) {
+        Ok(sets) => Ok(sets),
+        // so many bins are neither none nor too many
+        Err(_) => Err(Memory),
+    }
+}
+
+/// The bins of a declaration.
+#[tactic(auto, unfolding(crate::specs::Made::bins_made))]
+pub(crate) fn bins_of(
+    alloc: Global,
+    plan: &Plan,
+    name: &Name,
+    kind: BinKind,
+    guard: Option<Bound>,
+    at: u32,
+    elems: &Elems,
+) -> Result<List<Made>, Memory>
+    requires { IsPlan plan.now }
+    ensures { IfOk result (λ bins. bins ≡ bins_made plan.now name.now kind guard at (written elems.now)) }
+{
+    match plan {
+        Plan::One => {
+            let set = ValueSet::from_ranges(alloc, elems.as_slice())?;
+            let mut bins = List::new(alloc);
+            bins.push(bin_of(name.copy(alloc)?, kind, guard, at, set))?;
+            Ok(bins)
+        }
+        Plan::Each { numbers } => single_bins(alloc, name, kind, &guard, at, numbers.as_slice()),
+        Plan::Spread { bins } => {
+            let sets = spread_over(alloc, elems, *bins)?;
+            parts(alloc, name, kind, &guard, at, sets)
+        }
+    }
+}
