@@ -1,0 +1,136 @@
+-- What counting the bins of an item adds.
+use Rattle.std.proofs.Common.{◌≡◌, ◌∙◌, ℕ, suc, ◌+◌, ◌≤◌, List, [], ◌∷◌, length, map, refl, sym, ap, subst, Bool, true, false, arith, Result, Ok, Err}
+use Rattle.std.specs.Prelude.{nat_le, nat_lt, ◌&&◌, not, ◌==◌}
+use Rattle.std.specs.List.{AllByRecursion}
+use Rattle.cov_ground.specs.Limits.{most_ranges, most_design_bins, most_design_ranges}
+use Rattle.design_data.specs.declared.infos.BinInfo.{BinInfo}
+use Rattle.design_data.specs.declared.infos.ItemInfo.{ItemInfo}
+use Rattle.design_data.specs.declared.infos.BinKind.{BinKind}
+use Rattle.design_data.specs.declared.infos.BinRule.{BinRule}
+use Rattle.design_data.specs.declared.infos.BinRule.TheVariants.{Values, Patterns, Trans, Default, DefaultValues, DefaultSequence, Picked, Product}
+use Rattle.design_data.specs.Bins.{total}
+use Rattle.design_data.specs.Limits.{ranges_of, IsPointRule}
+use Rattle.elab_base.specs.declared.fault.ElabKind.TheVariants as kind
+use Rattle.elab_base.specs.Gives.{needs, each_at}
+use Rattle.elab_base.proofs.Keeps.{bind_ok, ok_is, needs_ok, and_first, and_second}
+use Rattle.elab_points.specs.declared.made.Made.{Made}
+use Rattle.elab_points.specs.Left.{has_some}
+use Rattle.cov_design.specs.declared.counts.Counts.{Counts}
+use Rattle.cov_design.specs.Counting.{set_ranges, rule_ranges, bin_counted, bins_counted}
+
+-- a rule that can be counted, with its intervals
+abbrev pub IsShort : BinRule → Type 0
+IsShort (Values set) = length set ≤ most_ranges
+IsShort (Patterns patterns) = ⊥
+IsShort (Trans seqs) = ⊥
+IsShort Default = Unit {0}
+IsShort (DefaultValues set) = ⊥
+IsShort DefaultSequence = Unit {0}
+IsShort (Picked select) = ⊥
+IsShort (Product members) = ⊥
+
+rule_short : (rule : BinRule) (at n : ℕ) → rule_ranges rule at ≡ Ok n → IsShort rule × (ranges_of rule ≡ n)
+unfolding set_ranges
+rule_short (Values set) at n e =
+    let a = bind_ok (needs (nat_le (length set) most_ranges) kind.TooManyRanges at) _ n e in
+    let few = needs_ok (nat_le (length set) most_ranges) kind.TooManyRanges at a.0 a.1 in
+    (grind (arith, few), ok_is _ n a.2)
+rule_short (Patterns patterns) at n e = absurd cc
+rule_short (Trans seqs) at n e = absurd cc
+rule_short Default at n e = (tt, ok_is _ n e)
+rule_short (DefaultValues set) at n e = absurd cc
+rule_short DefaultSequence at n e = (tt, ok_is _ n e)
+rule_short (Picked select) at n e = absurd cc
+rule_short (Product members) at n e = absurd cc
+
+-- so many bins and intervals more, and still no more than a design may have
+pub record Counted (all : List Made) (s t : Counts) : Type 0 where
+  pub items : t.items ≡ s.items
+  pub bins : t.bins ≡ s.bins + length all
+  pub few_bins : s.bins ≤ most_design_bins → t.bins ≤ most_design_bins
+  pub ranges : t.ranges ≡ s.ranges + total (λ made. ranges_of made.bin.rule) all
+  pub few_ranges : s.ranges ≤ most_design_ranges → t.ranges ≤ most_design_ranges
+  pub short : AllByRecursion (λ made. IsShort made.bin.rule) all
+
+none_counted : (s : Counts) → Counted [] s s
+none_counted s = record { items = refl; bins = omega arith; few_bins = λ h. h; ranges = omega arith; few_ranges = λ h. h; short = tt }
+
+pub record OneCounted (made : Made) (s t : Counts) : Type 0 where
+  pub items : t.items ≡ s.items
+  pub bins : t.bins ≡ s.bins + 1
+  pub few_bins : t.bins ≤ most_design_bins
+  pub ranges : t.ranges ≡ s.ranges + ranges_of made.bin.rule
+  pub few_ranges : t.ranges ≤ most_design_ranges
+  pub short : IsShort made.bin.rule
+
+one_counted : (made : Made) (s t : Counts) → bin_counted made s ≡ Ok t → OneCounted made s t
+unfolding bin_counted
+one_counted made s t e =
+    let r = bind_ok (rule_ranges made.bin.rule made.at) _ t e in
+    let n = bind_ok (needs (nat_lt s.bins most_design_bins && nat_le (s.ranges + r.0) most_design_ranges) kind.DesignLimit made.at) _ t r.2 in
+    let both = needs_ok (nat_lt s.bins most_design_bins && nat_le (s.ranges + r.0) most_design_ranges) kind.DesignLimit made.at n.0 n.1 in
+    let bins = and_first (nat_lt s.bins most_design_bins) (nat_le (s.ranges + r.0) most_design_ranges) both in
+    let ranges = and_second (nat_lt s.bins most_design_bins) (nat_le (s.ranges + r.0) most_design_ranges) both in
+    let short = rule_short made.bin.rule made.at r.0 r.1 in
+    let count = short.1 in
+    let here : OneCounted made s (record s { bins = s.bins + 1; ranges = s.ranges + r.0 }) = record {
+      items = refl;
+      bins = refl;
+      few_bins = grind (arith, bins);
+      ranges = omega (arith, count);
+      few_ranges = grind (arith, ranges);
+      short = short.0;
+    } in
+    subst (λ (c : Counts). OneCounted made s c) (ok_is _ t n.2) here
+
+more_counted : (made : Made) (bins : List Made) (s m t : Counts) → OneCounted made s m → Counted bins m t → Counted (made ∷ bins) s t
+more_counted made bins s m t a c =
+    let b0 = a.bins in
+    let b1 = c.bins in
+    let r0 = a.ranges in
+    let r1 = c.ranges in
+    record {
+      items = c.items ∙ a.items;
+      bins = omega (arith, b0, b1);
+      few_bins = λ h. c.few_bins a.few_bins;
+      ranges = omega (arith, r0, r1);
+      few_ranges = λ h. c.few_ranges a.few_ranges;
+      short = (a.short, c.short);
+    }
+
+each_counted : (k : ℕ) (bins : List Made) (s t : Counts) → each_at (λ i. bin_counted) k bins s ≡ Ok t → Counted bins s t
+unfolding each_at
+each_counted k [] s t e = subst (λ (c : Counts). Counted [] s c) (ok_is s t e) (none_counted s)
+each_counted k (made ∷ bins) s t e =
+    let b = bind_ok (bin_counted made s) (each_at (λ i. bin_counted) (k + 1) bins) t e in
+    more_counted made bins s b.0 t (one_counted made s b.0 b.1) (each_counted (k + 1) bins b.0 t b.2)
+
+pub counted : (bins : List Made) (s t : Counts) → bins_counted bins s ≡ Ok t → Counted bins s t
+unfolding bins_counted
+counted bins s t e = each_counted 0 bins s t e
+
+-- ---- the bins themselves
+
+pub length-infos : (bins : List Made) → length (map (λ (made : Made). made.bin) bins) ≡ length bins
+length-infos [] = refl
+length-infos (made ∷ bins) = ap (λ (n : ℕ). suc n) (length-infos bins)
+
+pub ranges-infos : (bins : List Made) → total (λ (bin : BinInfo). ranges_of bin.rule) (map (λ (made : Made). made.bin) bins) ≡ total (λ (made : Made). ranges_of made.bin.rule) bins
+ranges-infos [] = refl
+ranges-infos (made ∷ bins) = ap (λ (n : ℕ). ranges_of made.bin.rule + n) (ranges-infos bins)
+
+-- a short rule with something left is one of a point
+point_rule : (item : ItemInfo) (kind : BinKind) (rule : BinRule) → has_some rule ≡ true → IsShort rule → IsPointRule item kind rule
+point_rule item kind (Values set) some short = let one : 1 ≤ length set = grind (arith, some) in (one, short)
+point_rule item kind (Patterns patterns) some short = absurd short
+point_rule item kind (Trans seqs) some short = absurd short
+point_rule item kind Default some short = tt
+point_rule item kind (DefaultValues set) some short = absurd short
+point_rule item kind DefaultSequence some short = tt
+point_rule item kind (Picked select) some short = absurd short
+point_rule item kind (Product members) some short = absurd short
+
+pub point_rules : (item : ItemInfo) (bins : List Made) → AllByRecursion (λ made. has_some made.bin.rule ≡ true) bins → AllByRecursion (λ made. IsShort made.bin.rule) bins
+    → AllByRecursion (λ bin. IsPointRule item bin.kind bin.rule) (map (λ (made : Made). made.bin) bins)
+point_rules item [] some short = tt
+point_rules item (made ∷ bins) some short = (point_rule item made.bin.kind made.bin.rule some.0 short.0, point_rules item bins some.1 short.1)

@@ -1,0 +1,14 @@
+//! From the tree of a design text to the design (IEEE 1800-2017, clause 19): the definition is a walk through the
+//! constructs that stops at the first fault, and each construct has one definition and one function.
+#![tactic(auto)]
+
+mod built;
+mod counts;
+mod elaboration;
+mod known;
+mod points;
+mod variables;
+mod walk;
+
+pub use elab_base::{ElabFault, ElabKind};
+pub use elaboration::elaborate;
