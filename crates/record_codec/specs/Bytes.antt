@@ -57,8 +57,11 @@ abbrev pub event_list : List Event → List ℕ
 event_list events = to_be_bytes w32 (length events) ++ flat_map event events
 
 -- what stands before the tables
-abbrev pub front : Fields → List ℕ
-front r = head r.version ++ (text r.id ++ (r.status ∷ (to_be_bytes w64 r.seed ++ (to_be_bytes w64 r.time ++ text r.user))))
+abbrev pub front : (version : ℕ) (id : List ℕ) (status seed time : ℕ) (user : List ℕ) → List ℕ
+front version id status seed time user = head version ++ (text id ++ (status ∷ (to_be_bytes w64 seed ++ (to_be_bytes w64 time ++ text user))))
+
+abbrev pub tables : (version : ℕ) → List SignalRow → List InstRow → List Event → List ℕ
+tables version signals instances events = signal_table signals ++ (instance_table version instances ++ event_list events)
 
 unfoldable pub bytes_of : Fields → List ℕ
 bytes_of r =

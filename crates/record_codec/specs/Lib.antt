@@ -1,6 +1,7 @@
 pub mod Bytes
 pub mod Laws
 pub mod Limits
+pub mod Making
 pub mod Reading
 pub mod Samples
 pub mod Spelling

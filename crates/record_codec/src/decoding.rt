@@ -7,8 +7,8 @@ ghost use Rattle.record_codec.specs.Reading.{told, reading, HasRead};
 ghost use Rattle.record_codec.specs.Spelling.{fields_of, Encodes};
 
 use crate::fault::Fault;
+use crate::making::record_of;
 use crate::reading::whole_record;
-use crate::record::Fields;
 use crate::{Record, RecordFault};
 use std::alloc::Global;
 
@@ -39,24 +39,6 @@ fn fault_told(total: usize, fault: Fault) -> RecordFault
             at: place(total, left),
         },
         Fault::Memory => RecordFault::Memory,
-    }
-}
-
-// The record that has these fields.
-fn record_of(fields: Fields) -> Record
-    requires { IsWithinLimits fields }
-    ensures { fields_of result ≡ fields }
-{
-    Record {
-        version: fields.version,
-        id: fields.id,
-        status: fields.status,
-        seed: fields.seed,
-        time: fields.time,
-        user: fields.user,
-        signals: fields.signals,
-        instances: fields.instances,
-        events: fields.events,
     }
 }
 

@@ -2,13 +2,13 @@
 ghost use Rattle.std.specs.Prelude.{◌≡◌, ◌++◌, ◌<◌, ◌^◌, ◌≤◌, length, OnOk, IfOk, Ok};
 ghost use Rattle.std.specs.List.{AllByRecursion, flat_map};
 ghost use Rattle.cov_ground.specs.Limits.{longest_record, most_events, most_signals, most_instances, most_arguments};
-ghost use Rattle.record_codec.specs.Limits.{IsSignalRow, IsInstRow};
+ghost use Rattle.record_codec.specs.Limits.{IsSignalRow, IsInstRow, IsStart};
 ghost use Rattle.record_codec.specs.Bytes.{text, arg_row, signal_row, arg_table, inst_row, set_value, event};
-ghost use Rattle.record_codec.specs.Bytes.{signal_table, instance_table, event_list, front};
+ghost use Rattle.record_codec.specs.Bytes.{signal_table, instance_table, event_list, front, tables, bytes_of};
 ghost use Rattle.record_codec.specs.Spelling.{spelling, fields_of};
 ghost use Rattle.record_codec.specs.Reading.{reading};
 
-use crate::{ArgRow, Event, InstRow, Record, SignalRow};
+use crate::{ArgRow, Event, Fields, InstRow, Record, SignalRow};
 use cov_base::Memory;
 use cov_tree::Name;
 use std::alloc::Global;
@@ -159,17 +159,69 @@ fn append_events(out: &mut Vec<u8>, entries: &[Event]) -> Result<(), Memory>
 }
 
 // What stands before the tables.
-fn append_test(out: &mut Vec<u8>, rec: &Record) -> Result<(), Memory>
-    ensures { OnOk result (out.new.items ≡ out.old.items ++ front (fields_of rec.now)) }
+fn append_front(
+    out: &mut Vec<u8>,
+    version: u16,
+    id: &Name,
+    status: u8,
+    seed: u64,
+    time: u64,
+    user: &Name,
+) -> Result<(), Memory>
+    requires id { length id.now < 2 ^ 16 }
+    requires user { length user.now < 2 ^ 16 }
+    ensures { OnOk result (out.new.items ≡ out.old.items ++ front version id.now status seed time user.now) }
 {
     append(out, &LETTERS)?;
-    append(out, &rec.version.to_be_bytes())?;
-    append_text(out, &rec.id)?;
-    append(out, &[rec.status])?;
-    append(out, &rec.seed.to_be_bytes())?;
-    append(out, &rec.time.to_be_bytes())?;
-    append_text(out, &rec.user)?;
+    append(out, &version.to_be_bytes())?;
+    append_text(out, id)?;
+    append(out, &[status])?;
+    append(out, &seed.to_be_bytes())?;
+    append(out, &time.to_be_bytes())?;
+    append_text(out, user)?;
     Ok(())
+}
+
+fn append_tables(
+    out: &mut Vec<u8>,
+    version: u16,
+    signals: &[SignalRow],
+    instances: &[InstRow],
+    events: &[Event],
+) -> Result<(), Memory>
+    requires signal_count { length signals.now ≤ most_signals }
+    requires signals { AllByRecursion IsSignalRow signals.now }
+    requires instance_count { length instances.now ≤ most_instances }
+    requires instances { AllByRecursion (IsInstRow version) instances.now }
+    requires event_count { length events.now ≤ most_events }
+    ensures { OnOk result (out.new.items ≡ out.old.items ++ tables version signals.now instances.now events.now) }
+{
+    append_signals(out, signals)?;
+    append_instances(out, version, instances)?;
+    append_events(out, events)?;
+    Ok(())
+}
+
+/// The bytes of the fields, however many they are.
+pub(crate) fn encoded(alloc: Global, fields: &Fields) -> Result<Vec<u8>, Memory>
+    requires start { IsStart fields.now }
+    requires few { length fields.now.events ≤ most_events }
+    ensures { IfOk result (λ bytes. bytes.items ≡ bytes_of fields.now) }
+{
+    let mut out = Vec::new(alloc);
+    append_front(
+        &mut out,
+        fields.version,
+        &fields.id,
+        fields.status,
+        fields.seed,
+        fields.time,
+        &fields.user,
+    )?;
+    let signals = fields.signals.as_slice();
+    let instances = fields.instances.as_slice();
+    append_tables(&mut out, fields.version, signals, instances, fields.events.as_slice())?;
+    Ok(out)
 }
 
 /// The bytes of the record: `decode` reads the record from them.
@@ -179,9 +231,17 @@ pub fn encode(alloc: Global, rec: &Record) -> Result<Vec<u8>, Memory>
     ensures read_back { IfOk result (λ bytes. reading bytes.items ≡ Ok (fields_of rec.now)) }
 {
     let mut out = Vec::new(alloc);
-    append_test(&mut out, rec)?;
-    append_signals(&mut out, rec.signals.as_slice())?;
-    append_instances(&mut out, rec.version, rec.instances.as_slice())?;
-    append_events(&mut out, rec.events.as_slice())?;
+    append_front(
+        &mut out,
+        rec.version,
+        &rec.id,
+        rec.status,
+        rec.seed,
+        rec.time,
+        &rec.user,
+    )?;
+    let signals = rec.signals.as_slice();
+    let instances = rec.instances.as_slice();
+    append_tables(&mut out, rec.version, signals, instances, rec.events.as_slice())?;
     Ok(out)
 }

@@ -7,6 +7,7 @@ mod events;
 mod fault;
 mod fields;
 pub mod laws;
+mod making;
 mod reading;
 mod record;
 mod rows;
@@ -15,6 +16,7 @@ mod tables;
 pub use decoding::decode;
 pub use encoding::encode;
 pub use fault::RecordFault;
+pub use making::{MakeFault, checked_record};
 pub use record::{ArgRow, Event, Fields, InstRow, Record, SignalRow};
 
 #[cfg(test)]
