@@ -8,6 +8,7 @@ pub mod Counted
 pub mod FoundLemmas
 pub mod ListingLemmas
 pub mod Written
+pub mod SameLemmas
 pub mod MergeLemmas
 pub mod ReachLemmas
 pub mod WordLemmas

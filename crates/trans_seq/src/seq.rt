@@ -1,5 +1,5 @@
 //! What a transition sequence is written of.
-ghost use Rattle.std.specs.Prelude.{◌≡◌, IfOk};
+ghost use Rattle.std.specs.Prelude.{◌≡◌, ◌↔◌, IsTrue, IfOk};
 ghost use Rattle.trans_seq.specs.Cells.{cells_of_repeat};
 
 use cov_base::{Memory, ValueSet};
@@ -52,6 +52,13 @@ impl Repeat {
 }
 
 impl Item {
+    /// Whether the other item has the same values, as often.
+    pub fn is_same(&self, other: &Item) -> bool
+        ensures { IsTrue result ↔ (self.now ≡ other.now) }
+    {
+        same_values(&self.set, &other.set) && same_repeat(self.repeat, other.repeat)
+    }
+
     /// The same item once more.
     pub fn copy(&self, alloc: Global) -> Result<Item, Memory>
         ensures { IfOk result (λ item. item ≡ self.now) }
@@ -64,6 +71,13 @@ impl Item {
 }
 
 impl Seq {
+    /// Whether the other sequence has the same items, one by one.
+    pub fn is_same(&self, other: &Seq) -> bool
+        ensures { IsTrue result ↔ (self.now ≡ other.now) }
+    {
+        same_items(self.items.as_slice(), other.items.as_slice())
+    }
+
     /// The same sequence once more.
     pub fn copy(&self, alloc: Global) -> Result<Seq, Memory>
         ensures { IfOk result (λ seq. seq ≡ self.now) }
@@ -82,4 +96,30 @@ fn copied_items(alloc: Global, items: &[Item]) -> Result<Vec<Item>, Memory>
         copies.push(item.copy(alloc)?)?;
     }
     Ok(copies)
+}
+
+fn same_values(first: &ValueSet, second: &ValueSet) -> bool
+    ensures { IsTrue result ↔ (first.now ≡ second.now) }
+{
+    first == second
+}
+
+fn same_repeat(first: Repeat, second: Repeat) -> bool
+    ensures { IsTrue result ↔ (first ≡ second) }
+{
+    first == second
+}
+
+fn same_items(first: &[Item], second: &[Item]) -> bool
+    ensures { IsTrue result ↔ (first.now ≡ second.now) }
+{
+    if first.len() != second.len() {
+        return false;
+    }
+    for (k, item) in first.iter().enumerate() {
+        if !item.is_same(&second[k]) {
+            return false;
+        }
+    }
+    true
 }

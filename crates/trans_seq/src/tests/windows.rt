@@ -358,3 +358,13 @@ fn a_long_window(rt: HostRuntime) -> Result<(), Fail> {
     }
     Ok(())
 }
+
+/// `1 => 3[=2] => 6` once more, and beside `1 => 3[->2] => 6`.
+#[test]
+fn copies_are_the_same(rt: HostRuntime) -> Result<(), Fail> {
+    let alloc = rt.alloc();
+    let seq = sequence(&rt, alloc, &WITH_GAPS)?;
+    assert!(rt; seq.copy(alloc)?.is_same(&seq));
+    assert!(rt; !sequence(&rt, alloc, &UP_TO)?.is_same(&seq));
+    Ok(())
+}
