@@ -94,3 +94,19 @@ fn tells_the_least_missing_place(rt: HostRuntime) -> Result<(), Fail> {
     assert_eq!(rt; stage.finish(&OF_FOUR).err(), Some(StageFault::NoUpload));
     Ok(())
 }
+
+#[test]
+fn is_asked_often(rt: HostRuntime) -> Result<(), Fail> {
+    let mut stage = Stage::new();
+    stage.begin(rt.alloc(), 8_388_608)?;
+    let bytes = vec![in rt.alloc(); 5u8; 8_388_607]?;
+    stage.piece(0, &bytes)?;
+    // Each of them would go over all places again if the stage kept no count of those that are there.
+    for _ in 0..100_000 {
+        assert_eq!(rt;
+            stage.finish(&OF_FOUR).err(),
+            Some(StageFault::Missing { at: 8_388_607 })
+        );
+    }
+    Ok(())
+}
