@@ -102,7 +102,12 @@ module _ {A B : Type 0} {read : Reader A} {next : A → Reader B} (one : IsLocal
     | first h ↦
         let p = one.refused bytes f h lasts in
         record {
-          front = p.front; behind = p.behind; parts = p.parts; fault = p.fault; is = p.is; lasting = p.lasting;
+          front = p.front;
+          behind = p.behind;
+          parts = p.parts;
+          fault = p.fault;
+          is = p.is;
+          lasting = p.lasting;
           same = λ more. ap (λ (r : Result (A × List ℕ) Fault). r >>= λ x. next x.0 x.1) (p.same more);
         }
     | later x h k ↦
@@ -125,8 +130,8 @@ module _ {A B : Type 0} {read : Reader A} {next : A → Reader B} (one : IsLocal
 pub pure_local : {A : Type 0} (v : A) → IsLocal (λ (rest : List ℕ). Ok (v, rest))
 pure_local v = record {
   took = λ bytes x e.
-    let same : (v, bytes) ≡ x = ok_is (v, bytes) x e in
-    subst (λ (y : _ × List ℕ). Took (λ (rest : List ℕ). Ok (v, rest)) bytes y) same (record { front = []; parts = refl; same = λ more. refl });
+      let same : (v, bytes) ≡ x = ok_is (v, bytes) x e in
+      subst (λ (y : _ × List ℕ). Took (λ (rest : List ℕ). Ok (v, rest)) bytes y) same (record { front = []; parts = refl; same = λ more. refl });
   refused = λ bytes f e lasts. absurd cc;
 }
 
@@ -135,8 +140,8 @@ pub fail_local : {A : Type 0} (f : Fault) → IsLasting 0 f → ((n : ℕ) → m
 fail_local f lasting fixed = record {
   took = λ bytes x e. absurd cc;
   refused = λ bytes d e lasts.
-    let same : f ≡ d = cc in
-    record { front = []; behind = bytes; parts = refl; fault = f; is = sym same ∙ sym (fixed (length bytes)); lasting = lasting; same = λ more. ap Err (sym (fixed (length more))) };
+      let same : f ≡ d = cc in
+      record { front = []; behind = bytes; parts = refl; fault = f; is = sym same ∙ sym (fixed (length bytes)); lasting = lasting; same = λ more. ap Err (sym (fixed (length more))) };
 }
 
 pub cond_local : {A : Type 0} (b : Bool) {one other : Reader A} → IsLocal one → IsLocal other → IsLocal (λ (rest : List ℕ). cond b (one rest) (other rest))
@@ -211,28 +216,28 @@ module _ (w : Width) (some : 0 < byte_len w) (few : byte_len w ≤ 8) where
   judged_refused {B} judge bytes f e lasts = elim (bind_err (number_at w bytes) (λ n. ok_or (judge n.0) (BadField (length bytes)) >>= λ v. Ok (v, n.1)) f e) [
     | first h ↦ absurd (lasts (short_only bytes f h))
     | later n h k ↦ elim (bind_err (ok_or (judge n.0) (BadField (length bytes))) (λ v. Ok (v, n.1)) f k) [
-        | first g ↦
-            let none = ok_or_err (judge n.0) (BadField (length bytes)) f g in
-            let long = enough bytes n h in
-            let front : List ℕ = take (byte_len w) bytes in
-            let len : length front ≡ byte_len w = omega (arith, length-take (byte_len w) bytes, long.0) in
-            let number : n.0 ≡ from_be_bytes w front = ap (λ (z : ℕ × List ℕ). z.0) long.1 in
-            let nothing : judge (from_be_bytes w front) ≡ None = ap judge (sym number) ∙ none.0 in
-            let parts : bytes ≡ front ++ drop (byte_len w) bytes = sym (take-append-drop (byte_len w) bytes) in
-            let total : length bytes ≡ byte_len w + length (drop (byte_len w) bytes) = omega (arith, ap length parts, length-append front (drop (byte_len w) bytes), len) in
-            record {
-              front = front;
-              behind = drop (byte_len w) bytes;
-              parts = parts;
-              fault = BadField (byte_len w);
-              is = sym none.1 ∙ ap BadField total;
-              lasting = (some, omega (arith, few), omega (arith, len));
-              same = λ more.
+      | first g ↦
+          let none = ok_or_err (judge n.0) (BadField (length bytes)) f g in
+          let long = enough bytes n h in
+          let front : List ℕ = take (byte_len w) bytes in
+          let len : length front ≡ byte_len w = omega (arith, length-take (byte_len w) bytes, long.0) in
+          let number : n.0 ≡ from_be_bytes w front = ap (λ (z : ℕ × List ℕ). z.0) long.1 in
+          let nothing : judge (from_be_bytes w front) ≡ None = ap judge (sym number) ∙ none.0 in
+          let parts : bytes ≡ front ++ drop (byte_len w) bytes = sym (take-append-drop (byte_len w) bytes) in
+          let total : length bytes ≡ byte_len w + length (drop (byte_len w) bytes) = omega (arith, ap length parts, length-append front (drop (byte_len w) bytes), len) in
+          record {
+            front = front;
+            behind = drop (byte_len w) bytes;
+            parts = parts;
+            fault = BadField (byte_len w);
+            is = sym none.1 ∙ ap BadField total;
+            lasting = (some, omega (arith, few), omega (arith, len));
+            same = λ more.
                 let whole : length (front ++ more) ≡ byte_len w + length more = omega (arith, length-append front more, len) in
                 rw (number_same front more len, nothing) (ap (λ (l : ℕ). Err (BadField l)) whole);
-            }
-        | later v g l ↦ absurd cc
-      ]
+          }
+      | later v g l ↦ absurd cc
+    ]
   ]
 
   judged_local : {B : Type 0} (judge : ℕ → Option B) → IsLocal (judged judge)

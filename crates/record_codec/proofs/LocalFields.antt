@@ -76,8 +76,8 @@ module _ (least most low : ℕ) (few : most ≤ 1024) where
         front = p.front ++ t;
         parts = p.parts ∙ ap (λ (l : List ℕ). p.front ++ l) (sym (take-append-drop n.0 n.1)) ∙ sym (append_assoc p.front t (drop n.0 n.1));
         same = λ more.
-          let read : number_within w16 least (most + 1) ((p.front ++ t) ++ more) ≡ Ok (n.0, t ++ more) = ap (number_within w16 least (most + 1)) (append_assoc p.front t more) ∙ p.same (t ++ more) in
-          text_same least most low ((p.front ++ t) ++ more) t more n.0 len read ∙ ap (λ (o : Option ℕ). unless_bad o n.0 (t ++ more)) u.0 ∙ good_same t more n.0 len;
+            let read : number_within w16 least (most + 1) ((p.front ++ t) ++ more) ≡ Ok (n.0, t ++ more) = ap (number_within w16 least (most + 1)) (append_assoc p.front t more) ∙ p.same (t ++ more) in
+            text_same least most low ((p.front ++ t) ++ more) t more n.0 len read ∙ ap (λ (o : Option ℕ). unless_bad o n.0 (t ++ more)) u.0 ∙ good_same t more n.0 len;
       } in
       subst (λ (y : List ℕ × List ℕ). Took (text_at least most low) bytes y) u.1 found
 
@@ -87,7 +87,12 @@ module _ (least most low : ℕ) (few : most ≤ 1024) where
     | first h ↦
         let p = (one16 least (most + 1)).refused bytes f h lasts in
         record {
-          front = p.front; behind = p.behind; parts = p.parts; fault = p.fault; is = p.is; lasting = p.lasting;
+          front = p.front;
+          behind = p.behind;
+          parts = p.parts;
+          fault = p.fault;
+          is = p.is;
+          lasting = p.lasting;
           same = λ more. ap (λ (r : Result (ℕ × List ℕ) Fault). r >>= λ n. cond (ltb (length n.1) n.0) (Err (Short (length (p.front ++ more)))) (unless_bad (position (is_bad low) (take n.0 n.1)) n.0 n.1)) (p.same more);
         }
     | later n h k ↦
@@ -109,9 +114,9 @@ module _ (least most low : ℕ) (few : most ≤ 1024) where
           is = bad.2 ∙ ap BadField (let e : length n.1 - bad.0 ≡ n.0 - bad.0 + length behind = omega (arith, total, within) in e);
           lasting = (omega (arith, within), omega (arith, less, few), omega (arith, length-append p.front t, len));
           same = λ more.
-            let read : number_within w16 least (most + 1) ((p.front ++ t) ++ more) ≡ Ok (n.0, t ++ more) = ap (number_within w16 least (most + 1)) (append_assoc p.front t more) ∙ p.same (t ++ more) in
-            let place : length (t ++ more) - bad.0 ≡ n.0 - bad.0 + length more = omega (arith, length-append t more, len, within) in
-            text_same least most low ((p.front ++ t) ++ more) t more n.0 len read ∙ ap (λ (o : Option ℕ). unless_bad o n.0 (t ++ more)) bad.1 ∙ ap (λ (l : ℕ). Err (BadField l)) place;
+              let read : number_within w16 least (most + 1) ((p.front ++ t) ++ more) ≡ Ok (n.0, t ++ more) = ap (number_within w16 least (most + 1)) (append_assoc p.front t more) ∙ p.same (t ++ more) in
+              let place : length (t ++ more) - bad.0 ≡ n.0 - bad.0 + length more = omega (arith, length-append t more, len, within) in
+              text_same least most low ((p.front ++ t) ++ more) t more n.0 len read ∙ ap (λ (o : Option ℕ). unless_bad o n.0 (t ++ more)) bad.1 ∙ ap (λ (l : ℕ). Err (BadField l)) place;
         }
   ]
 

@@ -110,8 +110,8 @@ trailing_decides bytes d made (byte ∷ rest) e k =
       is = sym is;
       lasting = (omega arith, omega arith, omega (arith, length-append p.front (byte ∷ [])));
       same = λ more.
-        let read : record_at ((p.front ++ byte ∷ []) ++ more) ≡ Ok (made, byte ∷ more) = ap record_at (append_assoc p.front (byte ∷ []) more) ∙ p.same (byte ∷ more) in
-        whole_is ((p.front ++ byte ∷ []) ++ more) ∙ ap (λ (y : Result (Fields × List ℕ) Fault). y >>= ends_there) read ∙ ends_behind made byte more;
+          let read : record_at ((p.front ++ byte ∷ []) ++ more) ≡ Ok (made, byte ∷ more) = ap record_at (append_assoc p.front (byte ∷ []) more) ∙ p.same (byte ∷ more) in
+          whole_is ((p.front ++ byte ∷ []) ++ more) ∙ ap (λ (y : Result (Fields × List ℕ) Fault). y >>= ends_there) read ∙ ends_behind made byte more;
     }
 
 decides : (bytes : List ℕ) (d : Fault) → whole bytes ≡ Err d → (IsMended d → ⊥) → Decides bytes d
@@ -119,7 +119,12 @@ decides bytes d e lasts = elim (bind_err (record_at bytes) ends_there d (sym (wh
   | first h ↦
       let p = record_local.refused bytes d h lasts in
       record {
-        front = p.front; behind = p.behind; parts = p.parts; fault = p.fault; is = p.is; lasting = p.lasting;
+        front = p.front;
+        behind = p.behind;
+        parts = p.parts;
+        fault = p.fault;
+        is = p.is;
+        lasting = p.lasting;
         same = λ more. whole_is (p.front ++ more) ∙ ap (λ (y : Result (Fields × List ℕ) Fault). y >>= ends_there) (p.same more);
       }
   | later x h k ↦ trailing_decides bytes d x.0 x.1 h k
@@ -153,10 +158,10 @@ decided bytes d p =
       within = omega (arith, total);
       near = near end p.fault p.lasting;
       same = λ more.
-        let long : length (p.front ++ more) ≡ end + length more = length-append p.front more in
-        let has : HasFault (p.front ++ more) (told (length (p.front ++ more)) (moved (length more) p.fault)) = reading_is (p.front ++ more) (moved (length more) p.fault) (p.same more) in
-        let is : told (length (p.front ++ more)) (moved (length more) p.fault) ≡ told end p.fault = ap (λ (n : ℕ). told n (moved (length more) p.fault)) long ∙ told_same end (length more) p.fault p.lasting in
-        subst (λ (l : List ℕ). HasFault (l ++ more) (told end p.fault)) (sym begins) (subst (HasFault (p.front ++ more)) is has);
+          let long : length (p.front ++ more) ≡ end + length more = length-append p.front more in
+          let has : HasFault (p.front ++ more) (told (length (p.front ++ more)) (moved (length more) p.fault)) = reading_is (p.front ++ more) (moved (length more) p.fault) (p.same more) in
+          let is : told (length (p.front ++ more)) (moved (length more) p.fault) ≡ told end p.fault = ap (λ (n : ℕ). told n (moved (length more) p.fault)) long ∙ told_same end (length more) p.fault p.lasting in
+          subst (λ (l : List ℕ). HasFault (l ++ more) (told end p.fault)) (sym begins) (subst (HasFault (p.front ++ more)) is has);
     } in
     subst (IsDecidedEarly bytes) (sym fault) (end, found)
 

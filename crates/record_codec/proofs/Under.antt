@@ -1,11 +1,12 @@
 -- An event by the greatest values of its signals is the event by their widths.
-use Rattle.std.proofs.Common.{◌≡◌, ℕ, ◌+◌, ◌-◌, ◌^◌, ◌<◌, ◌≤◌, Bool, true, false, cond, eqb, ltb, leb, zero, suc, List, [], ◌∷◌, length, take, drop, Option, Some, None, Result, Ok, Err, refl, sym, ap, subst, ◌∙◌, arith, inl, inr}
+use Rattle.std.proofs.Common.{◌≡◌, ℕ, ◌+◌, ◌-◌, ◌^◌, ◌<◌, ◌≤◌, Bool, true, false, cond, eqb, ltb, leb, zero, suc, List, [], ◌∷◌, length, take, drop, Option, Some, None, Result, Ok, Err, refl, sym, ap, subst, ◌∙◌, arith, ◌⊎◌, inl, inr}
 use Rattle.std.specs.Prelude.{slice_get, ok_or, if◌then◌else◌}
 use mathlib.Core.Bool.{◌&&◌}
 use Rattle.std.specs.Option.{option_map}
 use Rattle.std.specs.Int.{Width, w8, w16, w64, from_be_bytes}
 use Rattle.std.proofs.Math.Nat.{pow-le-pow_right}
-use Rattle.std.proofs.lemmas.Bool.{leb-true, lt-ltb}
+use Rattle.std.proofs.lemmas.Bool.{leb-true, le-leb, lt-ltb, le-ltb, eqb-true}
+use Rattle.std.proofs.lemmas.List.{nil_from_length}
 use Rattle.std.proofs.lemmas.Option.{slice_get-map}
 use Rattle.record_codec.specs.declared.fault.Fault.{Fault}
 use Rattle.record_codec.specs.declared.fault.Fault.TheVariants.{Short, BadField}
@@ -15,7 +16,7 @@ use Rattle.record_codec.specs.declared.record.InstRow.{InstRow}
 use Rattle.record_codec.specs.declared.record.Event.{Event}
 use Rattle.record_codec.specs.declared.record.Event.TheVariants.{Set, Sample}
 use Rattle.record_codec.specs.Reading.{◌>>=◌, number_at, number_within, counted, known_at, value_at, values_at, set_at, sample_at, event_at}
-use Rattle.record_codec.specs.Under.{greatest, limits_of, known_under, value_under, set_under, event_under}
+use Rattle.record_codec.specs.Under.{greatest, limits_of, known_under, value_under, set_under, plain_sample_at, plain_event_under, event_under, are_without_args, HaveNoArgs}
 use Rattle.record_codec.proofs.EventLaws.{chosen}
 use Rattle.record_codec.proofs.Readers.{IsBytes, IsBytes-take, bind_ok, let_pass, ok_is}
 use Rattle.record_codec.proofs.Numbers.{IsWide, wide8, wide16, wide64, number_field, within_field}
@@ -157,3 +158,58 @@ events_same signals instances (suc n) bytes fits =
     ∙ bind_same (event_at signals instances bytes) _ _ (λ first e.
     let left = event_rest (limits_of signals) instances bytes first fits (event_same signals instances bytes fits ∙ e) in
     ap (λ (r : Result (List Event × List ℕ) Fault). r >>= λ (others : List Event × List ℕ). Ok (first.0 ∷ others.0, others.1)) (events_same signals instances n first.1 left))
+
+-- ---- instances without arguments
+
+split_and : (a b : Bool) → (a && b) ≡ true → (a ≡ true) × (b ≡ true)
+split_and true b e = (refl, e)
+split_and false b e = absurd cc
+
+pub all_empty : (instances : List InstRow) → are_without_args instances ≡ true → HaveNoArgs instances
+all_empty [] e = tt
+all_empty (row ∷ rows) e =
+    let h = split_and (eqb (length row.args) 0) (are_without_args rows) e in
+    (nil_from_length row.args (eqb-true _ _ h.0), all_empty rows h.1)
+
+-- what stands at a place of the rows, none of which has arguments
+at_place : (instances : List InstRow) (n : ℕ) → HaveNoArgs instances → ((slice_get instances n ≡ None) × (length instances ≤ n)) ⊎ ((row : InstRow) × (slice_get instances n ≡ Some row) × (row.args ≡ []) × (n < length instances))
+at_place [] n none = inl (refl, omega arith)
+at_place (row ∷ rows) zero none = inr (row, refl, none.0, omega arith)
+at_place (row ∷ rows) (suc n) none = elim (at_place rows n none.1) [
+  | inl h ↦ inl (h.0, omega (arith, h.1))
+  | inr h ↦ inr (h.0, h.1, h.2, omega (arith, h.3))
+]
+
+abbrev sample_of : ℕ → List (Option ℕ) × List ℕ → Result (Event × List ℕ) Fault
+sample_of instance args = Ok (Sample instance args.0, args.1)
+
+plain_behind : (instances : List InstRow) → HaveNoArgs instances → (d : Fault) (n : ℕ × List ℕ)
+    → (cond (leb 0 n.0 && ltb n.0 (length instances)) (Ok n) (Err d) >>= λ (m : ℕ × List ℕ). Ok (Sample m.0 [], m.1)) ≡ (ok_or (slice_get instances n.0) d >>= λ (row : InstRow). values_at row.args n.1 >>= sample_of n.0)
+unfolding values_at
+plain_behind instances none d n =
+    let low : leb 0 n.0 ≡ true = le-leb 0 n.0 (omega arith) in
+    elim (at_place instances n.0 none) [
+      | inl h ↦ rw (low, h.0, le-ltb n.0 (length instances) h.1) refl
+      | inr h ↦ rw (low, h.1, h.2, lt-ltb n.0 (length instances) h.3) refl
+    ]
+
+plain_by : (instances : List InstRow) → HaveNoArgs instances → (d : Fault) (r : Result (ℕ × List ℕ) Fault)
+    → ((r >>= λ (n : ℕ × List ℕ). cond (leb 0 n.0 && ltb n.0 (length instances)) (Ok n) (Err d)) >>= λ (m : ℕ × List ℕ). Ok (Sample m.0 [], m.1))
+    ≡ (r >>= λ (n : ℕ × List ℕ). ok_or (slice_get instances n.0) d >>= λ (row : InstRow). values_at row.args n.1 >>= sample_of n.0)
+plain_by instances none d (Ok n) = plain_behind instances none d n
+plain_by instances none d (Err f) = refl
+
+plain_sample_same : (instances : List InstRow) → HaveNoArgs instances → (bytes : List ℕ) → plain_sample_at (length instances) bytes ≡ sample_at instances bytes
+unfolding plain_sample_at sample_at number_within
+plain_sample_same instances none bytes = plain_by instances none (BadField (length bytes)) (number_at w16 bytes)
+
+plain_event_same : (limits : List ℕ) (instances : List InstRow) → HaveNoArgs instances → (bytes : List ℕ) → plain_event_under limits (length instances) bytes ≡ event_under limits instances bytes
+unfolding plain_event_under event_under
+plain_event_same limits instances none bytes = bind_same (number_within w8 1 3 bytes) _ _ (λ tag e.
+    ap (λ (r : Result (Event × List ℕ) Fault). cond (eqb tag.0 1) (set_under limits tag.1) r) (plain_sample_same instances none tag.1))
+
+pub plain_events_same : (signals : List SignalRow) (instances : List InstRow) (count : ℕ) (bytes : List ℕ) → HaveNoArgs instances → IsBytes bytes
+    → counted (plain_event_under (limits_of signals) (length instances)) count bytes ≡ counted (event_at signals instances) count bytes
+plain_events_same signals instances count bytes none fits =
+    ap (λ (read : List ℕ → Result (Event × List ℕ) Fault). counted read count bytes) (λ i b. plain_event_same (limits_of signals) instances none b i)
+    ∙ events_same signals instances count bytes fits

@@ -1,11 +1,12 @@
 -- Reading events by the greatest value of each signal in place of its width.
-use Rattle.std.specs.Prelude.{ℕ, ◌+◌, ◌-◌, ◌^◌, List, length, map, slice_get, Option, Some, None, Ok, nat_le, ◌==◌, if◌then◌else◌, ok_or}
+use Rattle.std.specs.List.{AllByRecursion, list_all}
+use Rattle.std.specs.Prelude.{Bool, ◌≡◌, [], ℕ, ◌+◌, ◌-◌, ◌^◌, List, length, map, slice_get, Option, Some, None, Ok, nat_le, ◌==◌, if◌then◌else◌, ok_or}
 use Rattle.std.specs.Int.{w8, w16, w64}
 use Rattle.record_codec.specs.declared.fault.Fault.TheVariants.{BadField}
 use Rattle.record_codec.specs.declared.record.SignalRow.{SignalRow}
 use Rattle.record_codec.specs.declared.record.InstRow.{InstRow}
 use Rattle.record_codec.specs.declared.record.Event.{Event}
-use Rattle.record_codec.specs.declared.record.Event.TheVariants.{Set}
+use Rattle.record_codec.specs.declared.record.Event.TheVariants.{Set, Sample}
 use Rattle.record_codec.specs.Reading.{◌>>=◌, Reader, number_at, number_within, sample_at}
 
 -- the greatest value of so many bits, of 64 at most
@@ -31,6 +32,24 @@ set_under limits bytes = do
   most ← ok_or (slice_get limits signal.0) (BadField (length bytes))
   value ← value_under most signal.1
   Ok (Set signal.0 value.0, value.1)
+
+-- a Sample of an instance without arguments, of so many instances
+unfoldable pub plain_sample_at : ℕ → Reader Event
+plain_sample_at instances bytes = do
+  instance ← number_within w16 0 instances bytes
+  Ok (Sample instance.0 [], instance.1)
+
+unfoldable pub plain_event_under : List ℕ → ℕ → Reader Event
+plain_event_under limits instances bytes = do
+  tag ← number_within w8 1 3 bytes
+  if tag.0 == 1 then set_under limits tag.1 else plain_sample_at instances tag.1
+
+abbrev pub are_without_args : List InstRow → Bool
+are_without_args instances = list_all (λ (row : InstRow). length row.args == 0) instances
+
+-- no instance has arguments
+abbrev pub HaveNoArgs : List InstRow → Type 0
+HaveNoArgs instances = AllByRecursion (λ (row : InstRow). row.args ≡ []) instances
 
 unfoldable pub event_under : List ℕ → List InstRow → Reader Event
 event_under limits instances bytes = do

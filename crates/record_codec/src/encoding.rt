@@ -220,7 +220,13 @@ pub(crate) fn encoded(alloc: Global, fields: &Fields) -> Result<Vec<u8>, Memory>
     )?;
     let signals = fields.signals.as_slice();
     let instances = fields.instances.as_slice();
-    append_tables(&mut out, fields.version, signals, instances, fields.events.as_slice())?;
+    append_tables(
+        &mut out,
+        fields.version,
+        signals,
+        instances,
+        fields.events.as_slice(),
+    )?;
     Ok(out)
 }
 
@@ -242,6 +248,12 @@ pub fn encode(alloc: Global, rec: &Record) -> Result<Vec<u8>, Memory>
     )?;
     let signals = rec.signals.as_slice();
     let instances = rec.instances.as_slice();
-    append_tables(&mut out, rec.version, signals, instances, rec.events.as_slice())?;
+    append_tables(
+        &mut out,
+        rec.version,
+        signals,
+        instances,
+        rec.events.as_slice(),
+    )?;
     Ok(out)
 }

@@ -1,7 +1,7 @@
 //! The events of a record.
 ghost use Rattle.std.specs.Prelude.{◌≡◌, ◌+◌, ◌<◌, IfOk, OnOk, vec_len, vec_capacity};
 ghost use Rattle.record_codec.specs.Reading.{Gives, appended, counted, values_at, sample_at, event_at, events_at};
-ghost use Rattle.record_codec.specs.Under.{value_under, set_under, event_under, greatest, limits_of};
+ghost use Rattle.record_codec.specs.Under.{value_under, set_under, plain_sample_at, plain_event_under, event_under, are_without_args, greatest, limits_of};
 
 use crate::fault::Fault;
 use crate::fields::{u8_at, u16_at, u32_at, u64_up_to};
@@ -124,9 +124,45 @@ struct Events<'t> {
     instances: &'t [InstRow],
 }
 
-impl Events<'_> {
-    #[inline(always)]
+impl Rows for Events<'_> {
+    type Row = Event;
+
+    ghost row_at = { λ events. event_under events.limits.now events.instances.now };
+
     #[tactic(auto, unfolding(crate::specs::Under::event_under, crate::specs::Reading::number_within))]
+    fn row<'a>(&self, alloc: Global, bytes: &'a [u8]) -> Result<(Event, &'a [u8]), Fault> {
+        let (tag, rest) = u8_at(bytes)?;
+        match tag {
+            1 => set(self.limits, rest),
+            2 => sample(alloc, self.instances, rest),
+            _ => Err(Fault::BadField { left: bytes.len() }),
+        }
+    }
+}
+
+/// Events over the greatest values of the signals, and so many instances without arguments.
+#[derive(Drop)]
+struct PlainEvents<'t> {
+    limits: &'t [u64],
+    instances: usize,
+}
+
+#[inline(always)]
+#[tactic(auto, unfolding(crate::specs::Under::plain_sample_at, crate::specs::Reading::number_within))]
+fn plain_sample(alloc: Global, instances: usize, bytes: &[u8]) -> Result<(Event, &[u8]), Fault>
+    ensures { Gives (λ x. (x.0, x.1.now)) result (plain_sample_at instances bytes.now) }
+{
+    let (instance, rest) = u16_at(bytes)?;
+    if instance as usize >= instances {
+        return Err(Fault::BadField { left: bytes.len() });
+    }
+    let args = List::new(alloc);
+    Ok((Event::Sample { instance, args }, rest))
+}
+
+impl PlainEvents<'_> {
+    #[inline(always)]
+    #[tactic(auto, unfolding(crate::specs::Under::plain_event_under, crate::specs::Reading::number_within))]
     fn append_event<'a>(
         &self,
         alloc: Global,
@@ -134,7 +170,7 @@ impl Events<'_> {
         events: &mut Vec<Event>,
     ) -> Result<&'a [u8], Fault>
         requires { vec_len events.old < vec_capacity events.old }
-        ensures row { Gives (λ rest. (events.new.items, rest.now)) result (appended events.old.items (event_under self.now.limits.now self.now.instances.now bytes.now)) }
+        ensures row { Gives (λ rest. (events.new.items, rest.now)) result (appended events.old.items (plain_event_under self.now.limits.now self.now.instances bytes.now)) }
         ensures room { OnOk result (vec_capacity events.new ≡ vec_capacity events.old) }
         ensures long { OnOk result (vec_len events.new ≡ vec_len events.old + 1) }
     {
@@ -146,7 +182,7 @@ impl Events<'_> {
                 Ok(rest)
             }
             2 => {
-                let (event, rest) = sample(alloc, self.instances, rest)?;
+                let (event, rest) = plain_sample(alloc, self.instances, rest)?;
                 events.push_reserved(event);
                 Ok(rest)
             }
@@ -155,18 +191,17 @@ impl Events<'_> {
     }
 }
 
-impl Rows for Events<'_> {
+impl Rows for PlainEvents<'_> {
     type Row = Event;
 
-    ghost row_at = { λ events. event_under events.limits.now events.instances.now };
+    ghost row_at = { λ events. plain_event_under events.limits.now events.instances };
 
-    #[inline(never)]
-    #[tactic(auto, unfolding(crate::specs::Under::event_under, crate::specs::Reading::number_within))]
+    #[tactic(auto, unfolding(crate::specs::Under::plain_event_under, crate::specs::Reading::number_within))]
     fn row<'a>(&self, alloc: Global, bytes: &'a [u8]) -> Result<(Event, &'a [u8]), Fault> {
         let (tag, rest) = u8_at(bytes)?;
         match tag {
             1 => set(self.limits, rest),
-            2 => sample(alloc, self.instances, rest),
+            2 => plain_sample(alloc, self.instances, rest),
             _ => Err(Fault::BadField { left: bytes.len() }),
         }
     }
@@ -182,10 +217,15 @@ impl Rows for Events<'_> {
         if bytes.len() >= LONGEST {
             return self.append_event(alloc, bytes, rows);
         }
-        let (row, rest) = self.row(alloc, bytes)?;
-        rows.push_reserved(row);
-        Ok(rest)
+        self.append_event(alloc, bytes, rows)
     }
+}
+
+// Whether no instance has arguments.
+fn have_no_args(instances: &[InstRow]) -> bool
+    ensures { result ≡ are_without_args instances.now }
+{
+    instances.iter().all(|row| row.args.as_slice().is_empty())
 }
 
 // So many events.
@@ -199,6 +239,13 @@ fn counted_events<'a>(
     ensures { Gives (λ x. (x.0, x.1.now)) result (counted (event_at signals.now instances.now) count bytes.now) }
 {
     let limits = limits_of(alloc, signals)?;
+    if have_no_args(instances) {
+        let plain = PlainEvents {
+            limits: &limits,
+            instances: instances.len(),
+        };
+        return counted(alloc, &plain, count, bytes);
+    }
     let events = Events {
         limits: &limits,
         instances,
