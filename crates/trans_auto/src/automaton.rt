@@ -35,7 +35,8 @@ impl Automaton {
     /// The automaton of the own sequences and of the removing ones. Each side may have `MOST_CELLS` cells together.
     pub fn new(alloc: Global, own: &[Seq], removed: &[Seq]) -> Result<Automaton, AutoFault>
         ensures made { IfOk result (λ a. a ≡ (own.now, removed.now)) }
-        ensures fits { IsOk result → (cells_of own.now ≤ most_cells) × (cells_of removed.now ≤ most_cells) }
+        ensures fits { IsOk result
+            → (cells_of own.now ≤ most_cells) × (cells_of removed.now ≤ most_cells) }
         ensures otherwise_memory { (cells_of own.now ≤ most_cells) × (cells_of removed.now ≤ most_cells)
             → IsOkUnless result AutoFault.Memory }
         ensures own_first { most_cells < cells_of own.now
@@ -74,8 +75,10 @@ impl Automaton {
     /// takes memory only where it begins a run and the room for runs is used up. After want of memory the state is
     /// as before.
     pub fn push(&self, state: &mut TransState, sample: Option<Int>) -> Result<bool, Memory>
-        ensures answer { IfOk result (λ answer. SaysKept self.now.0 self.now.1 state.old sample answer) }
-        ensures stands { OnOk result (TakesSample self.now.0 self.now.1 state.old sample state.new) }
+        ensures answer { IfOk result
+            (λ answer. SaysKept self.now.0 self.now.1 state.old sample answer) }
+        ensures stands { OnOk result
+            (TakesSample self.now.0 self.now.1 state.old sample state.new) }
         ensures memory { OnErr result (state.new ≡ state.old) }
     {
         let mut step = Step::once(self.own.allocator(), &self.removed, &sample);

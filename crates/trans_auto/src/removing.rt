@@ -50,7 +50,8 @@ impl Removing {
     pub fn new(alloc: Global, seqs: &[Seq]) -> Result<Removing, AutoFault>
         ensures made { IfOk result (λ removing. removing ≡ seqs.now) }
         ensures fits { IsOk result → cells_of seqs.now ≤ most_cells }
-        ensures otherwise_memory { cells_of seqs.now ≤ most_cells → IsOkUnless result AutoFault.Memory }
+        ensures otherwise_memory { cells_of seqs.now ≤ most_cells
+            → IsOkUnless result AutoFault.Memory }
         ensures too_long { most_cells < cells_of seqs.now
             → result ≡ Err (AutoFault.TooLong (min (cells_of seqs.now) u64.MAX)) }
     {

@@ -46,7 +46,8 @@ impl Watcher {
     pub fn new(alloc: Global, own: &[Seq]) -> Result<Watcher, AutoFault>
         ensures made { IfOk result (λ watcher. watcher ≡ own.now) }
         ensures fits { IsOk result → cells_of own.now ≤ most_cells }
-        ensures otherwise_memory { cells_of own.now ≤ most_cells → IsOkUnless result AutoFault.Memory }
+        ensures otherwise_memory { cells_of own.now ≤ most_cells
+            → IsOkUnless result AutoFault.Memory }
         ensures too_long { most_cells < cells_of own.now
             → result ≡ Err (AutoFault.TooLong (min (cells_of own.now) u64.MAX)) }
     {
@@ -83,9 +84,12 @@ impl Watcher {
     ) -> Result<Answer, Memory>
         requires { IsStep removing.now sample step.old }
         ensures step { IsStep removing.now sample step.new }
-        ensures counts { IfOk result (λ answer. SaysKept self.now removing.now state.old sample answer.counts) }
-        ensures ends { IfOk result (λ answer. SaysWindow self.now removing.now state.old sample answer.ends) }
-        ensures stands { OnOk result (TakesSample self.now removing.now state.old sample state.new) }
+        ensures counts { IfOk result
+            (λ answer. SaysKept self.now removing.now state.old sample answer.counts) }
+        ensures ends { IfOk result
+            (λ answer. SaysWindow self.now removing.now state.old sample answer.ends) }
+        ensures stands { OnOk result
+            (TakesSample self.now removing.now state.old sample state.new) }
         ensures memory { OnErr result (state.new ≡ state.old) }
     {
         push_runs(&self.own, &removing.side, step, &sample, &mut state.runs)

@@ -126,7 +126,8 @@ fn flattened(alloc: Global, groups: Vec<List<List<Int>>>) -> Result<Vec<List<Int
 /// grows with the number of distinct lists, not with the ways to make them.
 pub fn expand(alloc: Global, seq: &Seq) -> Result<Vec<List<Int>>, ExpandFault>
     ensures lists { IfOk result (λ lists. Expands seq.now.items lists.items) }
-    ensures windows { IfOk result (λ lists. (w : List ℤ) → Contains lists.items w ↔ HasWord seq.now w) }
+    ensures windows { IfOk result
+        (λ lists. (w : List ℤ) → Contains lists.items w ↔ HasWord seq.now w) }
     ensures refuses { IfErr result (RefusesToExpand seq.now.items) }
 {
     let items = seq.items.as_slice();
@@ -172,7 +173,8 @@ fn first_too_long(seqs: &[Seq]) -> Option<u64>
 /// one being told; else where more than `MOST_BINS` lists are distinct over all sequences.
 pub fn expand_all(alloc: Global, seqs: &[Seq]) -> Result<Vec<List<Int>>, ExpandFault>
     ensures lists { IfOk result (λ lists. ExpandsAll seqs.now lists.items) }
-    ensures windows { IfOk result (λ lists. (w : List ℤ) → Contains lists.items w ↔ SomeHasWord seqs.now w) }
+    ensures windows { IfOk result
+        (λ lists. (w : List ℤ) → Contains lists.items w ↔ SomeHasWord seqs.now w) }
     ensures refuses { IfErr result (RefusesToExpandAll seqs.now) }
 {
     if some_has_unbounded(seqs) {
