@@ -23,6 +23,3 @@ pub use scope::Scope;
 pub use signals::first_signal;
 pub use typs::Typ;
 pub use values::{eval, typ};
-
-#[cfg(test)]
-mod tests;
