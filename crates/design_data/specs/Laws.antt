@@ -1,11 +1,13 @@
--- Two laws that whoever makes a design from declarations owes, and on which the meaning of `default` and of
--- `default sequence` rests: what removal takes away stands in some ignore or illegal bin.
-use Rattle.std.specs.Prelude.{◌≡◌, ℤ, List, Option, Some, None, Bool, false}
-use Rattle.std.specs.List.{list_any}
+-- Laws that whoever makes a design from declarations owes. On two of them the meaning of `default` and of `default
+-- sequence` rests: what removal takes away stands in some ignore or illegal bin. By the third a cross has all its
+-- automatic bins.
+use Rattle.std.specs.Prelude.{◌≡◌, ℤ, ℕ, List, [], ◌∷◌, filter, Option, Some, None, Bool, false, not}
+use Rattle.std.specs.List.{flat_map, list_any}
 use Rattle.wildcard_bins.specs.declared.pattern.Pattern.{Pattern}
 use Rattle.wildcard_bins.specs.Patterns.{agrees}
 use Rattle.trans_seq.specs.declared.seq.Seq.{Seq}
 use Rattle.trans_seq.specs.Windows.{is_known_in, InSome}
+use Rattle.design_data.specs.Crosses.{picks, products}
 use Rattle.design_data.specs.declared.infos.BinInfo.{BinInfo}
 use Rattle.design_data.specs.declared.infos.BinRule.{BinRule}
 use Rattle.design_data.specs.declared.infos.BinRule.TheVariants.{Values, Patterns, Trans, Default, DefaultValues, DefaultSequence, Picked, Product}
@@ -43,3 +45,22 @@ KeepsListed declared bins = (v : Value) → is_listed bins v ≡ list_any (lists
 -- ignored or the illegal sequences (19.5.5, 19.5.6).
 abbrev pub AddsNoWindow : (dropped removing : List Seq) → Type 0
 AddsNoWindow dropped removing = (window : List Value) → InSome dropped window → InSome removing window
+
+-- The products of a cross that no declared bin selects, in order: each is an automatic bin (19.6).
+abbrev pub automatic_products : (sizes : List ℕ) → List BinInfo → List (List ℕ)
+automatic_products sizes bins = filter (λ product. not (list_any (λ bin. picks product bin.rule) bins)) (products sizes)
+
+-- the product of an automatic bin; none of another
+abbrev pub members_of : BinRule → List (List ℕ)
+members_of (Values set) = []
+members_of (Patterns patterns) = []
+members_of (Trans seqs) = []
+members_of Default = []
+members_of (DefaultValues set) = []
+members_of DefaultSequence = []
+members_of (Picked select) = []
+members_of (Product members) = members ∷ []
+
+-- The automatic bins of a cross of points with so many coverage bins are those.
+abbrev pub HasAutomatic : (sizes : List ℕ) → List BinInfo → Type 0
+HasAutomatic sizes bins = flat_map (λ bin. members_of bin.rule) bins ≡ automatic_products sizes bins
