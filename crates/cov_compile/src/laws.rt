@@ -1,0 +1,8 @@
+//! What holds of the definitions.
+ghost use Rattle.std.specs.Prelude.{List, ℕ};
+ghost use Rattle.cov_compile.specs.Compiling.{HasOneOutcome};
+
+/// A text has one design or one fault.
+pub fn one_outcome()
+    ensures { (text : List ℕ) → HasOneOutcome text }
+{}
