@@ -2,46 +2,31 @@
 use Rattle.std.proofs.Common.{◌≡◌, ℕ, ◌<◌, ◌≤◌, List, [], ◌∷◌, length, take, Some, None, inl, inr, refl, sym, ap, subst, ◌∙◌, arith}
 use Rattle.std.specs.Prelude.{◌⊎◌, slice_index_or}
 use Rattle.cov_spec.specs.Causes.{Rose}
-use Rattle.cov_spec.specs.Coverage.{Sample, Hit}
 use Rattle.cov_spec.specs.Files.{file_of}
-use Rattle.cov_spec.proofs.Numbers.{number_is_one}
+use Rattle.cov_counting.specs.Tallies.{IsTally}
+use Rattle.cov_counting.proofs.Bins.{one as tally_is_one}
 use Rattle.record_codec.specs.declared.record.Record.{Record}
-use Rattle.record_codec.specs.Samples.{samples_of}
 use Rattle.record_codec.specs.Spelling.{Encodes}
-use Rattle.covd_core.specs.declared.design.Bin.{Bin}
-use Rattle.covd_core.specs.declared.design.Design.{Design}
+use Rattle.design_data.specs.declared.design.Design.{Design}
+use Rattle.cov_design.specs.Elaboration.{Parts, parts_of}
 use Rattle.covd_core.specs.declared.status.Status.{Status}
 use Rattle.covd_core.specs.declared.status.Status.TheVariants as status
-use Rattle.covd_core.specs.declared.design.CompileFault.{CompileFault}
-use Rattle.covd_core.specs.Compiling.{IsDesign, IsDesignFault}
-use Rattle.covd_core.specs.Tally.{point, rule_of, AreCounts, IsTally}
+use Rattle.cov_compile.specs.declared.fault.CompileFault.{CompileFault}
+use Rattle.cov_compile.specs.Compiling.{IsDesign, IsDesignFault}
+use Rattle.cov_ground.specs.Limits.{longest_design, longest_record}
 use Rattle.covd_core.specs.Lines.{count_text, check_text, IsDesignFaultText, cannot_read_text, too_long_text}
-use Rattle.covd_core.specs.Command.{Files, design_most, record_most, IsCheckCommand, IsCountCommand, NotLoaded, HasDesign, HasNoDesign, HasRecord, HasNoRecord, IsCountText, IsRefusedText, Checks, Counts, Answers, HasOneAnswer}
+use Rattle.covd_core.specs.Command.{Files, IsCheckCommand, IsCountCommand, NotLoaded, HasDesign, HasNoDesign, HasRecord, HasNoRecord, IsCountText, IsRefusedText, Checks, Counts, Answers, HasOneAnswer}
 use Rattle.covd_core.proofs.Refusals.{IsReading, design_text_one, refused_text_one}
-use Rattle.covd_core.proofs.Texts.{design_one as text_design, fault_one}
+use Rattle.cov_compile.proofs.Texts.{design_one as text_design, fault_one}
+use Rattle.covd_core.proofs.Designs.{design_is}
 
 abbrev Told : Type 0
 Told = List (List ℕ × List ℕ)
 
 -- ---- a record has one tally
 
-counts_one : (samples : List Sample) (bins : List Bin) (counts others : List ℕ) → AreCounts samples bins counts → AreCounts samples bins others → counts ≡ others
-counts_one samples [] [] [] h k = refl
-counts_one samples [] [] (m ∷ others) h k = absurd k
-counts_one samples [] (n ∷ counts) others h k = absurd h
-counts_one samples (bin ∷ bins) [] others h k = absurd h
-counts_one samples (bin ∷ bins) (n ∷ counts) [] h k = absurd k
-counts_one samples (bin ∷ bins) (n ∷ counts) (m ∷ others) h k =
-    let here = number_is_one (λ at. Hit point (rule_of bin) (take at samples) (slice_index_or samples at [])) (length samples) n m h.0 k.0 in
-    let later = counts_one samples bins counts others h.1 k.1 in
-    λ i. here i ∷ later i
-
-tally_one : (d : Design) (r : Record) (counts others : List ℕ) → IsTally d r counts → IsTally d r others → counts ≡ others
-unfolding IsTally
-tally_one d r counts others h k = counts_one (samples_of r 0) d.bins counts others h k
-
 text_one : (d : Design) (r : Record) (text other : List ℕ) → IsCountText d r text → IsCountText d r other → text ≡ other
-text_one d r text other h k = h.2 ∙ ap (count_text d r.id) (tally_one d r h.0 k.0 h.1 k.1) ∙ sym k.2
+text_one d r text other h k = h.2 ∙ ap (count_text d r.id) (tally_is_one d r h.0 k.0 h.1 k.1) ∙ sym k.2
 
 -- ---- a file has one answer
 
@@ -90,10 +75,10 @@ module _ (all : Told) (name : List ℕ) where
 
 module _ (all : Told) where
   design_one : (name : List ℕ) (d e : Design) → HasDesign (Some all) name d → HasDesign (Some all) name e → d ≡ e
-  design_one name d e h k = text_design k.text d e (subst (λ (text : List ℕ). IsDesign d text) (same_file all name h.text k.text h.file k.file) h.is_design) k.is_design
+  design_one name d e h k = design_is d e (text_design k.text (parts_of d) (parts_of e) (subst (λ (text : List ℕ). IsDesign (parts_of d) text) (same_file all name h.text k.text h.file k.file) h.is_design) k.is_design)
 
   no_design : (name line : List ℕ) (d : Design) → HasDesign (Some all) name d → HasNoDesign (Some all) name line → ⊥
-  no_design name line d h n = n.none d (subst (λ (text : List ℕ). IsDesign d text) (same_file all name h.text n.text h.file n.file) h.is_design)
+  no_design name line d h n = n.none (parts_of d) (subst (λ (text : List ℕ). IsDesign (parts_of d) text) (same_file all name h.text n.text h.file n.file) h.is_design)
 
   no_design_one : (name line other : List ℕ) → HasNoDesign (Some all) name line → HasNoDesign (Some all) name other → line ≡ other
   no_design_one name line other h k =
@@ -113,7 +98,7 @@ module _ (all : Told) where
 
     -- the answer to the words
     abbrev Case : Status → List ℕ → Type 0
-    Case s text = IsRefused all design design_most s text ⊎ (IsUncompiled s text ⊎ IsCompiled s text)
+    Case s text = IsRefused all design longest_design s text ⊎ (IsUncompiled s text ⊎ IsCompiled s text)
 
     compiled_one : (s s' : Status) (text text' : List ℕ) → IsCompiled s text → IsCompiled s' text' → (s ≡ s') × (text ≡ text')
     compiled_one s s' text text' a b = ends_one b.d s s' text text' (subst (λ (d : Design). Ends d s text) (design_one design a.d b.d a.has b.has) a.ends) b.ends
@@ -121,16 +106,16 @@ module _ (all : Told) where
     uncompiled_one : (s s' : Status) (text text' : List ℕ) → IsUncompiled s text → IsUncompiled s' text' → (s ≡ s') × (text ≡ text')
     uncompiled_one s s' text text' a b = (a.is_status ∙ sym b.is_status, no_design_one design text text' a.none b.none)
 
-    has_had : (s : Status) (text : List ℕ) (d : Design) → HasDesign (Some all) design d → IsRefused all design design_most s text → ⊥
-    has_had s text d h = not_refused all design design_most s text h.text h.file h.short
+    has_had : (s : Status) (text : List ℕ) (d : Design) → HasDesign (Some all) design d → IsRefused all design longest_design s text → ⊥
+    has_had s text d h = not_refused all design longest_design s text h.text h.file h.short
 
-    none_had : (s : Status) (text line : List ℕ) → HasNoDesign (Some all) design line → IsRefused all design design_most s text → ⊥
-    none_had s text line h = not_refused all design design_most s text h.text h.file h.short
+    none_had : (s : Status) (text line : List ℕ) → HasNoDesign (Some all) design line → IsRefused all design longest_design s text → ⊥
+    none_had s text line h = not_refused all design longest_design s text h.text h.file h.short
 
     case_one : (s s' : Status) (text text' : List ℕ) → Case s text → Case s' text' → (s ≡ s') × (text ≡ text')
     case_one s s' text text' h k = elim h [
       | inl a ↦ elim k [
-        | inl b ↦ refused_one all design design_most s s' text text' a b
+        | inl b ↦ refused_one all design longest_design s s' text text' a b
         | inr y ↦ elim y [ inl b ↦ absurd (none_had s text text' b.none a) | inr b ↦ absurd (has_had s text b.d b.has a) ]
       ]
       | inr x ↦ elim x [
@@ -159,8 +144,8 @@ module _ (all : Told) where
     check_case : (s : Status) (text : List ℕ) → Checks (Some all) before now design s text → Case all Lists lists_one design s text
     check_case status.Done text h = inr (inr (record { d = h.0; has = h.1; ends = record { is_status = refl; is_text = h.2 } }))
     check_case status.DesignRefused text h = inr (inl (record { none = h; is_status = refl }))
-    check_case status.ShelfFault text h = inl (refused all design before now calm design_most status.ShelfFault text h)
-    check_case status.FileTooLong text h = inl (refused all design before now calm design_most status.FileTooLong text h)
+    check_case status.ShelfFault text h = inl (refused all design before now calm longest_design status.ShelfFault text h)
+    check_case status.FileTooLong text h = inl (refused all design before now calm longest_design status.FileTooLong text h)
     check_case other text h = absurd h
 
     check_one : (s s' : Status) (text text' : List ℕ) → Checks (Some all) before now design s text → Checks (Some all) before now design s' text' → (s ≡ s') × (text ≡ text')
@@ -188,13 +173,13 @@ module _ (spells : IsReading) (all : Told) where
 
     -- the answer once the design is there
     abbrev Ends : Status → List ℕ → Type 0
-    Ends s text = IsRefused all name record_most s text ⊎ (IsUnfit s text ⊎ IsCounted s text)
+    Ends s text = IsRefused all name longest_record s text ⊎ (IsUnfit s text ⊎ IsCounted s text)
 
-    had : (s : Status) (text : List ℕ) (r : Record) → HasRecord (Some all) name d r → IsRefused all name record_most s text → ⊥
-    had s text r h = not_refused all name record_most s text h.bytes h.file h.short
+    had : (s : Status) (text : List ℕ) (r : Record) → HasRecord (Some all) name d r → IsRefused all name longest_record s text → ⊥
+    had s text r h = not_refused all name longest_record s text h.bytes h.file h.short
 
-    had_none : (s : Status) (text line : List ℕ) → HasNoRecord (Some all) name d line → IsRefused all name record_most s text → ⊥
-    had_none s text line h = not_refused all name record_most s text h.bytes h.file h.short
+    had_none : (s : Status) (text line : List ℕ) → HasNoRecord (Some all) name d line → IsRefused all name longest_record s text → ⊥
+    had_none s text line h = not_refused all name longest_record s text h.bytes h.file h.short
 
     unfit_one : (s s' : Status) (text text' : List ℕ) → IsUnfit s text → IsUnfit s' text' → (s ≡ s') × (text ≡ text')
     unfit_one s s' text text' a b =
@@ -207,7 +192,7 @@ module _ (spells : IsReading) (all : Told) where
     ends_one : (s s' : Status) (text text' : List ℕ) → Ends s text → Ends s' text' → (s ≡ s') × (text ≡ text')
     ends_one s s' text text' h k = elim h [
       | inl a ↦ elim k [
-        | inl b ↦ refused_one all name record_most s s' text text' a b
+        | inl b ↦ refused_one all name longest_record s s' text text' a b
         | inr y ↦ elim y [ inl b ↦ absurd (had_none s text text' b.none a) | inr b ↦ absurd (had s text b.r b.has a) ]
       ]
       | inr x ↦ elim x [
@@ -228,12 +213,12 @@ module _ (spells : IsReading) (all : Told) where
     count_case status.DesignRefused text h = inr (inl (record { none = h; is_status = refl }))
     count_case status.RecordRefused text h = inr (inr (record { d = h.0; has = h.1; ends = inr (inl (record { none = h.2; is_status = refl })) }))
     count_case status.ShelfFault text h = elim h [
-      | inl a ↦ inl (refused all design before now calm design_most status.ShelfFault text a)
-      | inr a ↦ inr (inr (record { d = a.0; has = a.1; ends = inl (refused all rec before now calm record_most status.ShelfFault text a.2) }))
+      | inl a ↦ inl (refused all design before now calm longest_design status.ShelfFault text a)
+      | inr a ↦ inr (inr (record { d = a.0; has = a.1; ends = inl (refused all rec before now calm longest_record status.ShelfFault text a.2) }))
     ]
     count_case status.FileTooLong text h = elim h [
-      | inl a ↦ inl (refused all design before now calm design_most status.FileTooLong text a)
-      | inr a ↦ inr (inr (record { d = a.0; has = a.1; ends = inl (refused all rec before now calm record_most status.FileTooLong text a.2) }))
+      | inl a ↦ inl (refused all design before now calm longest_design status.FileTooLong text a)
+      | inr a ↦ inr (inr (record { d = a.0; has = a.1; ends = inl (refused all rec before now calm longest_record status.FileTooLong text a.2) }))
     ]
     count_case other text h = absurd h
 

@@ -6,14 +6,15 @@ use Rattle.record_codec.specs.declared.fault.RecordFault.TheVariants.{Short, Bad
 use Rattle.record_codec.specs.declared.record.Record.{Record}
 use Rattle.record_codec.specs.Spelling.{Encodes}
 use Rattle.record_codec.specs.Reading.{reading, HasFault, HasRead}
-use Rattle.covd_core.specs.declared.design.Design.{Design}
+use Rattle.design_data.specs.declared.design.Design.{Design}
 use Rattle.covd_core.specs.declared.status.Status.{Status}
 use Rattle.covd_core.specs.declared.status.Status.TheVariants as status
-use Rattle.covd_core.specs.Shape.{Fits, IsWrongAt}
+use Rattle.sampler.specs.Shape.{Fits, IsWrongAt}
+use Rattle.cov_ground.specs.Limits.{longest_record}
 use Rattle.covd_core.specs.Lines.{IsFaultText, wrong_shape_text}
-use Rattle.covd_core.specs.Command.{Files, record_most, HasDesign, IsCountText, Counts}
+use Rattle.covd_core.specs.Command.{Files, HasDesign, IsCountText, Counts}
 use Rattle.covd_core.specs.Steps.{CountsRecord}
-use Rattle.covd_core.proofs.Refusals.{does_not_fit}
+use Rattle.sampler.proofs.Tables.{does_not_fit}
 
 with_status : (d : Design) (bytes : List ℕ) (is s : Status) (text : List ℕ) → s ≡ is → CountsRecord d bytes is text → CountsRecord d bytes s text
 with_status d bytes is s text e h = subst (λ (x : Status). CountsRecord d bytes x text) (sym e) h
@@ -47,7 +48,7 @@ undecoded d bytes fault s text no_fault h a =
     with_status d bytes status.RecordRefused s text a.0 (λ r k fits. no_fault r fault k is, inl (fault, is, a.1))
 
 -- the command's answer, where both files are had
-pub counts : (files : Files) (before now : ℕ) (design rec : List ℕ) (d : Design) (bytes : List ℕ) → HasDesign files design d → HasFile files rec bytes → length bytes ≤ record_most
+pub counts : (files : Files) (before now : ℕ) (design rec : List ℕ) (d : Design) (bytes : List ℕ) → HasDesign files design d → HasFile files rec bytes → length bytes ≤ longest_record
     → (s : Status) (text : List ℕ) → CountsRecord d bytes s text → Counts files before now design rec s text
 counts files before now design rec d bytes has file short status.Done text h = (d, has, h.0, record { bytes = bytes; file = file; short = short; encodes = h.1; fits = h.2 }, h.3)
 counts files before now design rec d bytes has file short status.RecordRefused text h = (d, has, record { bytes = bytes; file = file; short = short; none = h.0; line = h.1 })

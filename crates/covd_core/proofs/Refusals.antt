@@ -1,7 +1,5 @@
 -- Bytes are refused by one line.
-use Rattle.std.proofs.Common.{◌≡◌, ℕ, ◌+◌, ◌<◌, zero, suc, List, [], ◌∷◌, length, take, Some, inl, inr, refl, sym, ap, subst, ◌∙◌, arith}
-use Rattle.std.specs.Prelude.{slice_get}
-use Rattle.std.proofs.lemmas.Bool.{cases_order}
+use Rattle.std.proofs.Common.{◌≡◌, ℕ, List, inl, inr, sym, ap, subst, ◌∙◌}
 use Rattle.record_codec.specs.declared.fault.RecordFault.{RecordFault}
 use Rattle.record_codec.specs.declared.fault.RecordFault.TheVariants.{Short, BadMagic, BadVersion, BadField, TooManyEvents, Trailing, Memory}
 use Rattle.record_codec.specs.declared.record.Record.{Record}
@@ -9,11 +7,12 @@ use Rattle.record_codec.specs.Spelling.{Encodes}
 use Rattle.record_codec.specs.Reading.{HasFault}
 use Rattle.cov_lexer.specs.declared.token.LexFault.TheVariants as lexing
 use Rattle.cov_parser.specs.declared.fault.ParseFault.TheVariants as parsing
-use Rattle.covd_core.specs.declared.design.CompileFault.{CompileFault}
-use Rattle.covd_core.specs.declared.design.CompileFault.TheVariants as compiling
-use Rattle.covd_core.specs.declared.design.CompileFault.TheVariants.{Lex, Parse, NotBuiltYet}
-use Rattle.covd_core.specs.declared.design.Design.{Design}
-use Rattle.covd_core.specs.Shape.{signals_of, instances_of, Fits, FirstDiffering, IsWrongAt}
+use Rattle.cov_compile.specs.declared.fault.CompileFault.{CompileFault}
+use Rattle.cov_compile.specs.declared.fault.CompileFault.TheVariants.{Lex, Parse, Elab}
+use Rattle.elab_base.specs.declared.fault.ElabFault.TheVariants as elaborating
+use Rattle.design_data.specs.declared.design.Design.{Design}
+use Rattle.sampler.specs.Shape.{Fits, IsWrongAt}
+use Rattle.sampler.proofs.Tables.{place_one}
 use Rattle.covd_core.specs.Lines.{IsDesignFaultText, IsFaultText, wrong_shape_text}
 use Rattle.covd_core.specs.Command.{IsRefusedText}
 
@@ -22,49 +21,6 @@ pub record IsReading : Type 0 where
   pub one : (bytes : List ℕ) (r q : Record) → Encodes r bytes → Encodes q bytes → r ≡ q
   pub no_fault : (bytes : List ℕ) (r : Record) (fault : RecordFault) → Encodes r bytes → HasFault bytes fault → ⊥
   pub one_fault : (bytes : List ℕ) (fault other : RecordFault) → HasFault bytes fault → HasFault bytes other → fault ≡ other
-
--- ---- the first place that differs
-
--- what agrees up to a place agrees at each place before it
-taken : {A : Type 0} (rows others : List A) (at place : ℕ) → place < at → take at rows ≡ take at others → slice_get rows place ≡ slice_get others place
-taken [] [] at place lt e = refl
-taken [] (y ∷ others) zero place lt e = absurd (omega arith)
-taken [] (y ∷ others) (suc at) place lt e = absurd cc
-taken (x ∷ rows) [] zero place lt e = absurd (omega arith)
-taken (x ∷ rows) [] (suc at) place lt e = absurd cc
-taken (x ∷ rows) (y ∷ others) zero place lt e = absurd (omega arith)
-taken (x ∷ rows) (y ∷ others) (suc at) zero lt e = let h : x ≡ y = cc in ap Some h
-taken (x ∷ rows) (y ∷ others) (suc at) (suc place) lt e = let t : take at rows ≡ take at others = cc in taken rows others at place (omega arith) t
-
-first_one : {A : Type 0} (rows others : List A) (at place : ℕ) → FirstDiffering rows others at → FirstDiffering rows others place → at ≡ place
-first_one rows others at place h k = elim (cases_order at place) [
-  | inl e ↦ e
-  | inr (inl lt) ↦ absurd (h.here (taken rows others place at lt k.before))
-  | inr (inr lt) ↦ absurd (k.here (taken rows others at place lt h.before))
-]
-
--- equal tables differ nowhere
-pub none_differs : {A : Type 0} (rows others : List A) (at : ℕ) → rows ≡ others → FirstDiffering rows others at → ⊥
-none_differs rows others at e h = h.here (ap (λ (l : List _). slice_get l at) e)
-
-pub place_one : (d : Design) (r : Record) (at place : ℕ) → IsWrongAt d r at → IsWrongAt d r place → at ≡ place
-place_one d r at place h k = elim h [
-  | inl a ↦ elim k [
-    | inl b ↦ first_one r.signals (signals_of d) at place a b
-    | inr b ↦ absurd (none_differs r.signals (signals_of d) at b.signals a)
-  ]
-  | inr a ↦ elim k [
-    | inl b ↦ absurd (none_differs r.signals (signals_of d) place a.signals b)
-    | inr b ↦ a.counted ∙ ap (λ (n : ℕ). length (signals_of d) + n) (first_one r.instances (instances_of d) a.place b.place a.differ b.differ) ∙ sym b.counted
-  ]
-]
-
--- a record that differs somewhere doesn't fit
-pub does_not_fit : (d : Design) (r : Record) (at : ℕ) → IsWrongAt d r at → Fits d r → ⊥
-does_not_fit d r at h fits = elim h [
-  | inl a ↦ none_differs r.signals (signals_of d) at fits.signals a
-  | inr a ↦ none_differs r.instances (instances_of d) a.place fits.instances a.differ
-]
 
 -- ---- the line
 
@@ -88,8 +44,8 @@ design_text_one (Parse (parsing.Syntax at)) text other h k = h ∙ sym k
 design_text_one (Parse (parsing.NotSupported at)) text other h k = h ∙ sym k
 design_text_one (Parse (parsing.TooDeep at)) text other h k = h ∙ sym k
 design_text_one (Parse parsing.Memory) text other h k = absurd h
-design_text_one (NotBuiltYet at) text other h k = h ∙ sym k
-design_text_one compiling.Memory text other h k = absurd h
+design_text_one (Elab (elaborating.Fault kind at)) text other h k = h ∙ sym k
+design_text_one (Elab elaborating.Memory) text other h k = absurd h
 
 pub refused_text_one : IsReading → (d : Design) (bytes text other : List ℕ) → IsRefusedText d bytes text → IsRefusedText d bytes other → text ≡ other
 refused_text_one read d bytes text other h k = elim h [

@@ -9,25 +9,20 @@ use Rattle.record_codec.specs.declared.record.Record.{Record}
 use Rattle.record_codec.specs.declared.fault.RecordFault.{RecordFault}
 use Rattle.record_codec.specs.Spelling.{Encodes}
 use Rattle.record_codec.specs.Reading.{HasFault}
-use Rattle.covd_core.specs.declared.design.CompileFault.{CompileFault}
-use Rattle.covd_core.specs.declared.design.Design.{Design}
+use Rattle.cov_compile.specs.declared.fault.CompileFault.{CompileFault}
+use Rattle.cov_compile.specs.Compiling.{IsDesign, IsDesignFault}
+use Rattle.cov_counting.specs.Tallies.{IsTally}
+use Rattle.cov_design.specs.Elaboration.{Parts, parts_of}
+use Rattle.cov_ground.specs.Limits.{longest_design, longest_record}
+use Rattle.design_data.specs.declared.design.Design.{Design}
 use Rattle.covd_core.specs.declared.status.Status.{Status}
 use Rattle.covd_core.specs.declared.status.Status.TheVariants as status
-use Rattle.covd_core.specs.Compiling.{IsDesign, IsDesignFault}
-use Rattle.covd_core.specs.Shape.{Fits, IsWrongAt}
-use Rattle.covd_core.specs.Tally.{IsTally}
+use Rattle.sampler.specs.Shape.{Fits, IsWrongAt}
 use Rattle.covd_core.specs.Lines.{count_text, check_text, bad_words_text, IsDesignFaultText, IsFaultText, wrong_shape_text, cannot_read_text, too_long_text}
 
 -- the files of a shelf, where it tells them
 abbrev pub Files : Type 0
 Files = Option (List (List ℕ × List ℕ))
-
--- the most bytes of a design text and of a record
-abbrev pub design_most : ℕ
-design_most = 1048576
-
-abbrev pub record_most : ℕ
-record_most = 8388608
 
 -- ---- words
 
@@ -64,15 +59,15 @@ NotLoaded files before now name most other text = ⊥
 pub record HasDesign (files : Files) (name : List ℕ) (d : Design) : Type 0 where
   pub text : List ℕ
   pub file : HasFile files name text
-  pub short : length text ≤ design_most
-  pub is_design : IsDesign d text
+  pub short : length text ≤ longest_design
+  pub is_design : IsDesign (parts_of d) text
 
 -- the file of that name has no design, and the line says why: the text's fault and its place
 pub record HasNoDesign (files : Files) (name line : List ℕ) : Type 0 where
   pub text : List ℕ
   pub file : HasFile files name text
-  pub short : length text ≤ design_most
-  pub none : (d : Design) → IsDesign d text → ⊥
+  pub short : length text ≤ longest_design
+  pub none : (parts : Parts) → IsDesign parts text → ⊥
   pub fault : CompileFault
   pub cause : IsDesignFault text fault
   pub says : IsDesignFaultText fault line
@@ -81,7 +76,7 @@ pub record HasNoDesign (files : Files) (name line : List ℕ) : Type 0 where
 pub record HasRecord (files : Files) (name : List ℕ) (d : Design) (r : Record) : Type 0 where
   pub bytes : List ℕ
   pub file : HasFile files name bytes
-  pub short : length bytes ≤ record_most
+  pub short : length bytes ≤ longest_record
   pub encodes : Encodes r bytes
   pub fits : Fits d r
 
@@ -96,7 +91,7 @@ IsRefusedText d bytes text =
 pub record HasNoRecord (files : Files) (name : List ℕ) (d : Design) (text : List ℕ) : Type 0 where
   pub bytes : List ℕ
   pub file : HasFile files name bytes
-  pub short : length bytes ≤ record_most
+  pub short : length bytes ≤ longest_record
   pub none : (r : Record) → Encodes r bytes → Fits d r → ⊥
   pub line : IsRefusedText d bytes text
 
@@ -110,8 +105,8 @@ IsCountText d r text = (counts : List ℕ) × IsTally d r counts × (text ≡ co
 abbrev pub Checks : Files → ℕ → ℕ → List ℕ → Status → List ℕ → Type 0
 Checks files before now design status.Done text = (d : Design) × HasDesign files design d × (text ≡ check_text d)
 Checks files before now design status.DesignRefused text = HasNoDesign files design text
-Checks files before now design status.ShelfFault text = NotLoaded files before now design design_most status.ShelfFault text
-Checks files before now design status.FileTooLong text = NotLoaded files before now design design_most status.FileTooLong text
+Checks files before now design status.ShelfFault text = NotLoaded files before now design longest_design status.ShelfFault text
+Checks files before now design status.FileTooLong text = NotLoaded files before now design longest_design status.FileTooLong text
 Checks files before now design other text = ⊥
 
 -- Status and text of `count DESIGN RECORD`: the cause of each status.
@@ -119,8 +114,8 @@ abbrev pub Counts : Files → ℕ → ℕ → List ℕ → List ℕ → Status �
 Counts files before now design rec status.Done text = (d : Design) × HasDesign files design d × (r : Record) × HasRecord files rec d r × IsCountText d r text
 Counts files before now design rec status.DesignRefused text = HasNoDesign files design text
 Counts files before now design rec status.RecordRefused text = (d : Design) × HasDesign files design d × HasNoRecord files rec d text
-Counts files before now design rec status.ShelfFault text = NotLoaded files before now design design_most status.ShelfFault text ⊎ ((d : Design) × HasDesign files design d × NotLoaded files before now rec record_most status.ShelfFault text)
-Counts files before now design rec status.FileTooLong text = NotLoaded files before now design design_most status.FileTooLong text ⊎ ((d : Design) × HasDesign files design d × NotLoaded files before now rec record_most status.FileTooLong text)
+Counts files before now design rec status.ShelfFault text = NotLoaded files before now design longest_design status.ShelfFault text ⊎ ((d : Design) × HasDesign files design d × NotLoaded files before now rec longest_record status.ShelfFault text)
+Counts files before now design rec status.FileTooLong text = NotLoaded files before now design longest_design status.FileTooLong text ⊎ ((d : Design) × HasDesign files design d × NotLoaded files before now rec longest_record status.FileTooLong text)
 Counts files before now design rec other text = ⊥
 
 -- Status and text of any words; `before` and `now` are the counts of the shelf's faults.

@@ -1,45 +1,83 @@
 -- The lines that are printed. Each ends with a newline, and numbers are decimal.
-use Rattle.std.specs.Prelude.{◌≡◌, ℕ, ◌+◌, List, [], ◌∷◌, ◌++◌, codes, decimal, length}
+use Rattle.std.specs.Prelude.{◌≡◌, ℕ, ◌+◌, ◌==◌, List, [], ◌∷◌, ◌++◌, codes, decimal, length, slice_get, Option, Some, None, if◌then◌else◌}
+use Rattle.std.specs.List.{flat_map}
 use Rattle.cov_lexer.specs.declared.token.LexFault.TheVariants as lexing
 use Rattle.cov_parser.specs.declared.fault.ParseFault.TheVariants as parsing
 use Rattle.record_codec.specs.declared.fault.RecordFault.{RecordFault}
 use Rattle.record_codec.specs.declared.fault.RecordFault.TheVariants.{Short, BadMagic, BadVersion, BadField, TooManyEvents, Trailing, Memory}
-use Rattle.covd_core.specs.declared.design.Bin.{Bin}
-use Rattle.covd_core.specs.declared.design.CompileFault.{CompileFault}
-use Rattle.covd_core.specs.declared.design.CompileFault.TheVariants as compiling
-use Rattle.covd_core.specs.declared.design.CompileFault.TheVariants.{Lex, Parse, NotBuiltYet}
-use Rattle.covd_core.specs.declared.design.Design.{Design}
-use Rattle.covd_core.specs.Shape.{signals_of, instances_of}
+use Rattle.cov_compile.specs.declared.fault.CompileFault.{CompileFault}
+use Rattle.cov_compile.specs.declared.fault.CompileFault.TheVariants.{Lex, Parse, Elab}
+use Rattle.design_data.specs.declared.design.Design.{Design}
+use Rattle.design_data.specs.declared.infos.BinInfo.{BinInfo}
+use Rattle.design_data.specs.declared.infos.BinKind.{BinKind}
+use Rattle.design_data.specs.declared.infos.BinKind.TheVariants.{CvgBin, IllegalBin, IgnoreBin, DefaultBin}
+use Rattle.design_data.specs.declared.infos.GroupInfo.{GroupInfo}
+use Rattle.design_data.specs.declared.infos.InstInfo.{InstInfo}
+use Rattle.design_data.specs.declared.infos.ItemInfo.{ItemInfo}
+use Rattle.elab_base.specs.declared.fault.ElabFault.TheVariants as elaborating
+use Rattle.elab_base.specs.declared.fault.ElabKind.{ElabKind}
+use Rattle.elab_base.specs.declared.fault.ElabKind.TheVariants as kinds
 
 abbrev pub newline : List ℕ
 newline = 10 ∷ []
 
--- a path: the names of group, instance, point and bin, with `/` between them
-abbrev pub path_of : Design → Bin → List ℕ
-path_of d bin = d.group ++ 47 ∷ (d.instance ++ 47 ∷ (d.point ++ 47 ∷ bin.name))
+-- the word of a bin's kind
+abbrev pub kind_word : BinKind → List ℕ
+kind_word CvgBin = codes "CVGBIN"
+kind_word IllegalBin = codes "ILLEGALBIN"
+kind_word IgnoreBin = codes "IGNOREBIN"
+kind_word DefaultBin = codes "DEFAULTBIN"
 
--- bin NUMBER CVGBIN COUNT PATH
-abbrev pub bin_line : ℕ → ℕ → Design → Bin → List ℕ
-bin_line number count d bin = codes "bin " ++ (decimal number ++ (codes " CVGBIN " ++ (decimal count ++ 32 ∷ (path_of d bin ++ newline))))
+-- two names, with `/` between them
+abbrev pub joined : List ℕ → List ℕ → List ℕ
+joined above name = above ++ 47 ∷ name
 
--- a line for each bin, numbered from `number` on
-abbrev pub bin_lines : ℕ → Design → List Bin → List ℕ → List ℕ
-bin_lines number d [] counts = []
-bin_lines number d (bin ∷ bins) [] = []
-bin_lines number d (bin ∷ bins) (count ∷ counts) = bin_line number count d bin ++ bin_lines (number + 1) d bins counts
+abbrev pub count_at : Option ℕ → ℕ
+count_at None = 0
+count_at (Some count) = count
 
--- `test ID`, and a line for each bin
+-- the column of a bin's count, where counts are printed
+abbrev pub count_column : Option (List ℕ) → ℕ → List ℕ
+count_column None number = []
+count_column (Some counts) number = 32 ∷ decimal (count_at (slice_get counts number))
+
+-- bin NUMBER KIND PATH, or bin NUMBER KIND COUNT PATH; the path is the names of group, instance, item and bin
+abbrev pub bin_line : Option (List ℕ) → ℕ → List ℕ → BinInfo → List ℕ
+bin_line counts number above bin =
+    codes "bin " ++ (decimal number ++ 32 ∷ (kind_word bin.kind ++ (count_column counts number ++ 32 ∷ (joined above bin.name ++ newline))))
+
+-- a line for each bin of an item, numbered from `number` on
+abbrev pub bin_lines : Option (List ℕ) → ℕ → List ℕ → List BinInfo → List ℕ
+bin_lines counts number above [] = []
+bin_lines counts number above (bin ∷ bins) = bin_line counts number above bin ++ bin_lines counts (number + 1) above bins
+
+abbrev pub item_lines : Option (List ℕ) → List ℕ → ItemInfo → List ℕ
+item_lines counts above item = bin_lines counts item.first_bin (joined above item.name) item.bins
+
+abbrev pub instance_lines : Option (List ℕ) → List ℕ → InstInfo → List ℕ
+instance_lines counts group inst = flat_map (item_lines counts (joined group inst.name)) inst.items
+
+-- the lines of an instance that is one of the group at this place
+abbrev pub lines_of_instance : Option (List ℕ) → List ℕ → ℕ → InstInfo → List ℕ
+lines_of_instance counts name place inst = if inst.group == place then instance_lines counts name inst else []
+
+-- the lines of a group's instances
+abbrev pub group_lines : Option (List ℕ) → List InstInfo → ℕ → GroupInfo → List ℕ
+group_lines counts instances place group = flat_map (lines_of_instance counts group.name place) instances
+
+-- the lines of groups, of which the first has this place
+abbrev pub lines_from : Option (List ℕ) → List InstInfo → ℕ → List GroupInfo → List ℕ
+lines_from counts instances place [] = []
+lines_from counts instances place (group ∷ groups) = group_lines counts instances place group ++ lines_from counts instances (place + 1) groups
+
+-- a line for each bin of a design in the order of their numbers: group by group, and in each its instances, their items
+-- and bins
+abbrev pub design_lines : Option (List ℕ) → Design → List ℕ
+design_lines counts d = lines_from counts d.instances 0 d.groups
+
+-- `test ID`, and a line for each bin with its count
 abbrev pub count_text : Design → List ℕ → List ℕ → List ℕ
-count_text d id counts = codes "test " ++ (id ++ (newline ++ bin_lines 0 d d.bins counts))
-
--- bin NUMBER CVGBIN PATH
-abbrev pub listed_line : ℕ → Design → Bin → List ℕ
-listed_line number d bin = codes "bin " ++ (decimal number ++ (codes " CVGBIN " ++ (path_of d bin ++ newline)))
-
--- a line for each bin, numbered from `number` on
-abbrev pub listed_lines : ℕ → Design → List Bin → List ℕ
-listed_lines number d [] = []
-listed_lines number d (bin ∷ bins) = listed_line number d bin ++ listed_lines (number + 1) d bins
+count_text d id counts = codes "test " ++ (id ++ (newline ++ design_lines (Some counts) d))
 
 -- a word and a number
 abbrev pub number_line : List ℕ → ℕ → List ℕ
@@ -48,7 +86,7 @@ number_line word number = word ++ 32 ∷ (decimal number ++ newline)
 -- how many signals, instances and bins the design has, and a line for each bin
 abbrev pub check_text : Design → List ℕ
 check_text d =
-    number_line (codes "signals") (length (signals_of d)) ++ (number_line (codes "instances") (length (instances_of d)) ++ (number_line (codes "bins") (length d.bins) ++ listed_lines 0 d d.bins))
+    number_line (codes "signals") (length d.signals) ++ (number_line (codes "instances") (length d.instances) ++ (number_line (codes "bins") d.bin_count ++ design_lines None d))
 
 abbrev pub bad_words_text : List ℕ
 bad_words_text = codes "bad words" ++ newline
@@ -56,6 +94,42 @@ bad_words_text = codes "bad words" ++ newline
 -- the kind of the fault of a design text, and the byte at which it stands
 abbrev pub design_refused_text : List ℕ → ℕ → List ℕ
 design_refused_text kind at = codes "design refused " ++ (kind ++ (codes " at " ++ (decimal at ++ newline)))
+
+-- the word of a kind of faults on the walk through a design
+abbrev pub fault_word : ElabKind → List ℕ
+fault_word kinds.DuplicateName = codes "DuplicateName"
+fault_word kinds.UnknownType = codes "UnknownType"
+fault_word kinds.UnknownName = codes "UnknownName"
+fault_word kinds.TooWide = codes "TooWide"
+fault_word kinds.BadSelect = codes "BadSelect"
+fault_word kinds.BadConcat = codes "BadConcat"
+fault_word kinds.UnknownLiteral = codes "UnknownLiteral"
+fault_word kinds.BadWildcard = codes "BadWildcard"
+fault_word kinds.NotConstant = codes "NotConstant"
+fault_word kinds.BadEnum = codes "BadEnum"
+fault_word kinds.ArgCount = codes "ArgCount"
+fault_word kinds.TooManyArgs = codes "TooManyArgs"
+fault_word kinds.RefNotVariable = codes "RefNotVariable"
+fault_word kinds.NotThisPoint = codes "NotThisPoint"
+fault_word kinds.IgnoreDefault = codes "IgnoreDefault"
+fault_word kinds.ZeroBins = codes "ZeroBins"
+fault_word kinds.BadRepeat = codes "BadRepeat"
+fault_word kinds.Unbounded = codes "Unbounded"
+fault_word kinds.TooManyValues = codes "TooManyValues"
+fault_word kinds.TooManyRanges = codes "TooManyRanges"
+fault_word kinds.TooLong = codes "TooLong"
+fault_word kinds.TooManyBins = codes "TooManyBins"
+fault_word kinds.UnknownPoint = codes "UnknownPoint"
+fault_word kinds.NotCrossed = codes "NotCrossed"
+fault_word kinds.UnknownBin = codes "UnknownBin"
+fault_word kinds.TooManyPoints = codes "TooManyPoints"
+fault_word kinds.TooManyProducts = codes "TooManyProducts"
+fault_word kinds.UnknownOption = codes "UnknownOption"
+fault_word kinds.WrongLevel = codes "WrongLevel"
+fault_word kinds.OutOfRange = codes "OutOfRange"
+fault_word kinds.SetTwice = codes "SetTwice"
+fault_word kinds.DesignLimit = codes "DesignLimit"
+fault_word kinds.NotBuiltYet = codes "NotBuiltYet"
 
 -- The line of a fault of a design text. Want of memory has no line.
 abbrev pub IsDesignFaultText : CompileFault → List ℕ → Type 0
@@ -69,8 +143,8 @@ IsDesignFaultText (Parse (parsing.Syntax at)) text = text ≡ design_refused_tex
 IsDesignFaultText (Parse (parsing.NotSupported at)) text = text ≡ design_refused_text (codes "NotSupported") at
 IsDesignFaultText (Parse (parsing.TooDeep at)) text = text ≡ design_refused_text (codes "TooDeep") at
 IsDesignFaultText (Parse parsing.Memory) text = ⊥
-IsDesignFaultText (NotBuiltYet at) text = text ≡ design_refused_text (codes "NotBuiltYet") at
-IsDesignFaultText compiling.Memory text = ⊥
+IsDesignFaultText (Elab (elaborating.Fault kind at)) text = text ≡ design_refused_text (fault_word kind) at
+IsDesignFaultText (Elab elaborating.Memory) text = ⊥
 
 -- the first record, which is the only one, is refused: the kind of the refusal and its number
 abbrev pub record_refused_text : List ℕ → ℕ → List ℕ

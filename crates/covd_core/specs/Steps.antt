@@ -7,11 +7,12 @@ use Rattle.covd_core.specs.declared.loading.Loaded.{Loaded}
 use Rattle.covd_core.specs.declared.loading.Loaded.TheVariants.{Bytes, Refused}
 use Rattle.covd_core.specs.declared.loading.HadDesign.{HadDesign}
 use Rattle.covd_core.specs.declared.loading.HadDesign.TheVariants as had
-use Rattle.covd_core.specs.declared.design.Design.{Design}
+use Rattle.design_data.specs.declared.design.Design.{Design}
 use Rattle.covd_core.specs.declared.status.Status.{Status}
 use Rattle.covd_core.specs.declared.status.Status.TheVariants as status
-use Rattle.covd_core.specs.Command.{Files, design_most, NotLoaded, HasDesign, HasNoDesign, IsCountText, IsRefusedText}
-use Rattle.covd_core.specs.Shape.{Fits}
+use Rattle.cov_ground.specs.Limits.{longest_design}
+use Rattle.sampler.specs.Shape.{Fits}
+use Rattle.covd_core.specs.Command.{Files, NotLoaded, HasDesign, HasNoDesign, IsCountText, IsRefusedText}
 
 -- a file's bytes, or the answer that it can't be had
 abbrev pub IsLoaded : Files → ℕ → ℕ → List ℕ → ℕ → Loaded → Type 0
@@ -21,7 +22,7 @@ IsLoaded files before now name most (Refused a) = NotLoaded files before now nam
 -- status and text where the design of that name can't be had
 abbrev pub NoDesign : Files → ℕ → ℕ → List ℕ → Status → List ℕ → Type 0
 NoDesign files before now name status.DesignRefused text = HasNoDesign files name text
-NoDesign files before now name s text = NotLoaded files before now name design_most s text
+NoDesign files before now name s text = NotLoaded files before now name longest_design s text
 
 -- a design from its file, or the answer that it can't be had
 abbrev pub IsHad : Files → ℕ → ℕ → List ℕ → HadDesign → Type 0

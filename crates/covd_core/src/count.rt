@@ -1,24 +1,24 @@
 //! The command `count`.
 ghost use Rattle.std.specs.Prelude.{◌≡◌, ◌≤◌, length, IfOk};
 ghost use Rattle.covd_core.specs.Command.{Counts, IsCountText};
-ghost use Rattle.covd_core.specs.Shape.{Fits};
+ghost use Rattle.cov_ground.specs.Limits.{longest_record};
+ghost use Rattle.sampler.specs.Shape.{Fits};
 ghost use Rattle.covd_core.specs.Lines.{record_refused_text, IsFaultText};
 ghost use Rattle.covd_core.specs.declared.status.Status.TheVariants.{Done, RecordRefused};
 ghost use Rattle.covd_core.specs.Steps.{CountsRecord};
 
 use crate::Status;
 use crate::answer::Answer;
-use crate::design::Design;
-use crate::lines::{count_lines, record_refused};
+use crate::lines::count_lines;
 use crate::loading::{HadDesign, Loaded, had_design, load};
-use crate::shape::shape_fits;
-use crate::tally::tally;
+use crate::texts::record_refused;
 use cov_base::{Memory, Shelf};
+use cov_counting::tally_by_definition;
+use cov_ground::limits::LONGEST_RECORD;
+use design_data::Design;
 use record_codec::{Record, RecordFault, decode};
+use sampler::shape_fits;
 use std::alloc::Global;
-
-/// The most bytes of a record.
-const RECORD_MOST: u64 = 8_388_608;
 
 fn refused(alloc: Global, kind: &str, number: u64) -> Result<Answer, Memory>
     ensures { IfOk result (λ a. (a.status ≡ RecordRefused) × (a.text.items ≡ record_refused_text kind.now number)) }
@@ -50,8 +50,8 @@ fn counted(alloc: Global, design: &Design, rec: &Record) -> Result<Answer, Memor
     requires { Fits design.now rec.now }
     ensures { IfOk result (λ a. (a.status ≡ Done) × IsCountText design.now rec.now a.text.items) }
 {
-    let counts = tally(alloc, design, rec)?;
-    let text = count_lines(alloc, design, rec.id.as_slice(), &counts)?;
+    let counts = tally_by_definition(alloc, design, rec)?;
+    let text = count_lines(alloc, design, rec.id.as_slice(), counts.as_slice())?;
     Ok(Answer {
         status: Status::Done,
         text,
@@ -60,7 +60,7 @@ fn counted(alloc: Global, design: &Design, rec: &Record) -> Result<Answer, Memor
 
 // The answer to the record of these bytes.
 fn count_record(alloc: Global, design: &Design, bytes: &[u8]) -> Result<Answer, Memory>
-    requires { length bytes.now ≤ 8388608 }
+    requires { length bytes.now ≤ longest_record }
     ensures { IfOk result (λ a. CountsRecord design.now bytes.now a.status a.text.items) }
 {
     match decode(alloc, bytes) {
@@ -87,7 +87,7 @@ pub(crate) fn count<F: Shelf>(
         HadDesign::Compiled(design) => design,
         HadDesign::Refused(answer) => return Ok(answer),
     };
-    match load(alloc, rec, RECORD_MOST, shelf)? {
+    match load(alloc, rec, LONGEST_RECORD, shelf)? {
         Loaded::Bytes(bytes) => count_record(alloc, &design, &bytes),
         Loaded::Refused(answer) => Ok(answer),
     }

@@ -2,19 +2,13 @@
 #![tactic(auto)]
 
 mod answer;
-mod bins;
-mod built;
 mod check;
-mod compile;
 mod count;
-mod design;
 mod lines;
 mod loading;
-mod names;
 mod running;
-mod shape;
 mod status;
-mod tally;
+mod texts;
 mod writing;
 
 pub use running::run;

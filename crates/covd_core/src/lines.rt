@@ -1,68 +1,166 @@
-//! The lines that are printed.
-ghost use Rattle.std.specs.Prelude.{◌≡◌, length, IfOk, OnOk, ◌++◌, decimal};
-ghost use Rattle.covd_core.specs.Lines.{count_text, bin_line, bin_lines, check_text, listed_line, listed_lines, number_line, path_of, bad_words_text, design_refused_text, record_refused_text, cannot_read_text, too_long_text};
+//! The lines of designs and counts.
+ghost use Rattle.std.specs.Prelude.{◌≡◌, ◌++◌, ◌+◌, ◌<◌, length, IfOk, OnOk, decimal, slice_get};
+ghost use Rattle.covd_core.specs.Columns.{counts_of, path_above};
+ghost use Rattle.covd_core.specs.Lines.{kind_word, joined, count_at, count_column, bin_line, bin_lines, item_lines, instance_lines, lines_of_instance, group_lines, design_lines, count_text, check_text, number_line};
 
-use crate::design::{Bin, Design};
+use crate::texts::{append, append_count, append_number};
 use cov_base::Memory;
-use itoa::Buffer;
+use cov_tree::Name;
+use design_data::{BinInfo, BinKind, Design, GroupInfo, InstInfo, ItemInfo};
 use std::alloc::Global;
 
-fn append(text: &mut Vec<u8>, bytes: &[u8]) -> Result<(), Memory>
-    ensures { OnOk result (text.new.items ≡ text.old.items ++ bytes.now) }
+fn kind_name(kind: BinKind) -> &'static str
+    ensures { result.now ≡ kind_word kind }
 {
-    text.extend_from_slice(bytes)?;
-    Ok(())
+    match kind {
+        BinKind::CvgBin => "CVGBIN",
+        BinKind::IllegalBin => "ILLEGALBIN",
+        BinKind::IgnoreBin => "IGNOREBIN",
+        BinKind::DefaultBin => "DEFAULTBIN",
+    }
 }
 
-fn append_number(text: &mut Vec<u8>, number: u64) -> Result<(), Memory>
-    ensures { OnOk result (text.new.items ≡ text.old.items ++ decimal number) }
-{
-    let mut buffer = Buffer::new();
-    append(text, buffer.format(number).as_bytes())
+/// Whether a line has a count, and the counts of all bins.
+#[derive(Drop)]
+pub(crate) enum Column<'a> {
+    Bare,
+    Counted(&'a [u64]),
 }
 
-fn append_path(text: &mut Vec<u8>, design: &Design, bin: &Bin) -> Result<(), Memory>
-    ensures { OnOk result (text.new.items ≡ text.old.items ++ path_of design.now bin.now) }
+// The names above the bins of an item.
+#[derive(Drop)]
+pub(crate) struct Above<'a> {
+    group: &'a Name,
+    instance: &'a Name,
+    item: &'a Name,
+}
+
+fn append_path(text: &mut Vec<u8>, above: &Above<'_>, bin: &Name) -> Result<(), Memory>
+    ensures { OnOk result (text.new.items ≡ text.old.items ++ joined (path_above above.now) bin.now) }
 {
-    append(text, design.group.as_slice())?;
+    append(text, above.group.as_slice())?;
     append(text, b"/")?;
-    append(text, design.instance.as_slice())?;
+    append(text, above.instance.as_slice())?;
     append(text, b"/")?;
-    append(text, design.point.as_slice())?;
+    append(text, above.item.as_slice())?;
     append(text, b"/")?;
-    append(text, bin.name.as_slice())
+    append(text, bin.as_slice())
+}
+
+// The count of the bin of this number.
+fn count_of(counts: &[u64], number: u64) -> u64
+    ensures { result ≡ count_at (slice_get counts.now number) }
+{
+    match counts.get(number as usize) {
+        Some(count) => *count,
+        None => 0,
+    }
+}
+
+fn append_column(text: &mut Vec<u8>, column: &Column<'_>, number: u64) -> Result<(), Memory>
+    ensures { OnOk result (text.new.items ≡ text.old.items ++ count_column (counts_of column.now) number) }
+{
+    match column {
+        Column::Bare => Ok(()),
+        Column::Counted(counts) => {
+            append(text, b" ")?;
+            append_number(text, count_of(counts, number))
+        }
+    }
 }
 
 fn append_bin(
     text: &mut Vec<u8>,
+    column: &Column<'_>,
     number: u64,
-    count: u64,
-    design: &Design,
-    bin: &Bin,
+    above: &Above<'_>,
+    bin: &BinInfo,
 ) -> Result<(), Memory>
-    ensures { OnOk result (text.new.items ≡ text.old.items ++ bin_line number count design.now bin.now) }
+    ensures { OnOk result (text.new.items ≡ text.old.items ++ bin_line (counts_of column.now) number (path_above above.now) bin.now) }
 {
     append(text, b"bin ")?;
     append_number(text, number)?;
-    append(text, b" CVGBIN ")?;
-    append_number(text, count)?;
     append(text, b" ")?;
-    append_path(text, design, bin)?;
-    append(text, b"\n")?;
+    append(text, kind_name(bin.kind).as_bytes())?;
+    append_column(text, column, number)?;
+    append(text, b" ")?;
+    append_path(text, above, &bin.name)?;
+    append(text, b"\n")
+}
+
+fn append_item(
+    text: &mut Vec<u8>,
+    column: &Column<'_>,
+    group: &Name,
+    instance: &Name,
+    item: &ItemInfo,
+) -> Result<(), Memory>
+    ensures { OnOk result (text.new.items ≡ text.old.items ++ item_lines (counts_of column.now) (joined group.now instance.now) item.now) }
+{
+    let above = Above {
+        group,
+        instance,
+        item: &item.name,
+    };
+    for (place, bin) in item.bins.as_slice().iter().enumerate() {
+        let number = item.first_bin as u64 + place as u64;
+        append_bin(text, column, number, &above, bin)?;
+    }
     Ok(())
 }
 
-fn append_bins(
+fn append_instance(
     text: &mut Vec<u8>,
-    design: &Design,
-    bins: &[Bin],
-    counts: &[u64],
+    column: &Column<'_>,
+    group: &Name,
+    instance: &InstInfo,
 ) -> Result<(), Memory>
-    requires { length counts.now ≡ length bins.now }
-    ensures { OnOk result (text.new.items ≡ text.old.items ++ bin_lines 0 design.now bins.now counts.now) }
+    ensures { OnOk result (text.new.items ≡ text.old.items ++ instance_lines (counts_of column.now) group.now instance.now) }
 {
-    for (i, bin) in bins.iter().enumerate() {
-        append_bin(text, i as u64, counts[i], design, bin)?;
+    for item in instance.items.as_slice() {
+        append_item(text, column, group, &instance.name, item)?;
+    }
+    Ok(())
+}
+
+// The lines of an instance, where it is one of the group at this place.
+fn append_instance_of(
+    text: &mut Vec<u8>,
+    column: &Column<'_>,
+    group: &Name,
+    place: usize,
+    instance: &InstInfo,
+) -> Result<(), Memory>
+    ensures { OnOk result (text.new.items ≡ text.old.items ++ lines_of_instance (counts_of column.now) group.now place instance.now) }
+{
+    if instance.group as usize == place {
+        append_instance(text, column, group, instance)
+    } else {
+        Ok(())
+    }
+}
+
+fn append_group(
+    text: &mut Vec<u8>,
+    column: &Column<'_>,
+    instances: &[InstInfo],
+    place: usize,
+    group: &GroupInfo,
+) -> Result<(), Memory>
+    ensures { OnOk result (text.new.items ≡ text.old.items ++ group_lines (counts_of column.now) instances.now place group.now) }
+{
+    for instance in instances {
+        append_instance_of(text, column, &group.name, place, instance)?;
+    }
+    Ok(())
+}
+
+// A line for each bin.
+fn append_design(text: &mut Vec<u8>, column: &Column<'_>, design: &Design) -> Result<(), Memory>
+    ensures { OnOk result (text.new.items ≡ text.old.items ++ design_lines (counts_of column.now) design.now) }
+{
+    for (place, group) in design.groups().iter().enumerate() {
+        append_group(text, column, design.instances(), place, group)?;
     }
     Ok(())
 }
@@ -74,112 +172,24 @@ pub(crate) fn count_lines(
     id: &[u8],
     counts: &[u64],
 ) -> Result<Vec<u8>, Memory>
-    requires { length counts.now ≡ length design.now.bins }
     ensures { IfOk result (λ text. text.items ≡ count_text design.now id.now counts.now) }
 {
     let mut text = Vec::new(alloc);
     append(&mut text, b"test ")?;
     append(&mut text, id)?;
     append(&mut text, b"\n")?;
-    append_bins(&mut text, design, design.bins.as_slice(), counts)?;
+    append_design(&mut text, &Column::Counted(counts), design)?;
     Ok(text)
-}
-
-// A word and a number.
-fn append_count(text: &mut Vec<u8>, word: &str, number: usize) -> Result<(), Memory>
-    ensures { OnOk result (text.new.items ≡ text.old.items ++ number_line word.now number) }
-{
-    append(text, word.as_bytes())?;
-    append(text, b" ")?;
-    append_number(text, number as u64)?;
-    append(text, b"\n")
-}
-
-fn append_listed_bin(
-    text: &mut Vec<u8>,
-    number: u64,
-    design: &Design,
-    bin: &Bin,
-) -> Result<(), Memory>
-    ensures { OnOk result (text.new.items ≡ text.old.items ++ listed_line number design.now bin.now) }
-{
-    append(text, b"bin ")?;
-    append_number(text, number)?;
-    append(text, b" CVGBIN ")?;
-    append_path(text, design, bin)?;
-    append(text, b"\n")
-}
-
-fn append_listed_bins(text: &mut Vec<u8>, design: &Design, bins: &[Bin]) -> Result<(), Memory>
-    ensures { OnOk result (text.new.items ≡ text.old.items ++ listed_lines 0 design.now bins.now) }
-{
-    for (i, bin) in bins.iter().enumerate() {
-        append_listed_bin(text, i as u64, design, bin)?;
-    }
-    Ok(())
 }
 
 /// How many signals, instances and bins the design has, and its bins.
 pub(crate) fn check_lines(alloc: Global, design: &Design) -> Result<Vec<u8>, Memory>
     ensures { IfOk result (λ text. text.items ≡ check_text design.now) }
 {
-    let bins = design.bins.as_slice();
     let mut text = Vec::new(alloc);
-    append_count(&mut text, "signals", 1)?;
-    append_count(&mut text, "instances", 1)?;
-    append_count(&mut text, "bins", bins.len())?;
-    append_listed_bins(&mut text, design, bins)?;
-    Ok(text)
-}
-
-pub(crate) fn bad_words(alloc: Global) -> Result<Vec<u8>, Memory>
-    ensures { IfOk result (λ text. text.items ≡ bad_words_text) }
-{
-    Ok(Vec::from_slice(alloc, b"bad words\n")?)
-}
-
-pub(crate) fn design_refused(alloc: Global, kind: &str, at: u32) -> Result<Vec<u8>, Memory>
-    ensures { IfOk result (λ text. text.items ≡ design_refused_text kind.now at) }
-{
-    let mut text = Vec::new(alloc);
-    append(&mut text, b"design refused ")?;
-    append(&mut text, kind.as_bytes())?;
-    append(&mut text, b" at ")?;
-    append_number(&mut text, at as u64)?;
-    append(&mut text, b"\n")?;
-    Ok(text)
-}
-
-pub(crate) fn record_refused(alloc: Global, kind: &str, number: u64) -> Result<Vec<u8>, Memory>
-    ensures { IfOk result (λ text. text.items ≡ record_refused_text kind.now number) }
-{
-    let mut text = Vec::new(alloc);
-    append(&mut text, b"record 1 refused ")?;
-    append(&mut text, kind.as_bytes())?;
-    append(&mut text, b" ")?;
-    append_number(&mut text, number)?;
-    append(&mut text, b"\n")?;
-    Ok(text)
-}
-
-pub(crate) fn cannot_read(alloc: Global, name: &str) -> Result<Vec<u8>, Memory>
-    ensures { IfOk result (λ text. text.items ≡ cannot_read_text name.now) }
-{
-    let mut text = Vec::new(alloc);
-    append(&mut text, b"cannot read ")?;
-    append(&mut text, name.as_bytes())?;
-    append(&mut text, b"\n")?;
-    Ok(text)
-}
-
-pub(crate) fn too_long(alloc: Global, name: &str, size: u64) -> Result<Vec<u8>, Memory>
-    ensures { IfOk result (λ text. text.items ≡ too_long_text name.now size) }
-{
-    let mut text = Vec::new(alloc);
-    append(&mut text, b"too long ")?;
-    append(&mut text, name.as_bytes())?;
-    append(&mut text, b" ")?;
-    append_number(&mut text, size)?;
-    append(&mut text, b"\n")?;
+    append_count(&mut text, "signals", design.signals().len())?;
+    append_count(&mut text, "instances", design.instances().len())?;
+    append_count(&mut text, "bins", design.bin_count() as usize)?;
+    append_design(&mut text, &Column::Bare, design)?;
     Ok(text)
 }

@@ -1,22 +1,21 @@
 //! Files, and designs from their files.
 ghost use Rattle.std.specs.Prelude.{◌≡◌, ◌≤◌, IfOk};
-ghost use Rattle.covd_core.specs.Lines.{IsDesignFaultText, design_refused_text};
+ghost use Rattle.covd_core.specs.Lines.{IsDesignFaultText, design_refused_text, fault_word};
 ghost use Rattle.covd_core.specs.declared.status.Status.TheVariants.{DesignRefused};
-ghost use Rattle.covd_core.specs.declared.design.CompileFault.TheVariants.{Lex, Parse};
+ghost use Rattle.cov_compile.specs.declared.fault.CompileFault.TheVariants.{Lex, Parse, Elab};
 ghost use Rattle.covd_core.specs.Steps.{IsLoaded, IsHad};
 
 use crate::Status;
 use crate::answer::Answer;
-use crate::compile::design_of;
-use crate::design::{CompileFault, Design};
-use crate::lines::{cannot_read, design_refused, too_long};
+use crate::texts::{cannot_read, design_refused, too_long};
 use cov_base::{Memory, Shelf, ShelfRefusal};
+use cov_compile::{CompileFault, compile};
+use cov_ground::limits::LONGEST_DESIGN;
 use cov_lexer::LexFault;
 use cov_parser::ParseFault;
+use design_data::Design;
+use elab_base::{ElabFault, ElabKind};
 use std::alloc::Global;
-
-/// The most bytes of a design text.
-const DESIGN_MOST: u64 = 1_048_576;
 
 /// The bytes of a file, or the answer that it can't be had.
 pub(crate) enum Loaded {
@@ -91,6 +90,57 @@ fn unparsed(alloc: Global, fault: ParseFault) -> Result<Answer, Memory>
     }
 }
 
+// The word of a kind of faults.
+fn kind_name(kind: ElabKind) -> &'static str
+    ensures { result.now ≡ fault_word kind }
+{
+    match kind {
+        ElabKind::DuplicateName => "DuplicateName",
+        ElabKind::UnknownType => "UnknownType",
+        ElabKind::UnknownName => "UnknownName",
+        ElabKind::TooWide => "TooWide",
+        ElabKind::BadSelect => "BadSelect",
+        ElabKind::BadConcat => "BadConcat",
+        ElabKind::UnknownLiteral => "UnknownLiteral",
+        ElabKind::BadWildcard => "BadWildcard",
+        ElabKind::NotConstant => "NotConstant",
+        ElabKind::BadEnum => "BadEnum",
+        ElabKind::ArgCount => "ArgCount",
+        ElabKind::TooManyArgs => "TooManyArgs",
+        ElabKind::RefNotVariable => "RefNotVariable",
+        ElabKind::NotThisPoint => "NotThisPoint",
+        ElabKind::IgnoreDefault => "IgnoreDefault",
+        ElabKind::ZeroBins => "ZeroBins",
+        ElabKind::BadRepeat => "BadRepeat",
+        ElabKind::Unbounded => "Unbounded",
+        ElabKind::TooManyValues => "TooManyValues",
+        ElabKind::TooManyRanges => "TooManyRanges",
+        ElabKind::TooLong => "TooLong",
+        ElabKind::TooManyBins => "TooManyBins",
+        ElabKind::UnknownPoint => "UnknownPoint",
+        ElabKind::NotCrossed => "NotCrossed",
+        ElabKind::UnknownBin => "UnknownBin",
+        ElabKind::TooManyPoints => "TooManyPoints",
+        ElabKind::TooManyProducts => "TooManyProducts",
+        ElabKind::UnknownOption => "UnknownOption",
+        ElabKind::WrongLevel => "WrongLevel",
+        ElabKind::OutOfRange => "OutOfRange",
+        ElabKind::SetTwice => "SetTwice",
+        ElabKind::DesignLimit => "DesignLimit",
+        ElabKind::NotBuiltYet => "NotBuiltYet",
+    }
+}
+
+// The answer to declarations that make no design.
+fn unelaborated(alloc: Global, fault: ElabFault) -> Result<Answer, Memory>
+    ensures { IfOk result (λ a. (a.status ≡ DesignRefused) × IsDesignFaultText (Elab fault) a.text.items) }
+{
+    match fault {
+        ElabFault::Fault { kind, at } => refused(alloc, kind_name(kind), at),
+        ElabFault::Memory => Err(Memory),
+    }
+}
+
 // The answer to a text that is not compiled.
 fn uncompiled(alloc: Global, fault: CompileFault) -> Result<Answer, Memory>
     ensures { IfOk result (λ a. (a.status ≡ DesignRefused) × IsDesignFaultText fault a.text.items) }
@@ -98,8 +148,7 @@ fn uncompiled(alloc: Global, fault: CompileFault) -> Result<Answer, Memory>
     match fault {
         CompileFault::Lex(fault) => unlexed(alloc, fault),
         CompileFault::Parse(fault) => unparsed(alloc, fault),
-        CompileFault::NotBuiltYet { at } => refused(alloc, "NotBuiltYet", at),
-        CompileFault::Memory => Err(Memory),
+        CompileFault::Elab(fault) => unelaborated(alloc, fault),
     }
 }
 
@@ -119,11 +168,11 @@ pub(crate) fn had_design<F: Shelf>(
     ensures later { F.faults shelf.old ≤ F.faults shelf.new }
     ensures had { IfOk result (IsHad (F.files shelf.old) (F.faults shelf.old) (F.faults shelf.new) name.now) }
 {
-    let text = match load(alloc, name, DESIGN_MOST, shelf)? {
+    let text = match load(alloc, name, LONGEST_DESIGN, shelf)? {
         Loaded::Bytes(text) => text,
         Loaded::Refused(answer) => return Ok(HadDesign::Refused(answer)),
     };
-    match design_of(alloc, &text) {
+    match compile(alloc, &text) {
         Ok(design) => Ok(HadDesign::Compiled(design)),
         Err(fault) => Ok(HadDesign::Refused(uncompiled(alloc, fault)?)),
     }

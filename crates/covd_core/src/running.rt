@@ -6,7 +6,7 @@ use crate::Status;
 use crate::answer::Answer;
 use crate::check::check;
 use crate::count::count;
-use crate::lines::bad_words;
+use crate::texts::bad_words;
 use crate::writing::write_all;
 use cov_base::{Memory, Shelf, Sink, Source};
 use std::alloc::Global;
