@@ -18,7 +18,7 @@ loop-bin-preserved t c =
     let more = flat_more (behind c.in_ok-shorter.shorter) c.loop-bin.bin in
     c.in_ok-append.ensures ∙ ap (λ (xs : List (List ℕ)). xs ++ c.in_ok-behind_each.field-0) c.loop-bin.invariant
     ∙ ap (λ (ys : List (List ℕ)). flat_map (behind c.in_ok-shorter.shorter) (range_with_len 0 c.loop-bin.bin) ++ ys)
-        (c.in_ok-behind_each.ensures ∙ ap (λ (shorter : List (List ℕ)). behind shorter c.loop-bin.bin) c.as_slice.ensures)
+    (c.in_ok-behind_each.ensures ∙ ap (λ (shorter : List (List ℕ)). behind shorter c.loop-bin.bin) c.as_slice.ensures)
     ∙ sym more
 
 pub returns : goal.returns
