@@ -18,6 +18,3 @@ pub use fault::AutoFault;
 pub use removing::{Removing, Step};
 pub use state::TransState;
 pub use watcher::{Answer, Watcher};
-
-#[cfg(test)]
-mod tests;
