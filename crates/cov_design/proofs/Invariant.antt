@@ -267,7 +267,7 @@ instance_keeps text of_group name at s t e known =
 declared_keeps : (text : List Decl) (place : ℕ) (decl : Decl) (s t : Known) → declared text place decl s ≡ Ok t → IsKnown s → IsKnown t
 declared_keeps text place (decls.Enum name base names at) s t e known = absurd cc
 declared_keeps text place (decls.Var typ name at) s t e known = variable_keeps typ name at s t e known
-declared_keeps text place (decls.Group name formals event ms at) s t e known = group_keeps place name at s t e known
+declared_keeps text place (decls.Group name formals event args ms at) s t e known = group_keeps place name at s t e known
 declared_keeps text place (decls.Instance of_group name args at) s t e known = instance_keeps text of_group name at s t e known
 
 begins : IsKnown nothing

@@ -44,14 +44,14 @@ is_built_member (members.Cross c) = false
 abbrev pub is_built : Decl → Bool
 is_built (decls.Enum name base names at) = false
 is_built (decls.Var typ name at) = is_built_typ typ
-is_built (decls.Group name formals event ms at) = is_empty formals && list_all is_built_member ms
+is_built (decls.Group name formals event args ms at) = is_empty formals && list_all is_built_member ms
 is_built (decls.Instance of_group name args at) = is_empty args
 
 -- where a declaration stands
 abbrev pub place_in : Decl → ℕ
 place_in (decls.Enum name base names at) = at
 place_in (decls.Var typ name at) = at
-place_in (decls.Group name formals event ms at) = at
+place_in (decls.Group name formals event args ms at) = at
 place_in (decls.Instance of_group name args at) = at
 
 abbrev pub built_at : Decl → Unit {0} → Result (Unit {0}) Refusal

@@ -47,7 +47,7 @@ group_meant groups (Some (what.Group place group)) at = do
 group_meant groups other at = Err (kind.UnknownType, at)
 
 abbrev pub members_in : Decl → List Member
-members_in (decls.Group name formals event ms at) = ms
+members_in (decls.Group name formals event args ms at) = ms
 members_in (decls.Enum name base names at) = []
 members_in (decls.Var typ name at) = []
 members_in (decls.Instance of_group name args at) = []
@@ -79,7 +79,7 @@ instance text of_group name at known = do
 abbrev pub declared : List Decl → ℕ → Decl → Known → Result Known Refusal
 declared text place (decls.Enum name base names at) known = Err (kind.NotBuiltYet, at)
 declared text place (decls.Var typ name at) known = variable typ name at known
-declared text place (decls.Group name formals event ms at) known = group place name at known
+declared text place (decls.Group name formals event args ms at) known = group place name at known
 declared text place (decls.Instance of_group name args at) known = instance text of_group name at known
 
 abbrev pub nothing : Known

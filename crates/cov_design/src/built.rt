@@ -70,7 +70,7 @@ fn is_built(decl: &Decl) -> bool
 {
     match decl {
         Decl::Enum { .. } => false,
-        Decl::Var { typ, .. } => is_type(typ),
+        Decl::Var { typ, .. } => is_type(typ.get()),
         Decl::Group {
             formals,
             members,

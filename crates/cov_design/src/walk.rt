@@ -160,7 +160,7 @@ fn declare(
 {
     match decl {
         Decl::Enum { at, .. } => Err(ElabKind::NotBuiltYet.at(*at)),
-        Decl::Var { typ, name, at } => add_variable(alloc, typ, name, *at, known),
+        Decl::Var { typ, name, at } => add_variable(alloc, typ.get(), name, *at, known),
         Decl::Group { name, at, .. } => add_group(alloc, place, name, *at, known),
         Decl::Instance {
             group,

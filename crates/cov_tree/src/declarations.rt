@@ -1,5 +1,5 @@
 //! Declarations of a design text. Each `at` is a byte offset in the text.
-use crate::{EdgeText, Expr, Formal, List, Member, Name};
+use crate::{EdgeText, Expr, Formal, List, Member, Name, Shared};
 
 /// A type as it is written (IEEE 1800-2017, 6.11).
 #[derive(Drop, Debug)]
@@ -32,17 +32,19 @@ pub enum Decl {
         names: List<(Name, Option<Expr>)>,
         at: u32,
     },
-    /// A variable, at its name. A declaration of several variables gives one for each.
+    /// A variable, at its name. A declaration of several variables gives one for each, and they share its type.
     Var {
-        typ: TypeText,
+        typ: Shared<TypeText>,
         name: Name,
         at: u32,
     },
-    /// A covergroup, at its word.
+    /// A covergroup, at its word. In place of an event it may have the arguments of a sample function (IEEE 1800-2017,
+    /// 19.8.1): `input` formals without a default.
     Group {
         name: Name,
         formals: List<Formal>,
         event: List<EdgeText>,
+        args: List<Formal>,
         members: List<Member>,
         at: u32,
     },

@@ -1,5 +1,6 @@
 //! Names, lists, literals and the syntax tree of a design text, as the other crates keep them:
-//! contracts see a `Name` as a list of bytes, a `List` as a list and a `Boxed` as the value in it, so that a tree is plain data.
+//! contracts see a `Name` as a list of bytes, a `List` as a list, and a `Boxed` or a `Shared` as the value in it, so that a
+//! tree is plain data.
 #![tactic(auto)]
 
 mod bins;
@@ -10,6 +11,7 @@ mod groups;
 mod list;
 mod literal;
 mod name;
+mod shared;
 
 pub use bins::{BinsDecl, Elem, End, OptDecl, OptText, Right, Size, Step, Times, Word};
 pub use boxed::Boxed;
@@ -20,6 +22,7 @@ pub use groups::{CrossBins, CrossDecl, EdgeKind, EdgeText, Formal, Member, Point
 pub use list::List;
 pub use literal::Literal;
 pub use name::Name;
+pub use shared::Shared;
 
 #[cfg(test)]
 mod tests;
