@@ -13,7 +13,7 @@ use Rattle.design_data.specs.Limits.{ranges_of, IsPointRule}
 use Rattle.elab_base.specs.declared.fault.ElabKind.TheVariants as kind
 use Rattle.elab_base.specs.Gives.{needs, each_at}
 use Rattle.elab_base.proofs.Keeps.{bind_ok, ok_is, needs_ok, and_first, and_second}
-use Rattle.elab_points.specs.declared.made.Made.{Made}
+use Rattle.elab_values.specs.declared.made.Made.{Made}
 use Rattle.elab_points.specs.Left.{has_some}
 use Rattle.cov_design.specs.declared.counts.Counts.{Counts}
 use Rattle.cov_design.specs.Counting.{set_ranges, rule_ranges, bin_counted, bins_counted}

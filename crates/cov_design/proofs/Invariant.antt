@@ -28,8 +28,8 @@ use Rattle.elab_base.specs.declared.names.What.TheVariants as what
 use Rattle.elab_base.specs.Gives.{needs, each_at}
 use Rattle.elab_base.specs.Steps.{unused, bound_in, guard_in, number_in}
 use Rattle.elab_base.proofs.Keeps.{bind_ok, ok_is, each_keeps, needs_ok, and_first, and_second, all_push, all_as}
-use Rattle.elab_points.specs.declared.made.Made.{Made}
-use Rattle.elab_points.specs.Ranges.{domain_of_typ}
+use Rattle.elab_values.specs.declared.made.Made.{Made}
+use Rattle.elab_values.specs.Ranges.{domain_of_typ}
 use Rattle.elab_points.specs.Left.{bins_of_point}
 use Rattle.elab_points.proofs.Kept.{AreLeft, point_left}
 use Rattle.elab_order.proofs.Numbering.{total-append}

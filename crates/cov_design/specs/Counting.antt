@@ -5,7 +5,7 @@ use Rattle.design_data.specs.declared.infos.BinRule.{BinRule}
 use Rattle.design_data.specs.declared.infos.BinRule.TheVariants.{Values, Patterns, Trans, Default, DefaultValues, DefaultSequence, Picked, Product}
 use Rattle.elab_base.specs.declared.fault.ElabKind.TheVariants as kind
 use Rattle.elab_base.specs.Gives.{Refusal, ◌>>=◌, needs, each}
-use Rattle.elab_points.specs.declared.made.Made.{Made}
+use Rattle.elab_values.specs.declared.made.Made.{Made}
 use Rattle.cov_design.specs.declared.counts.Counts.{Counts}
 
 -- the intervals of a set, of which there may be so many

@@ -19,8 +19,8 @@ use Rattle.elab_base.specs.declared.fault.ElabKind.TheVariants as kind
 use Rattle.elab_base.specs.declared.names.What.TheVariants as what
 use Rattle.elab_base.specs.Gives.{Refusal, ◌>>=◌, needs, each}
 use Rattle.elab_base.specs.Steps.{unused, bound_in, guard_in}
-use Rattle.elab_points.specs.declared.made.Made.{Made}
-use Rattle.elab_points.specs.Ranges.{domain_of_typ}
+use Rattle.elab_values.specs.declared.made.Made.{Made}
+use Rattle.elab_values.specs.Ranges.{domain_of_typ}
 use Rattle.elab_points.specs.Left.{bins_of_point}
 use Rattle.cov_design.specs.declared.counts.Counts.{Counts}
 use Rattle.cov_design.specs.declared.known.Known.{Known}

@@ -9,7 +9,7 @@ use cov_base::ValueSet;
 use cov_ground::limits::{MOST_DESIGN_BINS, MOST_DESIGN_RANGES, MOST_RANGES};
 use design_data::BinRule;
 use elab_base::{ElabFault, ElabKind};
-use elab_points::Made;
+use elab_values::Made;
 
 /// How many items and bins a design has so far, and how many intervals its bins have.
 #[derive(Clone, Copy, Debug, PartialEq, Eq)]

@@ -15,7 +15,8 @@ use cov_ground::limits::MOST_ITEMS;
 use cov_tree::{Expr, List, Member, Name, PointDecl};
 use design_data::{BinInfo, ItemInfo, ItemShape};
 use elab_base::{ElabFault, ElabKind, What, add_name, bind_in, check_unused, guard_in};
-use elab_points::{Made, domain_of, point_bins};
+use elab_points::point_bins;
+use elab_values::{Made, domain_of};
 use name_map::NameMap;
 use std::alloc::Global;
 

@@ -14,14 +14,14 @@ use Rattle.elab_base.specs.declared.fault.ElabKind.TheVariants as kind
 use Rattle.elab_base.specs.Gives.{needs}
 use Rattle.elab_base.specs.Steps.{unused, guard_in}
 use Rattle.elab_base.proofs.Keeps.{bind_ok, ok_is, each_keeps, needs_ok, all_append}
-use Rattle.elab_points.specs.declared.domain.Domain.{Domain}
+use Rattle.elab_values.specs.declared.domain.Domain.{Domain}
 use Rattle.elab_points.specs.declared.declared.Walked.{Walked}
-use Rattle.elab_points.specs.declared.made.Made.{Made}
+use Rattle.elab_values.specs.declared.made.Made.{Made}
 use Rattle.elab_points.specs.declared.made.Plan.{Plan}
 use Rattle.elab_points.specs.declared.made.Wanted.{Wanted}
 use Rattle.elab_points.specs.declared.made.Wanted.TheVariants as wants
 use Rattle.elab_points.specs.Built.{is_built_decl}
-use Rattle.elab_points.specs.Ranges.{numbers_of}
+use Rattle.elab_values.specs.Ranges.{numbers_of}
 use Rattle.elab_points.specs.Made.{wanted_in, bins_wanted, plan_of, planned, value_bin, single, part_bins, bins_made}
 use Rattle.elab_points.specs.Declarations.{kind_of, elems_in, bins_added, numbers_binned, bins_declared, no_bins, bins_walked}
 use Rattle.elab_points.specs.Left.{bin_left, has_some, some_of, left_of, bins_left, left_by, bins_of_point}

@@ -1,7 +1,7 @@
 -- What removal leaves, bin by bin.
 use Rattle.std.proofs.Common.{◌≡◌, ◌∙◌, ℤ, List, [], ◌∷◌, ◌++◌, sym, ap, append-nil}
 use Rattle.std.proofs.lemmas.List.{append_assoc}
-use Rattle.elab_points.specs.declared.made.Made.{Made}
+use Rattle.elab_values.specs.declared.made.Made.{Made}
 use Rattle.elab_points.specs.Left.{bins_left, left_of}
 
 pub left_more : (all illegal : List (ℤ × ℤ)) (bs : List Made) (b : Made) → bins_left all illegal (bs ++ b ∷ []) ≡ bins_left all illegal bs ++ left_of all illegal b

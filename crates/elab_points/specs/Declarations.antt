@@ -16,11 +16,11 @@ use Rattle.elab_base.specs.declared.fault.ElabKind.TheVariants as kind
 use Rattle.elab_base.specs.declared.names.What.TheVariants as what
 use Rattle.elab_base.specs.Gives.{Refusal, ◌>>=◌, needs, each}
 use Rattle.elab_base.specs.Steps.{unused, guard_in}
-use Rattle.elab_points.specs.declared.domain.Domain.{Domain}
+use Rattle.elab_values.specs.declared.domain.Domain.{Domain}
 use Rattle.elab_points.specs.declared.declared.Walked.{Walked}
 use Rattle.elab_points.specs.declared.made.Plan.{Plan}
 use Rattle.elab_points.specs.Built.{is_built_decl}
-use Rattle.elab_points.specs.Ranges.{numbers_of}
+use Rattle.elab_values.specs.Ranges.{numbers_of}
 use Rattle.elab_points.specs.Made.{wanted_in, planned, bins_made}
 
 abbrev pub kind_of : Word → BinKind

@@ -10,8 +10,8 @@ use Rattle.design_data.specs.declared.infos.BinKind.TheVariants.{CvgBin, Illegal
 use Rattle.design_data.specs.declared.infos.BinRule.{BinRule}
 use Rattle.design_data.specs.declared.infos.BinRule.TheVariants.{Values, Patterns, Trans, Default, DefaultValues, DefaultSequence, Picked, Product}
 use Rattle.elab_base.specs.Gives.{Refusal, ◌>>=◌}
-use Rattle.elab_points.specs.declared.domain.Domain.{Domain}
-use Rattle.elab_points.specs.declared.made.Made.{Made}
+use Rattle.elab_values.specs.declared.domain.Domain.{Domain}
+use Rattle.elab_values.specs.declared.made.Made.{Made}
 use Rattle.elab_points.specs.Declarations.{bins_walked}
 
 abbrev pub set_left : (removed set : List (ℤ × ℤ)) → List (ℤ × ℤ)

@@ -2,4 +2,3 @@ pub mod Built
 pub mod Declarations
 pub mod Left
 pub mod Made
-pub mod Ranges

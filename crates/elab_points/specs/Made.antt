@@ -14,7 +14,7 @@ use Rattle.design_data.specs.declared.infos.BinRule.TheVariants.{Values}
 use Rattle.elab_base.specs.declared.fault.ElabKind.TheVariants as kind
 use Rattle.elab_base.specs.Gives.{Refusal, ◌>>=◌, needs}
 use Rattle.elab_base.specs.Steps.{number_in}
-use Rattle.elab_points.specs.declared.made.Made.{Made}
+use Rattle.elab_values.specs.declared.made.Made.{Made}
 use Rattle.elab_points.specs.declared.made.Wanted.{Wanted}
 use Rattle.elab_points.specs.declared.made.Wanted.TheVariants as wants
 use Rattle.elab_points.specs.declared.made.Plan.{Plan}

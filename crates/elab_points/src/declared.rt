@@ -6,14 +6,13 @@ ghost use Rattle.elab_points.specs.Made.{IsPlan};
 ghost use Rattle.elab_points.specs.Declarations.{kind_of as kind_meant, elems_in, is_ignore, is_illegal, with_set, bins_added, numbers_binned, bins_declared, bins_walked};
 
 use crate::built::is_built;
-use crate::domain::Domain;
-use crate::made::{Made, Plan, bins_of, make_plan, size_of};
-use crate::ranges::numbers;
+use crate::made::{Plan, bins_of, make_plan, size_of};
 use const_eval::{Bound, Scope};
 use cov_base::{Int, Memory, ValueSet};
 use cov_tree::{BinsDecl, Elem, List, Right, Word};
 use design_data::BinKind;
 use elab_base::{ElabFault, ElabKind, What, add_name, check_unused, guard_in};
+use elab_values::{Domain, Made, numbers};
 use name_map::NameMap;
 use std::alloc::Global;
 use value_bins::Elems;

@@ -4,13 +4,12 @@ ghost use Rattle.elab_base.specs.Gives.{Gives};
 ghost use Rattle.elab_points.specs.Left.{rule_left as left_of_rule, bin_left as left_of_bin, has_some as has_number, some_of, left_of, bins_left as left_of_bins, left_by, bins_of_point};
 
 use crate::declared::{Walked, walk_bins};
-use crate::domain::Domain;
-use crate::made::Made;
 use const_eval::Scope;
 use cov_base::{Memory, ValueSet};
 use cov_tree::{BinsDecl, List};
 use design_data::{BinInfo, BinKind, BinRule};
 use elab_base::ElabFault;
+use elab_values::{Domain, Made};
 use std::alloc::Global;
 
 #[tactic(auto, unfolding(crate::specs::Left::rule_left))]

@@ -3,13 +3,10 @@
 
 mod built;
 mod declared;
-mod domain;
 mod left;
 mod made;
-mod ranges;
 
 pub use built::is_built;
 pub use declared::Walked;
-pub use domain::{Domain, domain_of};
 pub use left::point_bins;
-pub use made::{Made, Plan, Wanted};
+pub use made::{Plan, Wanted};

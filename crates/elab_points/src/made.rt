@@ -15,15 +15,9 @@ use cov_ground::limits::MOST_BINS;
 use cov_tree::{List, Name, Size};
 use design_data::{BinInfo, BinKind, BinRule};
 use elab_base::{ElabFault, ElabKind, copy_guard, number_in};
+use elab_values::Made;
 use std::alloc::Global;
 use value_bins::{Elems, SpreadFault, singles, spread};
-
-/// A bin on the way, with the place of its declaration.
-#[derive(Drop, Debug)]
-pub struct Made {
-    pub bin: BinInfo,
-    pub at: u32,
-}
 
 /// How many bins a declaration asks for: `b`, `b[]`, or `b[n]`.
 #[derive(Clone, Copy, Debug, PartialEq, Eq)]

@@ -10,7 +10,7 @@ use Rattle.const_eval.specs.declared.typs.Typ.{Typ}
 use Rattle.const_eval.specs.Scopes.{Levels}
 use Rattle.elab_base.specs.Gives.{Refusal, ◌>>=◌, each}
 use Rattle.elab_base.specs.Steps.{number_in}
-use Rattle.elab_points.specs.declared.domain.Domain.{Domain}
+use Rattle.elab_values.specs.declared.domain.Domain.{Domain}
 
 -- all numbers of a type
 abbrev pub domain_of_typ : Typ → Domain

@@ -1,7 +1,7 @@
 use Rattle.std.proofs.lemmas.Result.{err_from_is_err_and}
-use Rattle.elab_points.specs.Ranges.{ranges_of}
+use Rattle.elab_values.specs.Ranges.{ranges_of}
 use Rattle.elab_base.proofs.Folds.{left_more, left_stops, left_done}
-use Rattle.elab_points.proofs.ranges.ranges.Goals as goal
+use Rattle.elab_values.proofs.ranges.ranges.Goals as goal
 
 pub returns-in_err-add_range : goal.returns-in_err-add_range
 unfolding ranges_of

@@ -2,7 +2,7 @@
 ghost use Rattle.std.specs.Prelude.{◌≡◌};
 ghost use Rattle.cov_base.specs.Sets.{written};
 ghost use Rattle.elab_base.specs.Gives.{Gives, Makes, GivesAs};
-ghost use Rattle.elab_points.specs.Ranges.{end_of, range_of, with_range, ranges_of, numbers_of};
+ghost use Rattle.elab_values.specs.Ranges.{end_of, range_of, with_range, ranges_of, numbers_of};
 
 use crate::domain::Domain;
 use const_eval::Scope;
@@ -77,7 +77,7 @@ fn ranges(
 
 /// The numbers that a range list lists, those of the point alone.
 #[tactic(auto, unfolding(crate::specs::Ranges::numbers_of))]
-pub(crate) fn numbers(
+pub fn numbers(
     alloc: Global,
     scope: &Scope,
     domain: &Domain,
