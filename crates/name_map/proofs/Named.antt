@@ -1,5 +1,5 @@
 -- Names in a map, and pairs one after the other.
-use Rattle.std.proofs.Common.{◌≡◌, ℕ, suc, Bor, Bool, true, false, cond, nat_eq, List, [], ◌∷◌, ◌++◌, length, Option, Some, None, refl, sym, ap, ◌∙◌}
+use Rattle.std.proofs.Common.{◌≡◌, ℕ, suc, Bor, Bool, true, false, cond, nat_eq, List, [], ◌∷◌, ◌++◌, length, Option, Some, None, refl, sym, ap, arith, ◌∙◌}
 use Rattle.std.specs.Prelude.{is_some, if◌then◌else◌, ◌&&◌, option_copied}
 use Rattle.std.proofs.lemmas.Bool.{eqb-true}
 use Rattle.indexmap.specs.IndexMap.{insert_entry}
@@ -59,7 +59,8 @@ unfolding meaning_of
 meaning_of-append [] b name = refl
 meaning_of-append {M} (e ∷ es) b name = ap (λ (r : Option M). cond (pointwise nat_eq name e.0) (Some e.1) r) (meaning_of-append es b name) ∙ test_first (pointwise nat_eq name e.0) e.1 (meaning_of es name) (meaning_of b name)
 
-same_names : (a b : List ℕ) → pointwise nat_eq a b ≡ true → a ≡ b
+-- names of the same bytes are one
+pub same_names : (a b : List ℕ) → pointwise nat_eq a b ≡ true → a ≡ b
 same_names [] [] e = refl
 same_names [] (y ∷ ys) e = (cc)
 same_names (x ∷ xs) [] e = (cc)
@@ -69,6 +70,11 @@ same_names (x ∷ xs) (y ∷ ys) e = by (nat_eq x y) (pointwise nat_eq xs ys) re
     by true true p q rest e = λ i. eqb-true x y p i ∷ rest q i
     by true false p q rest e = (cc)
     by false b p q rest e = (cc)
+
+-- and a name has the bytes of itself
+pub same_as_itself : (a : List ℕ) → pointwise nat_eq a a ≡ true
+same_as_itself [] = refl
+same_as_itself (x ∷ xs) = let h = same_as_itself xs in let e : nat_eq x x ≡ true = grind arith in rw (e, h) refl
 
 pub meaning_of-nil : {M : Type 0} → (name : List ℕ) → meaning_of {M = M} [] name ≡ None
 unfolding meaning_of

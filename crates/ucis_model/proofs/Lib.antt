@@ -1,0 +1,4 @@
+pub mod Longer
+pub mod Steps
+pub mod Finding
+pub mod Parents
