@@ -1,0 +1,89 @@
+#!/usr/bin/env python3
+"""Writes design texts that are dear to elaborate, one a file, into the folder that is named."""
+import sys
+
+room = sys.argv[1]
+LONGEST = 1048576
+
+
+def group(declarations, body, after=""):
+    return f"{declarations}\ncovergroup g;\n{body}\nendgroup\ng i = new;\n{after}"
+
+
+def point(bins, width=16, name="p", signal="v"):
+    return f"{name}: coverpoint {signal} {{ {bins} }}"
+
+
+def many(unit, room_left, first=0):
+    """As many numbered copies of a unit as fit."""
+    out, size, k = [], 0, first
+    while True:
+        one = unit(k)
+        if size + len(one) > room_left:
+            return "".join(out)
+        out.append(one)
+        size += len(one)
+        k += 1
+
+
+def digits(k):
+    letters = "0123456789abcdefghijklmnopqrstuvwxyz"
+    text = ""
+    while True:
+        text = letters[k % 36] + text
+        k //= 36
+        if k == 0:
+            return text
+
+
+texts = {
+    # values
+    "one_set": group("bit [63:0] v;", point("bins b = {[0:$]};")),
+    "spread": group("bit [63:0] v;", point("bins b[65536] = {[0:$]};")),
+    "singles": group("bit [15:0] v;", point("bins b[] = {[0:$]};")),
+    "automatic": group("bit [63:0] v;", "p: coverpoint v { option.auto_bin_max = 65536; }"),
+    "ignored_singles": group(
+        "bit [16:0] v;",
+        point("bins b[] = {[0:49999]}; ignore_bins n = {[0:$]} with (item % 2 == 0 || item > 49999);"),
+    ),
+    "wildcards": group("bit [15:0] v;", point("wildcard bins b[] = {16'b?_????_????_????_???};")),
+    "filtered": group("bit [19:0] v;", point("bins b[64] = {[0:$]} with (item % 3 == 0);")),
+    "default_array": group("bit [15:0] v;", point("bins a = {[0:999]}; bins d[] = default;")),
+    "listed": group("bit [19:0] v;", point("bins b = {" + many(lambda k: f"{2 * k},", LONGEST - 200) + "0};")),
+    # transitions
+    "lists": group("bit [7:0] v;", point("bins b[] = ([0:255] => [0:255]);")),
+    "many_sequences": group("bit [15:0] v;", point("bins b[] = " + many(lambda k: "([0:65535]),", LONGEST - 200) + "(0);")),
+    "repeated": group(
+        "bit [7:0] v;", point(many(lambda k: f"bins {'b' + digits(k)} = (1[*1:9] => [2:3][=1:9] => 4[->1:19]);", LONGEST - 200))
+    ),
+    # crosses
+    "declared_cross": group(
+        "bit [9:0] v, w;",
+        point("bins b[] = {[0:$]};")
+        + point("bins b[] = {[0:$]};", name="q", signal="w")
+        + "cross p, q { "
+        + many(lambda k: f"bins {'_' + digits(k)}=binsof(p);" if k < 58000 else " " * LONGEST, LONGEST - 300)
+        + "}",
+    ),
+    "ignored_cross": group(
+        "bit [9:0] v, w;",
+        point("bins b[] = {[0:$]};")
+        + point("bins b[] = {[0:$]};", name="q", signal="w")
+        + "cross p, q { ignore_bins n = !(binsof(p) intersect {0} && binsof(q) intersect {[0:9]}); }",
+    ),
+    # declarations
+    "signals": group("".join(f"bit [7:0] s{k};" for k in range(4095)) + "bit [7:0] v;", point("bins b = {0};")),
+    "formals": "covergroup g("
+    + ",".join(f"int f{k}={k}" for k in range(64))
+    + "); coverpoint f0 { bins b = {[f1:f2]}; } endgroup\n"
+    + "".join(f"g i{k}=new({k},2);" for k in range(1024)),
+    "constants": "typedef enum {" + ",".join("c" + digits(k) for k in range(100000)) + "} e; e v;",
+    "all_bins": group(
+        "bit [15:0] v;", "".join(point("bins b[] = {[0:$]};", name=name) for name in ("p", "q", "r", "s"))
+    ),
+}
+
+for name, text in texts.items():
+    assert len(text) <= LONGEST, name
+    open(f"{room}/{name}.sv", "w").write(text)
+print(*texts)
