@@ -102,7 +102,7 @@ abbrev pub edge_of : Option Marked → List ℕ × Option Expr → EdgeText
 edge_of k p = record { kind = edge_or_any k; name = p.0; guard = p.1 }
 
 abbrev pub group_of : Marked × List ℕ → (List Formal × List EdgeText) × List Member → Option Marked → List Decl
-group_of h p e = Group h.1 p.0.0 p.0.1 p.1 h.0.at ∷ []
+group_of h p e = Group h.1 p.0.0 p.0.1 [] p.1 h.0.at ∷ []
 
 module _ (text : List ℕ) (ts : List Marked) where
   -- [ sign ], sign = "signed" | "unsigned"

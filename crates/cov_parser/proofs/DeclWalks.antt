@@ -253,27 +253,21 @@ module _ (text : List ℕ) (ts : List Marked) where
   unfolding built_in_decl
   untyped {d = d} {p = p} f = ends (variables text) (built_in_lawful text ts) names_end_lawful refl (leads_self (built_in_decl text ts) d p) f
 
-  typed_names : {d : Room} {p : Place} {t : TypeText} {q : Place} → Reads (built_in text ts) d p t q → Leads (λ _. behind names (word ts Semi)) d q (built_in_decl text ts) d p (variables text t)
+  pub typed_names : {d : Room} {p : Place} {t : TypeText} {q : Place} → Reads (built_in text ts) d p t q → Leads (λ _. behind names (word ts Semi)) d q (built_in_decl text ts) d p (variables text t)
   unfolding built_in_decl
   typed_names {d = d} {p = p} r = step (variables text) (built_in_lawful text ts) names_end_lawful refl (leads_self (built_in_decl text ts) d p) r
 
-  pub typed_nameless : {d : Room} {p : Place} {t : TypeText} {q : Place} {e : Stop} → Reads (built_in text ts) d p t q → Fails (λ _. word ts Ident) d q e → Fails (built_in_decl text ts) d p e
-  typed_nameless r f = ends _ names_lawful (w Semi) refl (typed_names r) (chain_fails (w Ident) (Comma ∷ []) refl f)
+  abbrev pub names_end : Rule (List Marked)
+  names_end = behind names (word ts Semi)
 
-  pub typed_more_fails : {d : Room} {p : Place} {t : TypeText} {q : Place} {x : Marked} {m : Place} {e : Stop} → Reads (built_in text ts) d p t q → Reads (λ _. word ts Ident) d q x m → Fails (λ _. more (x ∷ [])) d m e → Fails (built_in_decl text ts) d p e
-  typed_more_fails r s f = ends _ names_lawful (w Semi) refl (typed_names r) ((chain_first (w Ident) (Comma ∷ []) refl s).fails f)
+  pub names_none : {d : Room} {p : Place} {e : Stop} → Fails (λ _. word ts Ident) d p e → Fails (λ _. names_end) d p e
+  names_none f = both_fails _ names_lawful (w Semi) refl (chain_fails (w Ident) (Comma ∷ []) refl f)
 
-  pub typed_ends : {d : Room} {p : Place} {t : TypeText} {q : Place} {x : Marked} {m : Place} {xs : List Marked} {k : Place} → Reads (built_in text ts) d p t q → Reads (λ _. word ts Ident) d q x m → Reads (λ _. more (x ∷ [])) d m xs k →
-      Leads (λ _. word ts Semi) d k (built_in_decl text ts) d p (λ _. variables text t xs)
-  typed_ends r s n = step _ names_lawful (w Semi) refl (typed_names r) ((chain_first (w Ident) (Comma ∷ []) refl s).reads n)
+  pub names_break : {d : Room} {p : Place} {x : Marked} {m : Place} {e : Stop} → Reads (λ _. word ts Ident) d p x m → Fails (λ _. more (x ∷ [])) d m e → Fails (λ _. names_end) d p e
+  names_break s f = both_fails _ names_lawful (w Semi) refl ((chain_first (w Ident) (Comma ∷ []) refl s).fails f)
 
-  pub built_in_type : {d : Room} {p : Place} {t : TypeText} {q : Place} → Reads (built_in text ts) d p t q → Reads (type_text text ts) d p t q
-  built_in_type {d = d} {p = p} {t = t} {q = q} r =
-      let first = (facts_of (built_in_lawful text ts) d).starts p q.at ((facts_of (built_in_lawful text ts) d).whole p t q r.derives) (reads_more (built_in_lawful text ts) refl r) in
-      (not_named text ts (λ v. In_apart ts p.at (Ident ∷ []) (vector_words ++ fixed_words) refl v first)).reads r
-
-  pub ident_type : {d : Room} {p : Place} {t : Marked} {q : Place} → Reads (λ _. word ts Ident) d p t q → Reads (type_text text ts) d p (named_type text t) q
-  ident_type {d = d} {p = p} {t = t} {q = q} r = named_read text ts (one_here ts (Ident ∷ []) d p t q r) r
+  pub names_close : {d : Room} {p : Place} {x : Marked} {m : Place} {xs : List Marked} {k : Place} → Reads (λ _. word ts Ident) d p x m → Reads (λ _. more (x ∷ [])) d m xs k → Leads (λ _. word ts Semi) d k (λ _. names_end) d p (λ _. xs)
+  names_close {d = d} {p = p} s n = step _ names_lawful (w Semi) refl (leads_self (λ _. names_end) d p) ((chain_first (w Ident) (Comma ∷ []) refl s).reads n)
 
   -- an instance, or variables whose type is a name
   abbrev named_lawfuls : Lawfuls ts (λ e (p : Marked × Marked). either (instance_rest text ts p e) (variables_rest text ts p))

@@ -1,17 +1,16 @@
 //! Enumerations, variables and instances (IEEE 1800-2017, 6.19, 6.8 and 19.3).
 ghost use Rattle.std.specs.Prelude.{◌≡◌, ◌∷◌, [], IfOk, IfErr};
-ghost use Rattle.cov_grammar.specs.declared.kind.Kind.TheVariants.{Ident, Comma, Assign};
-ghost use Rattle.cov_grammar.specs.declared.place.Stop.TheVariants as stopped;
-ghost use Rattle.cov_grammar.specs.Rule.{maybe, many, word, ◌▸◌};
+ghost use Rattle.cov_grammar.specs.declared.kind.Kind.TheVariants.{Ident, Comma, Semi, Assign};
+ghost use Rattle.cov_grammar.specs.Rule.{map_to, fold, maybe, many, word, ◌▸◌, ◌◂◌};
 ghost use Rattle.cov_grammar.specs.Parses.{Reads, Fails, Parses};
 ghost use Rattle.cov_grammar.specs.Expressions.{snoc, expr, list_in};
-ghost use Rattle.cov_grammar.specs.Designs.{vector, type_text, enum_name, enum_names, enum_decl, built_in_decl, named_decl, variables, instance_of, arguments, arguments_or};
+ghost use Rattle.cov_grammar.specs.Designs.{vector, enum_name, enum_names, enum_decl, built_in_decl, named_decl, named_type, variables, instance_of, arguments, arguments_or};
 
 use crate::expr::whole_expr;
 use crate::reader::{ident, name_of, take, word};
-use crate::types::{built_in, type_text, vector};
+use crate::types::{built_in, vector};
 use cov_grammar::{Kind, Marked, Place, Room, Standing, Stop};
-use cov_tree::{Decl, Expr, List, Memory, Name, TypeText};
+use cov_tree::{Decl, Expr, List, Memory, Name, Shared, TypeText};
 use std::alloc::Global;
 
 /// Variables whose type has a word of its own.
@@ -24,12 +23,20 @@ pub(crate) fn variables(
 ) -> Result<(List<Decl>, Place), Stop>
     ensures { Parses (built_in_decl text.now tokens.now) room place result }
 {
-    let (_, at) = built_in(alloc, text, tokens, place, room)?;
-    let (first, at) = word(tokens, at, Kind::Ident)?;
+    let (typ, at) = built_in(alloc, text, tokens, place, room)?;
+    let (names, after) = names(alloc, tokens, at)?;
+    let decls = typed(alloc, text, typ, names.as_slice())?;
+    Ok((decls, after))
+}
+
+/// Names with commas between them, and a semicolon.
+fn names(alloc: Global, tokens: &[Marked], place: Place) -> Result<(List<Marked>, Place), Stop>
+    ensures { (r : Room) → Parses (λ _. fold snoc (map_to (λ t. t ∷ []) (word tokens.now Ident)) (word tokens.now Comma ▸ word tokens.now Ident) ◂ word tokens.now Semi) r place result }
+{
+    let (first, at) = word(tokens, place, Kind::Ident)?;
     let (names, at) = more_names(alloc, tokens, at, first)?;
     let (_, after) = word(tokens, at, Kind::Semi)?;
-    let decls = typed(alloc, text, tokens, place, room, names.as_slice())?;
-    Ok((decls, after))
+    Ok((names, after))
 }
 
 /// Further names with commas before them, put to the first.
@@ -52,33 +59,45 @@ fn more_names(
     Ok((List::of(names), at))
 }
 
-/// A variable for each name, of the type that stands at this place. The type is read again for each of them.
-fn typed(
-    alloc: Global,
-    text: &[u8],
-    tokens: &[Marked],
-    place: Place,
-    room: Room,
-    names: &[Marked],
-) -> Result<List<Decl>, Stop>
-    ensures same { IfOk result (λ decls. (typ : _) (q : _) → Reads (type_text text.now tokens.now) room place typ q → decls ≡ variables text.now typ names.now) }
-    ensures only_memory { IfErr result (λ stop. (typ : _) (q : _) → Reads (type_text text.now tokens.now) room place typ q → stop ≡ stopped.Memory) }
+/// A variable of this type for each name.
+fn typed(alloc: Global, text: &[u8], typ: TypeText, names: &[Marked]) -> Result<List<Decl>, Memory>
+    ensures { IfOk result (λ decls. decls ≡ variables text.now typ names.now) }
 {
+    let shared = Shared::of(alloc, typ)?;
     let mut decls = Vec::new(alloc);
     for token in names {
-        let (typ, _) = type_text(alloc, text, tokens, place, room)?;
-        let decl = variable(alloc, text, typ, *token)?;
+        let decl = variable(alloc, text, &shared, *token)?;
         decls.push(decl)?;
     }
     Ok(List::of(decls))
 }
 
-fn variable(alloc: Global, text: &[u8], typ: TypeText, token: Marked) -> Result<Decl, Memory>
-    ensures { IfOk result (λ decl. decl ∷ [] ≡ variables text.now typ (token ∷ [])) }
+fn variable(
+    alloc: Global,
+    text: &[u8],
+    shared: &Shared<TypeText>,
+    token: Marked,
+) -> Result<Decl, Memory>
+    ensures { IfOk result (λ decl. decl ∷ [] ≡ variables text.now shared.now (token ∷ [])) }
+{
+    let name = name_of(alloc, text, token)?;
+    let typ = shared.share()?;
+    let at = token.at;
+    Ok(Decl::Var { typ, name, at })
+}
+
+/// A variable for each name, of the type that this token names.
+fn of_named_type(
+    alloc: Global,
+    text: &[u8],
+    token: Marked,
+    names: &[Marked],
+) -> Result<List<Decl>, Memory>
+    ensures { IfOk result (λ decls. decls ≡ variables text.now (named_type text.now token) names.now) }
 {
     let name = name_of(alloc, text, token)?;
     let at = token.at;
-    Ok(Decl::Var { typ, name, at })
+    typed(alloc, text, TypeText::Named { name, at }, names)
 }
 
 /// An instance, or variables whose type is a name.
@@ -96,7 +115,7 @@ pub(crate) fn named(
     let Some((_, next)) = take(tokens, at, &[Kind::Assign]) else {
         let (names, at) = more_names(alloc, tokens, at, second)?;
         let (_, after) = word(tokens, at, Kind::Semi)?;
-        let decls = typed(alloc, text, tokens, place, room, names.as_slice())?;
+        let decls = of_named_type(alloc, text, first, names.as_slice())?;
         return Ok((decls, after));
     };
     let (_, made) = word(tokens, next, Kind::NewWord)?;

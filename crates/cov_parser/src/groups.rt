@@ -41,6 +41,7 @@ pub(crate) fn group(
         name,
         formals,
         event,
+        args: List::new(alloc),
         members,
         at: covergroup.at,
     })?;

@@ -64,7 +64,7 @@ impl Shown {
                 self.put_at(*at)
             }
             Decl::Var { typ, name, at } => {
-                self.type_text(typ)?;
+                self.type_text(typ.get())?;
                 self.put(b" ")?;
                 self.put(name.as_slice())?;
                 self.put_at(*at)
@@ -73,6 +73,7 @@ impl Shown {
                 name,
                 formals,
                 event,
+                args,
                 members,
                 at,
             } => {
@@ -85,6 +86,10 @@ impl Shown {
                 self.put(b")")?;
                 for edge in event.as_slice() {
                     self.edge(edge)?;
+                }
+                for arg in args.as_slice() {
+                    self.put(b" sample ")?;
+                    self.formal(arg)?;
                 }
                 self.put_at(*at)?;
                 for member in members.as_slice() {

@@ -1,5 +1,5 @@
 use Rattle.cov_grammar.proofs.Steps.{exits}
-use Rattle.cov_parser.proofs.DeclWalks.{no_first_name, no_second_name, named_more_fails, named_ends, ident_type, memory_fails, instance_no_new, instance_unmade, instance_ends}
+use Rattle.cov_parser.proofs.DeclWalks.{no_first_name, no_second_name, named_more_fails, named_ends, instance_no_new, instance_unmade, instance_ends}
 use Rattle.cov_parser.proofs.declarations.named.Goals as goal
 
 pub returns-in_err-first : goal.returns-in_err-first
@@ -14,11 +14,8 @@ returns-in_err-names c = exits _ _ _ _ _ c.from_residual-in_err-names.ensures.1 
 pub returns-in_err-after : goal.returns-in_err-after
 returns-in_err-after c = exits _ _ _ _ _ c.from_residual-in_err-after.ensures.1 ((named_ends _ _ (c.in_ok-first.ensures _) (c.in_ok-second.ensures _) c.in_default.ensures.none (c.in_ok-names.ensures _)).fails (c.in_err-after.ensures _))
 
-pub returns-in_err-decls : goal.returns-in_err-decls
-returns-in_err-decls c = exits _ _ _ _ _ c.from_residual-in_err-decls.ensures.1 (memory_fails _ _ _ _ (c.in_err-decls.ensures.only_memory _ _ (ident_type _ _ (c.in_ok-first.ensures _))))
-
 pub returns-in_default : goal.returns-in_default
-returns-in_default c = rw (c.in_ok-decls.ensures.same _ _ (ident_type _ _ (c.in_ok-first.ensures _)), c.as_slice.ensures) ((named_ends _ _ (c.in_ok-first.ensures _) (c.in_ok-second.ensures _) c.in_default.ensures.none (c.in_ok-names.ensures _)).reads (c.in_ok-after.ensures _))
+returns-in_default c = rw (c.in_ok-decls.ensures, c.as_slice.ensures) ((named_ends _ _ (c.in_ok-first.ensures _) (c.in_ok-second.ensures _) c.in_default.ensures.none (c.in_ok-names.ensures _)).reads (c.in_ok-after.ensures _))
 
 pub returns-in_err-made : goal.returns-in_err-made
 returns-in_err-made c = exits _ _ _ _ _ c.from_residual-in_err-made.ensures.1 (instance_no_new _ _ (c.in_ok-first.ensures _) (c.in_ok-second.ensures _) (c.in-Some.ensures.some _) (c.in_err-made.ensures _))
