@@ -1,0 +1,3 @@
+pub mod Widths
+pub mod Kept
+pub mod Hits
