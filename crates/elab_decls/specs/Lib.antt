@@ -4,3 +4,4 @@ pub mod Variables
 pub mod Formals
 pub mod Options
 pub mod Invariant
+pub mod Laws

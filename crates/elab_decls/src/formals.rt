@@ -148,8 +148,9 @@ pub fn fits(formals: &[Formal], args: &[Expr]) -> bool
     args.len() <= formals.len() && have_defaults(&formals[args.len()..])
 }
 
+/// The formals of an instance at `at` with their arguments.
 #[tactic(auto, unfolding(crate::specs::Formals::formals_walked))]
-fn walk_formals(
+pub fn walk_formals(
     alloc: Global,
     outside: &Outside,
     formals: &[Formal],

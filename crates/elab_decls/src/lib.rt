@@ -6,6 +6,7 @@
 mod constants;
 mod enumerations;
 mod formals;
+pub mod laws;
 mod numbers;
 mod options;
 mod outside;
@@ -16,7 +17,7 @@ mod variables;
 
 pub use constants::Constants;
 pub use enumerations::add_enumeration;
-pub use formals::{Formals, fits, read_formals};
+pub use formals::{Formals, fits, read_formals, walk_formals};
 pub use numbers::Numbers;
 pub use options::{cross_defaults, point_defaults, read_options, set_options};
 pub use outside::{Enumeration, Outside, Shape};
