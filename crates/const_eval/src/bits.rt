@@ -2,7 +2,7 @@
 ghost use Rattle.std.specs.Prelude.{◌≡◌, ◌≤◌, ◌<◌, ◌-◌, ◌^◌};
 ghost use Rattle.cov_base.specs.Sets.{IsInt};
 ghost use Rattle.const_eval.specs.Typs.{HasWidth};
-ghost use Rattle.const_eval.specs.Values.{bits_of, read, cut as cut_of};
+ghost use Rattle.const_eval.specs.Values.{bits_of, read, cut as cut_of, cut_to as cut_to_typ};
 
 use crate::Typ;
 use cov_base::Int;
@@ -68,4 +68,13 @@ pub(crate) fn cut(width: u8, signed: bool, number: i128) -> i128
     ensures range { IsInt result }
 {
     read_bits(width, signed, low_bits(width, number))
+}
+
+/// The number modulo 2 to the width of a type, read without a sign, or in two's complement (IEEE 1800-2017, 10.7).
+#[tactic(auto, unfolding(crate::specs::Values::cut))]
+pub fn cut_to(typ: Typ, number: Int) -> Int
+    requires { HasWidth typ }
+    ensures { result ≡ cut_to_typ typ number }
+{
+    Int::of(cut(typ.width, typ.signed, number.get()))
 }

@@ -15,7 +15,7 @@ mod typs;
 mod values;
 
 pub use binding::{bind, constant, place};
-pub use bits::number_of;
+pub use bits::{cut_to, number_of};
 pub use bound::Bound;
 pub use fault::BindFault;
 pub use meaning::{ITEM, Meaning};

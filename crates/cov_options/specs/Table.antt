@@ -87,6 +87,43 @@ abbrev pub HasDefaults : List Row → Options → Type 0
 HasDefaults [] o = Unit {0}
 HasDefaults (row ∷ rows) o = (row.value o ≡ row.default) × (row.is_set o ≡ false) × HasDefaults rows o
 
+-- the defaults of all options, none of which is set
+abbrev pub defaults : Options
+defaults = record {
+  weight = 1;
+  weight_set = false;
+  goal = 100;
+  goal_set = false;
+  name = [];
+  name_set = false;
+  comment = [];
+  comment_set = false;
+  at_least = 1;
+  at_least_set = false;
+  detect_overlap = 0;
+  detect_overlap_set = false;
+  auto_bin_max = 64;
+  auto_bin_max_set = false;
+  cross_num_print_missing = 0;
+  cross_num_print_missing_set = false;
+  per_instance = 0;
+  per_instance_set = false;
+  get_inst_coverage = 0;
+  get_inst_coverage_set = false;
+  type_weight = 1;
+  type_weight_set = false;
+  type_goal = 100;
+  type_goal_set = false;
+  type_comment = [];
+  type_comment_set = false;
+  type_strobe = 0;
+  type_strobe_set = false;
+  type_merge_instances = 0;
+  type_merge_instances_set = false;
+  type_distribute_first = 0;
+  type_distribute_first_set = false;
+}
+
 -- what is answered where an option is set, by its row
 abbrev pub answer_of : Option Row → Options → Level → OptValue → Result (Unit {0}) OptFault
 answer_of None o level value = Err UnknownOption

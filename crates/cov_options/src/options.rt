@@ -64,12 +64,13 @@ pub struct Options {
 
 impl Options {
     ghost use Rattle.std.specs.Prelude.{◌≡◌, true, false};
-    ghost use Rattle.cov_options.specs.Table.{options, type_options, HasDefaults, answer, after};
+    ghost use Rattle.cov_options.specs.Table.{options, type_options, HasDefaults, defaults, answer, after};
 
     /// The defaults, and no mark. It takes no memory: `alloc` is kept for the texts.
     pub fn new(alloc: Global) -> Options
         ensures option { HasDefaults options result }
         ensures type_option { HasDefaults type_options result }
+        ensures value { result ≡ defaults }
     {
         Options {
             weight: 1,

@@ -1,0 +1,4 @@
+pub mod Widths
+pub mod Kept
+pub mod Hits
+pub mod Lawful
