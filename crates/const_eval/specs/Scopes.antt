@@ -20,9 +20,13 @@ abbrev pub item_names : Option Typ → Names
 item_names None = []
 item_names (Some typ) = (codes "item", Signal 65535 typ 0) ∷ []
 
--- all names; an inner one hides an outer one
+-- all names, where `item` has this type or is no name of its own; an inner one hides an outer one
+abbrev pub names_with : Option Typ → Levels → Names
+names_with item levels = item_names item ++ (levels.inner ++ levels.outer)
+
+-- all names
 abbrev pub names_of : Levels → Names
-names_of levels = item_names levels.item ++ (levels.inner ++ levels.outer)
+names_of levels = names_with levels.item levels
 
 abbrev pub first_of : Option Meaning → Option Meaning → Option Meaning
 first_of None later = later

@@ -2,7 +2,7 @@
 ghost use Rattle.cov_base.specs.Sets.{IsInt};
 ghost use Rattle.std.specs.Prelude.{◌≡◌, ◌<◌, ◌≤ℤ◌, ◌<ℤ◌, ◌+ℤ◌, ◌-ℤ◌, pos, unsigned_abs, IfOk, Option, Some, None, map};
 ghost use Rattle.std.specs.List.{list_any};
-ghost use Rattle.const_eval.specs.Scopes.{names_of};
+ghost use Rattle.const_eval.specs.Scopes.{names_of, names_with};
 ghost use Rattle.const_eval.specs.Typs.{HasWidth};
 ghost use Rattle.const_eval.specs.Terms.{Term, typ_in};
 ghost use Rattle.const_eval.specs.Fronts.{IsFront, GivesFront};
@@ -16,19 +16,38 @@ use std::alloc::{AllocError, Global};
 /// The expression with each name replaced by what it stands for, or its first fault: of a select that of its name, then
 /// of its indexes from left to right, each of which is bound, looked at for signals and computed before the next, then
 /// BadSelect; of a concatenation that of its parts, then TooWide, then BadConcat.
-#[cycle(expressions)]
 pub fn bind(alloc: Global, expr: &Expr, scope: &Scope) -> Result<Bound, BindFault>
     ensures { Gives result (bound_of (names_of scope.now) expr.now) }
+{
+    bind_within(alloc, expr, scope, scope.item())
+}
+
+/// The same where `item` is a name too, a number of this type, as in a `with` (IEEE 1800-2017, 19.5.1.1).
+pub fn bind_item(alloc: Global, expr: &Expr, scope: &Scope, typ: Typ) -> Result<Bound, BindFault>
+    ensures { Gives result (bound_of (names_with (Some typ) scope.now) expr.now) }
+{
+    bind_within(alloc, expr, scope, Some(typ))
+}
+
+/// The same where `item` has this type, or is no name of its own.
+#[cycle(expressions)]
+fn bind_within(
+    alloc: Global,
+    expr: &Expr,
+    scope: &Scope,
+    item: Option<Typ>,
+) -> Result<Bound, BindFault>
+    ensures { Gives result (bound_of (names_with item scope.now) expr.now) }
 {
     match expr {
         Expr::Num { lit, at } => bind_literal(lit, *at),
         Expr::Name { name, at } => {
-            let meaning = find(scope, name, *at)?;
+            let meaning = find(scope, item, name, *at)?;
             Ok(Bound::name(meaning, *at))
         }
         Expr::Bit { name, index, at } => {
-            let meaning = find(scope, name, *at)?;
-            let place = number_of_index(alloc, index.get(), scope)?;
+            let meaning = find(scope, item, name, *at)?;
+            let place = number_of_index(alloc, index.get(), scope, item)?;
             select(meaning, place, place, *at)
         }
         Expr::Part {
@@ -37,14 +56,14 @@ pub fn bind(alloc: Global, expr: &Expr, scope: &Scope) -> Result<Bound, BindFaul
             low,
             at,
         } => {
-            let meaning = find(scope, name, *at)?;
-            let last = number_of_index(alloc, high.get(), scope)?;
-            let first = number_of_index(alloc, low.get(), scope)?;
+            let meaning = find(scope, item, name, *at)?;
+            let last = number_of_index(alloc, high.get(), scope, item)?;
+            let first = number_of_index(alloc, low.get(), scope, item)?;
             select(meaning, last, first, *at)
         }
-        Expr::Concat { parts, at } => bind_concat(alloc, parts.as_slice(), scope, *at),
+        Expr::Concat { parts, at } => bind_concat(alloc, parts.as_slice(), scope, item, *at),
         Expr::Unary { op, arg, .. } => {
-            let inner = bind(alloc, arg.get(), scope)?;
+            let inner = bind_within(alloc, arg.get(), scope, item)?;
             Ok(Bound::unary(alloc, *op, inner)?)
         }
         Expr::Binary {
@@ -53,14 +72,14 @@ pub fn bind(alloc: Global, expr: &Expr, scope: &Scope) -> Result<Bound, BindFaul
             right,
             ..
         } => {
-            let first = bind(alloc, left.get(), scope)?;
-            let second = bind(alloc, right.get(), scope)?;
+            let first = bind_within(alloc, left.get(), scope, item)?;
+            let second = bind_within(alloc, right.get(), scope, item)?;
             Ok(Bound::binary(alloc, *op, first, second)?)
         }
         Expr::Cond { test, yes, no, .. } => {
-            let condition = bind(alloc, test.get(), scope)?;
-            let first = bind(alloc, yes.get(), scope)?;
-            let second = bind(alloc, no.get(), scope)?;
+            let condition = bind_within(alloc, test.get(), scope, item)?;
+            let first = bind_within(alloc, yes.get(), scope, item)?;
+            let second = bind_within(alloc, no.get(), scope, item)?;
             Ok(Bound::choice(alloc, condition, first, second)?)
         }
     }
@@ -121,11 +140,16 @@ fn bind_literal(lit: &Literal, at: u32) -> Result<Bound, BindFault>
 }
 
 /// What a name stands for.
-fn find(scope: &Scope, name: &Name, at: u32) -> Result<Meaning, BindFault>
-    ensures value { result ≡ found_of (names_of scope.now) name.now at }
+fn find(
+    scope: &Scope,
+    item: Option<Typ>,
+    name: &Name,
+    at: u32,
+) -> Result<Meaning, BindFault>
+    ensures value { result ≡ found_of (names_with item scope.now) name.now at }
     ensures width { IfOk result (λ meaning. HasWidth (typ_in meaning)) }
 {
-    match scope.meaning(name.as_slice()) {
+    match scope.meaning_with(item, name.as_slice()) {
         None => Err(BindFault::UnknownName { at }),
         Some(meaning) => {
             if has_width(meaning.typ().width) {
@@ -139,10 +163,15 @@ fn find(scope: &Scope, name: &Name, at: u32) -> Result<Meaning, BindFault>
 
 /// The number of an index: a constant (IEEE 1800-2017, 11.5.1).
 #[cycle(expressions)]
-fn number_of_index(alloc: Global, index: &Expr, scope: &Scope) -> Result<Int, BindFault>
-    ensures { Gives result (index_number (seen (names_of scope.now) index.now)) }
+fn number_of_index(
+    alloc: Global,
+    index: &Expr,
+    scope: &Scope,
+    item: Option<Typ>,
+) -> Result<Int, BindFault>
+    ensures { Gives result (index_number (seen (names_with item scope.now) index.now)) }
 {
-    let bound = bind(alloc, index, scope)?;
+    let bound = bind_within(alloc, index, scope, item)?;
     constant(&bound, place(index))
 }
 
@@ -212,12 +241,17 @@ fn extended(alloc: Global, front: Front, part: Bound) -> Result<Front, AllocErro
 
 /// The parts of a concatenation, or the first fault of one.
 #[cycle(expressions)]
-fn bind_parts(alloc: Global, parts: &[Expr], scope: &Scope) -> Result<Front, BindFault>
-    ensures { GivesFront result (parts_behind None (map (seen (names_of scope.now)) parts.now)) }
+fn bind_parts(
+    alloc: Global,
+    parts: &[Expr],
+    scope: &Scope,
+    item: Option<Typ>,
+) -> Result<Front, BindFault>
+    ensures { GivesFront result (parts_behind None (map (seen (names_with item scope.now)) parts.now)) }
 {
     let mut front = Front::Empty;
     for part in parts {
-        let bound = bind(alloc, part, scope)?;
+        let bound = bind_within(alloc, part, scope, item)?;
         front = extended(alloc, front, bound)?;
     }
     Ok(front)
@@ -225,10 +259,16 @@ fn bind_parts(alloc: Global, parts: &[Expr], scope: &Scope) -> Result<Front, Bin
 
 /// A concatenation: the fault of a part, or TooWide, or BadConcat.
 #[cycle(expressions)]
-fn bind_concat(alloc: Global, parts: &[Expr], scope: &Scope, at: u32) -> Result<Bound, BindFault>
-    ensures { let all = map (seen (names_of scope.now)) parts.now in Gives result (concatenation (parts_behind None all) (any_unsized all) at) }
+fn bind_concat(
+    alloc: Global,
+    parts: &[Expr],
+    scope: &Scope,
+    item: Option<Typ>,
+    at: u32,
+) -> Result<Bound, BindFault>
+    ensures { let all = map (seen (names_with item scope.now)) parts.now in Gives result (concatenation (parts_behind None all) (any_unsized all) at) }
 {
-    let front = bind_parts(alloc, parts, scope)?;
+    let front = bind_parts(alloc, parts, scope, item)?;
     concatenate(front, has_unsized(parts), at)
 }
 

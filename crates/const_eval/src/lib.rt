@@ -14,7 +14,7 @@ mod signals;
 mod typs;
 mod values;
 
-pub use binding::{bind, constant, place};
+pub use binding::{bind, bind_item, constant, place};
 pub use bits::{cut_to, number_of};
 pub use bound::Bound;
 pub use fault::BindFault;

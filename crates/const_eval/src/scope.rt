@@ -1,6 +1,6 @@
 //! Names with what they stand for, at three levels.
 ghost use Rattle.std.specs.Prelude.{◌≡◌, [], List, ℕ, is_none, IfOk, OnOk, OnErr};
-ghost use Rattle.const_eval.specs.Scopes.{meaning_of, names_of, with_name, with_names, item_names, first_of};
+ghost use Rattle.const_eval.specs.Scopes.{meaning_of, names_of, names_with, with_name, with_names, item_names, first_of};
 
 use crate::{ITEM, Meaning, Typ};
 use cov_base::Memory;
@@ -55,12 +55,26 @@ impl Scope {
     }
 
     /// What the name stands for. It takes no memory.
-    #[tactic(auto, using(crate::proofs::Named::levels_meaning))]
     pub fn meaning(&self, name: &[u8]) -> Option<Meaning>
         ensures { result ≡ meaning_of (names_of self.now) name.now }
     {
+        self.meaning_with(self.item, name)
+    }
+
+    /// What the name stands for, where `item` has this type or is no name of its own. It takes no memory.
+    #[tactic(auto, using(crate::proofs::Named::levels_meaning))]
+    pub(crate) fn meaning_with(&self, item: Option<Typ>, name: &[u8]) -> Option<Meaning>
+        ensures { result ≡ meaning_of (names_with item self.now) name.now }
+    {
         let inner = first(found(&self.inner, name), found(&self.outer, name));
-        first(item_meaning(self.item, name), inner)
+        first(item_meaning(item, name), inner)
+    }
+
+    /// The type of `item`, where it is a name of its own. It takes no memory.
+    pub(crate) fn item(&self) -> Option<Typ>
+        ensures { result ≡ self.now.item }
+    {
+        self.item
     }
 
     /// Adds an outer name. Answers whether it is a new one; where it isn't, the first meaning stays.

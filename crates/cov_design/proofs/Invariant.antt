@@ -29,9 +29,9 @@ use Rattle.elab_base.specs.Gives.{needs, each_at}
 use Rattle.elab_base.specs.Steps.{unused, bound_in, guard_in, number_in}
 use Rattle.elab_base.proofs.Keeps.{bind_ok, ok_is, each_keeps, needs_ok, and_first, and_second, all_push, all_as}
 use Rattle.elab_values.specs.declared.made.Made.{Made}
-use Rattle.elab_values.specs.Ranges.{domain_of_typ}
+use Rattle.elab_values.specs.Domains.{domain_of_typ}
 use Rattle.elab_points.specs.Left.{bins_of_point}
-use Rattle.elab_points.proofs.Kept.{AreLeft, point_left}
+use Rattle.elab_points.proofs.Kept.{AreLeft, few_left}
 use Rattle.elab_order.proofs.Numbering.{total-append}
 use Rattle.cov_design.specs.declared.counts.Counts.{Counts}
 use Rattle.cov_design.specs.declared.known.Known.{Known}
@@ -39,7 +39,7 @@ use Rattle.cov_design.specs.declared.points.Items.{Items}
 use Rattle.cov_design.specs.declared.variables.Shape.{Shape}
 use Rattle.cov_design.specs.Counting.{bins_counted}
 use Rattle.cov_design.specs.Variables.{is_span, span_shape, plain_shape, shape_of, with_signal, variable}
-use Rattle.cov_design.specs.Points.{point_name, point_item, with_point, bound_point, named_point, member, no_items, members_walked}
+use Rattle.cov_design.specs.Points.{point_name, point_item, default_settings, with_point, bound_point, named_point, member, no_items, members_walked}
 use Rattle.cov_design.specs.Walk.{group_info, groups_fit, group, group_meant, members_of, inst_info, with_instance, instance, declared, nothing, walked}
 use Rattle.cov_design.specs.Invariant.{IsAlone, IsDeclared, IsKnown}
 use Rattle.cov_design.proofs.Counted.{Counted, counted, length-infos, ranges-infos, point_rules}
@@ -183,10 +183,10 @@ bound_keeps : (levels : Levels) (name : List ℕ) (expr : Term) (guard : Option 
 unfolding bound_point
 bound_keeps levels name expr guard p start s t e room h =
     let n = bind_ok (needs (has_width (typ_of expr).width) kind.TooWide p.at) _ t e in
-    let b = bind_ok (bins_of_point levels (domain_of_typ (typ_of expr)) p.bins) _ t n.2 in
-    let c = bind_ok (bins_counted b.0 s.counts) _ t b.2 in
+    let b = bind_ok (bins_of_point levels (domain_of_typ (typ_of expr)) name default_settings p.bins p.at) _ t n.2 in
+    let c = bind_ok (bins_counted b.0.bins s.counts) _ t b.2 in
     let width = needs_ok (has_width (typ_of expr).width) kind.TooWide p.at n.0 n.1 in
-    subst (AreItems start) (ok_is _ t c.2) (added_point name expr guard b.0 c.0 start s width room (point_left levels (domain_of_typ (typ_of expr)) p.bins b.0 b.1) (counted b.0 s.counts c.0 c.1) h)
+    subst (AreItems start) (ok_is _ t c.2) (added_point name expr guard b.0.bins c.0 start s width room (few_left levels (domain_of_typ (typ_of expr)) name default_settings p.bins p.at b.0 b.1) (counted b.0.bins s.counts c.0 c.1) h)
 
 named_keeps : (levels : Levels) (name : List ℕ) (p : PointDecl) (start : Counts) (s t : Items) → named_point levels name p s ≡ Ok t → AreItems start s → AreItems start t
 unfolding named_point
@@ -223,7 +223,7 @@ group_below groups (Some what.Constant) at place e = absurd cc
 group_below groups (Some (what.Variable enumeration)) at place e = absurd cc
 group_below groups (Some what.Instance) at place e = absurd cc
 group_below groups (Some (what.Formal by_ref enumeration)) at place e = absurd cc
-group_below groups (Some what.Item) at place e = absurd cc
+group_below groups (Some (what.Item index)) at place e = absurd cc
 group_below groups (Some what.Bin) at place e = absurd cc
 group_below groups None at place e = absurd cc
 

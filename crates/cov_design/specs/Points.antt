@@ -1,5 +1,5 @@
 -- The points of an instance (IEEE 1800-2017, 19.5).
-use Rattle.std.specs.Prelude.{ℕ, ◌+◌, List, [], ◌∷◌, ◌++◌, length, map, codes, nat_lt, Option, Some, None, Result, Ok, Err}
+use Rattle.std.specs.Prelude.{ℕ, ◌+◌, List, [], ◌∷◌, ◌++◌, length, map, codes, nat_lt, false, Option, Some, None, Result, Ok, Err}
 use Rattle.std.specs.Fmt.{decimal}
 use Rattle.cov_ground.specs.Limits.{most_items}
 use Rattle.name_map.specs.Names.{with_name}
@@ -20,7 +20,8 @@ use Rattle.elab_base.specs.declared.names.What.TheVariants as what
 use Rattle.elab_base.specs.Gives.{Refusal, ◌>>=◌, needs, each}
 use Rattle.elab_base.specs.Steps.{unused, bound_in, guard_in}
 use Rattle.elab_values.specs.declared.made.Made.{Made}
-use Rattle.elab_values.specs.Ranges.{domain_of_typ}
+use Rattle.elab_values.specs.declared.made.Settings.{Settings}
+use Rattle.elab_values.specs.Domains.{domain_of_typ}
 use Rattle.elab_points.specs.Left.{bins_of_point}
 use Rattle.cov_design.specs.declared.counts.Counts.{Counts}
 use Rattle.cov_design.specs.declared.known.Known.{Known}
@@ -68,18 +69,22 @@ point_item name expr guard bins = record {
 
 unfoldable pub with_point : List ℕ → Term → Option Term → List Made → Counts → Items → Items
 with_point name expr guard bins counts s = record {
-  names = with_name s.names name what.Item;
+  names = with_name s.names name (what.Item (length s.items));
   items = s.items ++ point_item name expr guard bins ∷ [];
   counts = record counts { items = s.counts.items + 1 };
 }
+
+-- what the bins of a point depend on where no option is set
+abbrev pub default_settings : Settings
+default_settings = record { auto_bin_max = 64; distribute_first = false; intersected = false }
 
 -- a point of a bound expression, each of which has 1 to 64 bits
 unfoldable pub bound_point : Levels → List ℕ → Term → Option Term → PointDecl → Items → Result Items Refusal
 bound_point levels name expr guard p s = do
   _ ← needs (has_width (typ_of expr).width) kind.TooWide p.at
-  bins ← bins_of_point levels (domain_of_typ (typ_of expr)) p.bins
-  counts ← bins_counted bins s.counts
-  Ok (with_point name expr guard bins counts s)
+  found ← bins_of_point levels (domain_of_typ (typ_of expr)) name default_settings p.bins p.at
+  counts ← bins_counted found.bins s.counts
+  Ok (with_point name expr guard found.bins counts s)
 
 unfoldable pub named_point : Levels → List ℕ → PointDecl → Items → Result Items Refusal
 named_point levels name p s = do

@@ -5,7 +5,7 @@ ghost use Rattle.const_eval.specs.Terms.{typ_of as typ_of_term};
 ghost use Rattle.const_eval.specs.Binding.{has_width as tests_width};
 ghost use Rattle.elab_base.specs.declared.fault.ElabKind.TheVariants as kinds;
 ghost use Rattle.elab_base.specs.Gives.{Gives, Makes, needs};
-ghost use Rattle.cov_design.specs.Points.{numbered_name as numbered_text, point_name, point_item, with_point, bound_point, named_point, member, members_walked};
+ghost use Rattle.cov_design.specs.Points.{numbered_name as numbered_text, point_name, point_item, default_settings, with_point, bound_point, named_point, member, members_walked};
 
 use crate::counts::{Counts, count_bins};
 use crate::variables::has_width;
@@ -16,7 +16,7 @@ use cov_tree::{Expr, List, Member, Name, PointDecl};
 use design_data::{BinInfo, ItemInfo, ItemShape};
 use elab_base::{ElabFault, ElabKind, What, add_name, bind_in, check_unused, guard_in};
 use elab_points::point_bins;
-use elab_values::{Made, domain_of};
+use elab_values::{Made, Settings, domain_of};
 use name_map::NameMap;
 use std::alloc::Global;
 
@@ -70,16 +70,37 @@ fn check_width(expr: &Bound, at: u32) -> Result<(), ElabFault>
     Ok(())
 }
 
+/// What the bins of a point depend on where no option is set.
+fn settings() -> Settings
+    ensures { result ≡ default_settings }
+{
+    Settings {
+        auto_bin_max: 64,
+        distribute_first: false,
+        intersected: false,
+    }
+}
+
 /// The bins themselves.
 fn infos(alloc: Global, bins: Vec<Made>) -> Result<List<BinInfo>, Memory>
     ensures { IfOk result (λ infos. infos ≡ map (λ made. made.bin) bins.items) }
 {
     let mut infos = List::new(alloc);
     for made in bins {
-        let Made { bin, at: _ } = made;
+        let Made { bin, .. } = made;
         infos.push(bin)?;
     }
     Ok(infos)
+}
+
+/// The number as one of 32 bits. So many items as it doesn't hold don't fit into memory.
+fn index_of(place: usize) -> Result<u32, Memory>
+    ensures { IfOk result (λ same. same ≡ place) }
+{
+    match u32::try_from(place) {
+        Ok(place) => Ok(place),
+        Err(_) => Err(Memory),
+    }
 }
 
 #[tactic(auto, unfolding(crate::specs::Points::with_point))]
@@ -95,7 +116,8 @@ fn keep_point(
     requires { items.old.counts.items < most_items }
     ensures { OnOk result (items.new ≡ with_point name expr guard bins counts items.old) }
 {
-    add_name(alloc, &mut items.names, &name, What::Item)?;
+    let index = index_of(items.items.as_slice().len())?;
+    add_name(alloc, &mut items.names, &name, What::Item { index })?;
     let bins = infos(alloc, bins.into_vec())?;
     items.items.push(ItemInfo {
         name,
@@ -131,10 +153,18 @@ fn add_bound(
 {
     check_width(&expr, point.at)?;
     let domain = domain_of(alloc, typ(&expr))?;
-    let bins = point_bins(alloc, scope, &domain, point.bins.as_slice())?;
+    let found = point_bins(
+        alloc,
+        scope,
+        &domain,
+        &name,
+        settings(),
+        point.bins.as_slice(),
+        point.at,
+    )?;
     let mut counts = items.counts;
-    count_bins(bins.as_slice(), &mut counts)?;
-    keep_point(alloc, name, expr, guard, bins, counts, items)?;
+    count_bins(found.bins.as_slice(), &mut counts)?;
+    keep_point(alloc, name, expr, guard, found.bins, counts, items)?;
     Ok(())
 }
 

@@ -35,8 +35,10 @@ pub enum What {
         by_ref: bool,
         enumeration: Option<u32>,
     },
-    /// An item of a group.
-    Item,
+    /// An item of a group, by its place among those of the instance.
+    Item {
+        index: u32,
+    },
     /// A bin of an item.
     Bin,
 }

@@ -18,9 +18,10 @@ use Rattle.elab_base.specs.Gives.{Refusal, ◌>>=◌, needs, each}
 use Rattle.elab_base.specs.Steps.{unused, guard_in}
 use Rattle.elab_values.specs.declared.domain.Domain.{Domain}
 use Rattle.elab_points.specs.declared.declared.Walked.{Walked}
+use Rattle.elab_points.specs.declared.made.Head.{Head}
 use Rattle.elab_points.specs.declared.made.Plan.{Plan}
 use Rattle.elab_points.specs.Built.{is_built_decl}
-use Rattle.elab_values.specs.Ranges.{numbers_of}
+use Rattle.elab_values.specs.Listed.{numbers_of}
 use Rattle.elab_points.specs.Made.{wanted_in, planned, bins_made}
 
 abbrev pub kind_of : Word → BinKind
@@ -52,13 +53,18 @@ abbrev pub with_set : Bool → List (ℤ × ℤ) → List ℤ → List (ℤ × �
 with_set true ranges numbers = ranges ++ set_of numbers
 with_set false ranges numbers = ranges
 
+-- what the bins of a declaration have in common
+abbrev pub head_of : BinsDecl → Option Term → Walked → Head
+head_of b guard w = record { name = b.name; kind = kind_of b.word; guard = guard; at = b.at; declared = Some (length w.names) }
+
 -- a declaration's bins, with its name, and what it removes
-unfoldable pub bins_added : BinsDecl → Plan → List ℤ → Option Term → Walked → Walked
-bins_added b plan numbers guard w = record {
-  names = with_name w.names b.name what.Bin;
-  bins = w.bins ++ bins_made plan b.name (kind_of b.word) guard b.at numbers;
-  ignored = with_set (is_ignore (kind_of b.word)) w.ignored numbers;
-  illegal = with_set (is_illegal (kind_of b.word)) w.illegal numbers;
+unfoldable pub bins_added : Head → Plan → List ℤ → Walked → Walked
+bins_added head plan numbers w = record w {
+  known = with_name w.known head.name what.Bin;
+  names = w.names ++ head.name ∷ [];
+  bins = w.bins ++ bins_made plan head numbers;
+  ignored = with_set (is_ignore head.kind) w.ignored numbers;
+  illegal = with_set (is_illegal head.kind) w.illegal numbers;
 }
 
 -- the bins of a declaration that lists these numbers
@@ -67,17 +73,17 @@ numbers_binned levels b numbers w = do
   wanted ← wanted_in levels b.size b.at
   guard ← guard_in levels b.guard
   plan ← planned (length w.bins) wanted numbers b.at
-  Ok (bins_added b plan numbers guard w)
+  Ok (bins_added (head_of b guard w) plan numbers w)
 
 unfoldable pub bins_declared : Levels → Domain → BinsDecl → Walked → Result Walked Refusal
 bins_declared levels domain b w = do
-  _ ← unused w.names b.name b.at
+  _ ← unused w.known b.name b.at
   _ ← needs (is_built_decl b) kind.NotBuiltYet b.at
-  numbers ← numbers_of levels domain (elems_in b.right)
+  numbers ← numbers_of levels domain b.wildcard (elems_in b.right) b.at
   numbers_binned levels b numbers w
 
 abbrev pub no_bins : Walked
-no_bins = record { names = []; bins = []; ignored = []; illegal = [] }
+no_bins = record { known = []; names = []; bins = []; ignored = []; illegal = []; ignored_seqs = []; illegal_seqs = [] }
 
 unfoldable pub bins_walked : Levels → Domain → List BinsDecl → Result Walked Refusal
 bins_walked levels domain bs = each (bins_declared levels domain) bs no_bins

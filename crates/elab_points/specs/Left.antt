@@ -1,5 +1,5 @@
 -- What removal leaves of the bins of a point (IEEE 1800-2017, 19.5.5 and 19.5.6).
-use Rattle.std.specs.Prelude.{ℤ, List, [], ◌∷◌, ◌++◌, length, Bool, true, false, not, ◌==◌, Result, Ok, Err, if◌then◌else◌}
+use Rattle.std.specs.Prelude.{ℕ, ℤ, List, [], ◌∷◌, ◌++◌, length, Bool, true, false, not, ◌==◌, Result, Ok, Err, if◌then◌else◌}
 use Rattle.std.specs.List.{flat_map}
 use Rattle.cov_base.specs.Sets.{written, set_of, without}
 use Rattle.cov_tree.specs.declared.bins.BinsDecl.{BinsDecl}
@@ -12,6 +12,9 @@ use Rattle.design_data.specs.declared.infos.BinRule.TheVariants.{Values, Pattern
 use Rattle.elab_base.specs.Gives.{Refusal, ◌>>=◌}
 use Rattle.elab_values.specs.declared.domain.Domain.{Domain}
 use Rattle.elab_values.specs.declared.made.Made.{Made}
+use Rattle.elab_values.specs.declared.made.PointBins.{PointBins}
+use Rattle.elab_values.specs.declared.made.Settings.{Settings}
+use Rattle.elab_points.specs.declared.declared.Walked.{Walked}
 use Rattle.elab_points.specs.Declarations.{bins_walked}
 
 abbrev pub set_left : (removed set : List (ℤ × ℤ)) → List (ℤ × ℤ)
@@ -63,8 +66,11 @@ bins_left all illegal bins = flat_map (left_of all illegal) bins
 unfoldable pub left_by : (ignored illegal : List (ℤ × ℤ)) → List Made → List Made
 left_by ignored illegal bins = bins_left (set_of (written (ignored ++ illegal))) (set_of (written illegal)) bins
 
--- the bins of a point
-unfoldable pub bins_of_point : Levels → Domain → List BinsDecl → Result (List Made) Refusal
-bins_of_point levels domain bs = do
+abbrev pub point_left : Walked → PointBins
+point_left w = record { bins = left_by w.ignored w.illegal w.bins; names = w.names; ignored = w.ignored_seqs; illegal = w.illegal_seqs }
+
+-- the bins of a point of this name, which stands there
+unfoldable pub bins_of_point : Levels → Domain → (name : List ℕ) → Settings → List BinsDecl → (at : ℕ) → Result PointBins Refusal
+bins_of_point levels domain name settings bs at = do
   w ← bins_walked levels domain bs
-  Ok (left_by w.ignored w.illegal w.bins)
+  Ok (point_left w)

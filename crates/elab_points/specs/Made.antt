@@ -1,20 +1,20 @@
 -- The bins of one declaration: one of all listed numbers, one of each, or so many over which they are spread
 -- (IEEE 1800-2017, 19.5.1).
-use Rattle.std.specs.Prelude.{ℕ, ◌+◌, ◌≤◌, nat_le, ℤ, pos, int_le, unsigned_abs, List, [], ◌∷◌, ◌++◌, length, map, Option, Result, Ok, Err}
+use Rattle.std.specs.Prelude.{ℕ, ◌+◌, ◌≤◌, nat_le, ℤ, pos, int_le, unsigned_abs, List, [], ◌∷◌, ◌++◌, length, map, Result, Ok, Err}
 use Rattle.std.specs.Fmt.{decimal, signed_decimal}
 use Rattle.cov_ground.specs.Limits.{most_bins}
 use Rattle.cov_base.specs.Sets.{written, set_of, ascending}
 use Rattle.bin_spec.specs.Parts.{parts}
 use Rattle.cov_tree.specs.declared.bins.Size.{Size}
 use Rattle.cov_tree.specs.declared.bins.Size.TheVariants as sizes
-use Rattle.const_eval.specs.Terms.{Term}
 use Rattle.const_eval.specs.Scopes.{Levels}
-use Rattle.design_data.specs.declared.infos.BinKind.{BinKind}
+use Rattle.design_data.specs.declared.infos.BinRule.{BinRule}
 use Rattle.design_data.specs.declared.infos.BinRule.TheVariants.{Values}
 use Rattle.elab_base.specs.declared.fault.ElabKind.TheVariants as kind
 use Rattle.elab_base.specs.Gives.{Refusal, ◌>>=◌, needs}
 use Rattle.elab_base.specs.Steps.{number_in}
 use Rattle.elab_values.specs.declared.made.Made.{Made}
+use Rattle.elab_points.specs.declared.made.Head.{Head}
 use Rattle.elab_points.specs.declared.made.Wanted.{Wanted}
 use Rattle.elab_points.specs.declared.made.Wanted.TheVariants as wants
 use Rattle.elab_points.specs.declared.made.Plan.{Plan}
@@ -60,19 +60,23 @@ IsPlan (plans.Spread n) = (1 ≤ n) × (n ≤ most_bins)
 unfoldable pub indexed : List ℕ → List ℕ → List ℕ
 indexed name index = name ++ (91 ∷ (index ++ 93 ∷ []))
 
-abbrev pub value_bin : List ℕ → BinKind → Option Term → ℕ → List (ℤ × ℤ) → Made
-value_bin name kind guard at set = record { bin = record { name = name; kind = kind; rule = Values set; guard = guard }; at = at }
+-- a bin of a declaration, or an automatic one
+abbrev pub named_bin : Head → List ℕ → BinRule → Made
+named_bin head name rule = record { bin = record { name = name; kind = head.kind; rule = rule; guard = head.guard }; at = head.at; declared = head.declared }
+
+abbrev pub value_bin : Head → List ℕ → List (ℤ × ℤ) → Made
+value_bin head name set = named_bin head name (Values set)
 
 -- `b[v]`, v in decimal
-abbrev pub single : List ℕ → BinKind → Option Term → ℕ → ℤ → Made
-single name kind guard at v = value_bin (indexed name (signed_decimal v)) kind guard at (set_of (written ((v, v) ∷ [])))
+abbrev pub single : Head → ℤ → Made
+single head v = value_bin head (indexed head.name (signed_decimal v)) (set_of (written ((v, v) ∷ [])))
 
 -- `b[j]`, from a place j on
-abbrev pub part_bins : List ℕ → BinKind → Option Term → ℕ → ℕ → List (List (ℤ × ℤ)) → List Made
-part_bins name kind guard at j [] = []
-part_bins name kind guard at j (set ∷ sets) = value_bin (indexed name (decimal j)) kind guard at set ∷ part_bins name kind guard at (j + 1) sets
+abbrev pub part_bins : Head → ℕ → List (List (ℤ × ℤ)) → List Made
+part_bins head j [] = []
+part_bins head j (set ∷ sets) = value_bin head (indexed head.name (decimal j)) set ∷ part_bins head (j + 1) sets
 
-unfoldable pub bins_made : Plan → List ℕ → BinKind → Option Term → ℕ → List ℤ → List Made
-bins_made plans.One name kind guard at numbers = value_bin name kind guard at (set_of numbers) ∷ []
-bins_made (plans.Each distinct) name kind guard at numbers = map (single name kind guard at) distinct
-bins_made (plans.Spread n) name kind guard at numbers = part_bins name kind guard at 0 (map set_of (parts numbers n))
+unfoldable pub bins_made : Plan → Head → List ℤ → List Made
+bins_made plans.One head numbers = value_bin head head.name (set_of numbers) ∷ []
+bins_made (plans.Each distinct) head numbers = map (single head) distinct
+bins_made (plans.Spread n) head numbers = part_bins head 0 (map set_of (parts numbers n))

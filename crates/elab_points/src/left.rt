@@ -1,15 +1,15 @@
 //! What removal leaves of the bins of a point.
 ghost use Rattle.std.specs.Prelude.{◌≡◌, ◌++◌, OnOk, IfOk};
 ghost use Rattle.elab_base.specs.Gives.{Gives};
-ghost use Rattle.elab_points.specs.Left.{rule_left as left_of_rule, bin_left as left_of_bin, has_some as has_number, some_of, left_of, bins_left as left_of_bins, left_by, bins_of_point};
+ghost use Rattle.elab_points.specs.Left.{rule_left as left_of_rule, bin_left as left_of_bin, has_some as has_number, some_of, left_of, bins_left as left_of_bins, left_by, point_left as left_of_point, bins_of_point};
 
 use crate::declared::{Walked, walk_bins};
 use const_eval::Scope;
-use cov_base::{Memory, ValueSet};
-use cov_tree::{BinsDecl, List};
+use cov_base::{Int, Memory, ValueSet};
+use cov_tree::{BinsDecl, List, Name};
 use design_data::{BinInfo, BinKind, BinRule};
 use elab_base::ElabFault;
-use elab_values::{Domain, Made};
+use elab_values::{Domain, Made, PointBins, Settings};
 use std::alloc::Global;
 
 #[tactic(auto, unfolding(crate::specs::Left::rule_left))]
@@ -86,9 +86,9 @@ fn keep_left(
 ) -> Result<(), Memory>
     ensures { OnOk result (kept.new ≡ kept.old ++ left_of all.now illegal.now made) }
 {
-    let Made { bin, at } = made;
+    let Made { bin, at, declared } = made;
     let bin = bin_left(alloc, all, illegal, bin)?;
-    keep_some(Made { bin, at }, kept)
+    keep_some(Made { bin, at, declared }, kept)
 }
 
 fn bins_left(
@@ -106,17 +106,16 @@ fn bins_left(
     Ok(kept)
 }
 
-/// What removal leaves of declared bins.
+/// What removal leaves of bins, by the numbers of ignore bins and of illegal bins.
 #[tactic(auto, unfolding(crate::specs::Left::left_by))]
-fn left(alloc: Global, walked: Walked) -> Result<List<Made>, Memory>
-    ensures { IfOk result (λ bins. bins ≡ left_by walked.ignored walked.illegal walked.bins) }
+fn left(
+    alloc: Global,
+    ignored: List<(Int, Int)>,
+    illegal: List<(Int, Int)>,
+    bins: List<Made>,
+) -> Result<List<Made>, Memory>
+    ensures { IfOk result (λ left. left ≡ left_by ignored illegal bins) }
 {
-    let Walked {
-        names: _,
-        bins,
-        ignored,
-        illegal,
-    } = walked;
     let only_illegal = ValueSet::from_ranges(alloc, illegal.as_slice())?;
     let mut ranges = ignored;
     ranges.append(illegal)?;
@@ -124,17 +123,42 @@ fn left(alloc: Global, walked: Walked) -> Result<List<Made>, Memory>
     bins_left(alloc, &all, &only_illegal, bins.into_vec())
 }
 
-/// The bins of a point, of which each has something left.
+/// What is left of all that is declared.
+fn point_left(alloc: Global, walked: Walked) -> Result<PointBins, Memory>
+    ensures { IfOk result (λ found. found ≡ left_of_point walked) }
+{
+    let Walked {
+        known: _,
+        names,
+        bins,
+        ignored,
+        illegal,
+        ignored_seqs,
+        illegal_seqs,
+    } = walked;
+    let bins = left(alloc, ignored, illegal, bins)?;
+    Ok(PointBins {
+        bins,
+        names,
+        ignored: ignored_seqs,
+        illegal: illegal_seqs,
+    })
+}
+
+/// The bins of a point of this name, which stands at `at`. Each of them has something left.
 #[tactic(auto, unfolding(crate::specs::Left::bins_of_point))]
 pub fn point_bins(
     alloc: Global,
     scope: &Scope,
     domain: &Domain,
+    name: &Name,
+    settings: Settings,
     decls: &[BinsDecl],
-) -> Result<List<Made>, ElabFault>
-    ensures { Gives result (bins_of_point scope.now domain.now decls.now) }
+    at: u32,
+) -> Result<PointBins, ElabFault>
+    ensures { Gives result (bins_of_point scope.now domain.now name.now settings decls.now at) }
 {
     let walked = walk_bins(alloc, scope, domain, decls)?;
-    let bins = left(alloc, walked)?;
-    Ok(bins)
+    let found = point_left(alloc, walked)?;
+    Ok(found)
 }

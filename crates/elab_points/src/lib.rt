@@ -9,4 +9,4 @@ mod made;
 pub use built::is_built;
 pub use declared::Walked;
 pub use left::point_bins;
-pub use made::{Plan, Wanted};
+pub use made::{Head, Plan, Wanted};

@@ -1,5 +1,5 @@
 //! The bins of one declaration.
-ghost use Rattle.std.specs.Prelude.{◌≡◌, ◌≤◌, ◌+◌, ℕ, nat_le, IfOk, IfErr, OnOk, map};
+ghost use Rattle.std.specs.Prelude.{◌≡◌, ◌≤◌, ◌+◌, ℕ, nat_le, IfOk, IfErr, OnOk, map, ◌∷◌, []};
 ghost use Rattle.std.specs.Fmt.{decimal};
 ghost use Rattle.cov_ground.specs.Limits.{most_bins};
 ghost use Rattle.cov_base.specs.Sets.{written, set_of, ascending};
@@ -7,7 +7,7 @@ ghost use Rattle.bin_spec.specs.Parts.{parts as parts_of};
 ghost use Rattle.elab_base.specs.declared.fault.ElabKind.TheVariants as kinds;
 ghost use Rattle.elab_base.specs.Gives.{Gives, Fails, needs};
 ghost use Rattle.elab_points.specs.declared.made.Wanted.TheVariants.{Each};
-ghost use Rattle.elab_points.specs.Made.{IsWanted, IsPlan, wanted_in, planned, indexed, value_bin, single, part_bins, bins_made};
+ghost use Rattle.elab_points.specs.Made.{IsWanted, IsPlan, wanted_in, planned, indexed, named_bin, value_bin, single, part_bins, bins_made};
 
 use const_eval::{Bound, Scope};
 use cov_base::{Int, Memory, ValueSet};
@@ -18,6 +18,21 @@ use elab_base::{ElabFault, ElabKind, copy_guard, number_in};
 use elab_values::Made;
 use std::alloc::Global;
 use value_bins::{Elems, SpreadFault, singles, spread};
+
+/// What the bins of a declaration have in common, or the automatic ones.
+#[derive(Drop)]
+pub struct Head {
+    /// The name of the declaration.
+    pub name: Name,
+    /// The kind of its bins.
+    pub kind: BinKind,
+    /// The condition behind `iff`.
+    pub guard: Option<Bound>,
+    /// Where the declaration stands, or the point of automatic bins.
+    pub at: u32,
+    /// The place of the declaration among those of the point; None for automatic bins.
+    pub declared: Option<u32>,
+}
 
 /// How many bins a declaration asks for: `b`, `b[]`, or `b[n]`.
 #[derive(Clone, Copy, Debug, PartialEq, Eq)]
@@ -135,92 +150,62 @@ fn indexed_name(alloc: Global, name: &Name, index: &[u8]) -> Result<Name, Memory
     Ok(Name::from_vec(text))
 }
 
-/// A bin of a set of values.
+/// A bin of a declaration, or an automatic one.
 pub(crate) fn bin_of(
+    alloc: Global,
+    head: &Head,
     name: Name,
-    kind: BinKind,
-    guard: Option<Bound>,
-    at: u32,
-    set: ValueSet,
-) -> Made
-    ensures { result ≡ value_bin name kind guard at set }
+    rule: BinRule,
+) -> Result<Made, Memory>
+    ensures { IfOk result (λ made. made ≡ named_bin head.now name rule) }
 {
-    Made {
+    let guard = copy_guard(alloc, &head.guard)?;
+    Ok(Made {
         bin: BinInfo {
             name,
-            kind,
-            rule: BinRule::Values(set),
+            kind: head.kind,
+            rule,
             guard,
         },
-        at,
-    }
+        at: head.at,
+        declared: head.declared,
+    })
 }
 
-fn single_bin(
-    alloc: Global,
-    name: &Name,
-    kind: BinKind,
-    guard: &Option<Bound>,
-    at: u32,
-    value: Int,
-) -> Result<Made, Memory>
-    ensures { IfOk result (λ made. made ≡ single name.now kind guard.now at value) }
+fn single_bin(alloc: Global, head: &Head, value: Int) -> Result<Made, Memory>
+    ensures { IfOk result (λ made. made ≡ single head.now value) }
 {
     let text = value.get().to_string(alloc)?;
-    let name = indexed_name(alloc, name, text.as_bytes())?;
-    let guard = copy_guard(alloc, guard)?;
+    let name = indexed_name(alloc, &head.name, text.as_bytes())?;
     let set = ValueSet::from_ranges(alloc, &[(value, value)])?;
-    Ok(bin_of(name, kind, guard, at, set))
+    bin_of(alloc, head, name, BinRule::Values(set))
 }
 
-fn single_bins(
-    alloc: Global,
-    name: &Name,
-    kind: BinKind,
-    guard: &Option<Bound>,
-    at: u32,
-    values: &[Int],
-) -> Result<List<Made>, Memory>
-    ensures { IfOk result (λ bins. bins ≡ map (single name.now kind guard.now at) values.now) }
+fn single_bins(alloc: Global, head: &Head, values: &[Int]) -> Result<List<Made>, Memory>
+    ensures { IfOk result (λ bins. bins ≡ map (single head.now) values.now) }
 {
     let mut bins = List::new(alloc);
     for value in values {
-        bins.push(single_bin(alloc, name, kind, guard, at, *value)?)?;
+        bins.push(single_bin(alloc, head, *value)?)?;
     }
     Ok(bins)
 }
 
-fn part_bin(
-    alloc: Global,
-    name: &Name,
-    kind: BinKind,
-    guard: &Option<Bound>,
-    at: u32,
-    place: usize,
-    set: ValueSet,
-) -> Result<Made, Memory>
-    ensures { IfOk result (λ made. made ≡ value_bin (indexed name.now (decimal place)) kind guard.now at set) }
+fn part_bin(alloc: Global, head: &Head, place: usize, set: ValueSet) -> Result<Made, Memory>
+    ensures { IfOk result (λ made. made ≡ value_bin head.now (indexed head.now.name (decimal place)) set) }
 {
     let text = place.to_string(alloc)?;
-    let name = indexed_name(alloc, name, text.as_bytes())?;
-    let guard = copy_guard(alloc, guard)?;
-    Ok(bin_of(name, kind, guard, at, set))
+    let name = indexed_name(alloc, &head.name, text.as_bytes())?;
+    bin_of(alloc, head, name, BinRule::Values(set))
 }
 
-fn parts(
-    alloc: Global,
-    name: &Name,
-    kind: BinKind,
-    guard: &Option<Bound>,
-    at: u32,
-    sets: Vec<ValueSet>,
-) -> Result<List<Made>, Memory>
-    ensures { IfOk result (λ bins. bins ≡ part_bins name.now kind guard.now at 0 sets.items) }
+fn parts(alloc: Global, head: &Head, sets: Vec<ValueSet>) -> Result<List<Made>, Memory>
+    ensures { IfOk result (λ bins. bins ≡ part_bins head.now 0 sets.items) }
 {
     let mut bins = List::new(alloc);
     for set in sets {
         let place = bins.as_slice().len();
-        bins.push(part_bin(alloc, name, kind, guard, at, place, set)?)?;
+        bins.push(part_bin(alloc, head, place, set)?)?;
     }
     Ok(bins)
 }
@@ -238,31 +223,34 @@ fn spread_over(alloc: Global, elems: &Elems, bins: u32) -> Result<Vec<ValueSet>,
     }
 }
 
+/// The bin of all listed numbers.
+fn whole_bin(alloc: Global, head: &Head, elems: &Elems) -> Result<List<Made>, Memory>
+    ensures { IfOk result (λ bins. bins ≡ value_bin head.now head.now.name (set_of (written elems.now)) ∷ []) }
+{
+    let set = ValueSet::from_ranges(alloc, elems.as_slice())?;
+    let name = head.name.copy(alloc)?;
+    let mut bins = List::new(alloc);
+    bins.push(bin_of(alloc, head, name, BinRule::Values(set))?)?;
+    Ok(bins)
+}
+
 /// The bins of a declaration.
 #[tactic(auto, unfolding(crate::specs::Made::bins_made))]
 pub(crate) fn bins_of(
     alloc: Global,
     plan: &Plan,
-    name: &Name,
-    kind: BinKind,
-    guard: Option<Bound>,
-    at: u32,
+    head: &Head,
     elems: &Elems,
 ) -> Result<List<Made>, Memory>
     requires { IsPlan plan.now }
-    ensures { IfOk result (λ bins. bins ≡ bins_made plan.now name.now kind guard at (written elems.now)) }
+    ensures { IfOk result (λ bins. bins ≡ bins_made plan.now head.now (written elems.now)) }
 {
     match plan {
-        Plan::One => {
-            let set = ValueSet::from_ranges(alloc, elems.as_slice())?;
-            let mut bins = List::new(alloc);
-            bins.push(bin_of(name.copy(alloc)?, kind, guard, at, set))?;
-            Ok(bins)
-        }
-        Plan::Each { numbers } => single_bins(alloc, name, kind, &guard, at, numbers.as_slice()),
+        Plan::One => whole_bin(alloc, head, elems),
+        Plan::Each { numbers } => single_bins(alloc, head, numbers.as_slice()),
         Plan::Spread { bins } => {
             let sets = spread_over(alloc, elems, *bins)?;
-            parts(alloc, name, kind, &guard, at, sets)
+            parts(alloc, head, sets)
         }
     }
 }

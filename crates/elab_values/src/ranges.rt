@@ -1,91 +1,116 @@
-//! Range lists.
-ghost use Rattle.std.specs.Prelude.{◌≡◌};
-ghost use Rattle.cov_base.specs.Sets.{written};
+//! The numbers of range lists.
+ghost use Rattle.std.specs.Prelude.{◌≡◌, IfOk};
+ghost use Rattle.std.specs.List.{AllByRecursion};
+ghost use Rattle.cov_base.specs.Sets.{span, written};
+ghost use Rattle.design_data.specs.Limits.{HasWidth};
 ghost use Rattle.elab_base.specs.Gives.{Gives, Makes, GivesAs};
-ghost use Rattle.elab_values.specs.Ranges.{end_of, range_of, with_range, ranges_of, numbers_of};
+ghost use Rattle.elab_values.specs.Listed.{IsListed, pattern_numbers, element_numbers, with_numbers, all_numbers, numbers_listed as numbers_meant, numbers_of};
 
 use crate::domain::Domain;
+use crate::elements::{Listed, elements_of};
 use const_eval::Scope;
-use cov_base::Int;
-use cov_tree::{Elem, End, List};
-use elab_base::{ElabFault, number_in};
+use cov_base::{Int, Memory, ValueSet};
+use cov_tree::Elem;
+use elab_base::{ElabFault, ElabKind};
 use std::alloc::Global;
 use value_bins::Elems;
+use wildcard_bins::{Pattern, PatternFault};
 
-#[tactic(auto, unfolding(crate::specs::Ranges::end_of))]
-fn end(alloc: Global, scope: &Scope, dollar: Int, end: &End) -> Result<Int, ElabFault>
-    ensures { Gives result (end_of scope.now dollar end.now) }
+/// The numbers that agree with a pattern.
+#[tactic(auto, using(crate::proofs::Widths::not_too_wide), unfolding(crate::specs::Listed::pattern_numbers))]
+fn pattern_set(alloc: Global, pattern: &Pattern, at: u32) -> Result<ValueSet, ElabFault>
+    requires { HasWidth pattern.now.width }
+    ensures { GivesAs written result (pattern_numbers pattern.now at) }
 {
-    match end {
-        End::Value(expr) => number_in(alloc, scope, expr),
-        End::Dollar { .. } => Ok(dollar),
+    match pattern.as_set(alloc) {
+        Ok(set) => Ok(set),
+        Err(PatternFault::TooManyRanges { .. }) => Err(ElabKind::TooManyRanges.at(at)),
+        Err(PatternFault::Memory) => Err(ElabFault::Memory),
     }
 }
 
-#[tactic(auto, unfolding(crate::specs::Ranges::range_of))]
-fn range(
-    alloc: Global,
-    scope: &Scope,
-    domain: &Domain,
-    elem: &Elem,
-) -> Result<(Int, Int), ElabFault>
-    ensures { Gives result (range_of scope.now domain.now elem.now) }
+/// One range.
+#[tactic(auto, using(crate::proofs::Widths::one_written))]
+fn one_range(alloc: Global, low: Int, high: Int) -> Result<Vec<(Int, Int)>, Memory>
+    ensures { IfOk result (λ ranges. written ranges.items ≡ span (low, high)) }
 {
-    match elem {
-        Elem::One(expr) => {
-            let value = number_in(alloc, scope, expr)?;
-            Ok((value, value))
-        }
-        Elem::Span { low, high, .. } => {
-            let low = end(alloc, scope, domain.low, low)?;
-            let high = end(alloc, scope, domain.high, high)?;
-            Ok((low, high))
+    let mut ranges = Vec::new(alloc);
+    ranges.push((low, high))?;
+    Ok(ranges)
+}
+
+/// The numbers of an element, as ranges.
+#[tactic(auto, unfolding(crate::specs::Listed::element_numbers))]
+fn element_ranges(alloc: Global, listed: &Listed, at: u32) -> Result<Vec<(Int, Int)>, ElabFault>
+    requires { IsListed listed.now }
+    ensures { GivesAs (λ ranges. written ranges.items) result (element_numbers listed.now at) }
+{
+    match listed {
+        Listed::Range { low, high } => Ok(one_range(alloc, *low, *high)?),
+        Listed::Agreeing { pattern } => {
+            let set = pattern_set(alloc, pattern, at)?;
+            Ok(Vec::from_slice(alloc, set.intervals())?)
         }
     }
 }
 
-#[tactic(auto, unfolding(crate::specs::Ranges::with_range))]
-fn add_range(
+#[tactic(auto, using(crate::proofs::Widths::numbers_added), unfolding(crate::specs::Listed::with_numbers))]
+fn add_numbers(
     alloc: Global,
-    scope: &Scope,
-    domain: &Domain,
-    elem: &Elem,
-    ranges: &mut List<(Int, Int)>,
+    listed: &Listed,
+    at: u32,
+    ranges: &mut Vec<(Int, Int)>,
 ) -> Result<(), ElabFault>
-    ensures { Makes result ranges.new (with_range scope.now domain.now elem.now ranges.old) }
+    requires { IsListed listed.now }
+    ensures { Makes result (written ranges.new.items) (with_numbers at listed.now (written ranges.old.items)) }
 {
-    let range = range(alloc, scope, domain, elem)?;
-    ranges.push(range)?;
+    let next = element_ranges(alloc, listed, at)?;
+    ranges.extend_from_slice(next.as_slice())?;
     Ok(())
 }
 
-#[tactic(auto, unfolding(crate::specs::Ranges::ranges_of))]
-fn ranges(
-    alloc: Global,
-    scope: &Scope,
-    domain: &Domain,
-    elems: &[Elem],
-) -> Result<List<(Int, Int)>, ElabFault>
-    ensures { Gives result (ranges_of scope.now domain.now elems.now) }
+#[tactic(auto, unfolding(crate::specs::Listed::all_numbers))]
+fn all_ranges(alloc: Global, elements: &[Listed], at: u32) -> Result<Vec<(Int, Int)>, ElabFault>
+    requires { AllByRecursion IsListed elements.now }
+    ensures { GivesAs (λ ranges. written ranges.items) result (all_numbers elements.now at) }
 {
-    let mut ranges = List::new(alloc);
-    for elem in elems {
-        add_range(alloc, scope, domain, elem, &mut ranges)?;
+    let mut ranges = Vec::new(alloc);
+    for listed in elements {
+        add_numbers(alloc, listed, at, &mut ranges)?;
     }
     Ok(ranges)
 }
 
-/// The numbers that a range list lists, those of the point alone.
-#[tactic(auto, unfolding(crate::specs::Ranges::numbers_of))]
+/// The numbers that computed elements list, those of the point alone. Where the set of a literal with digits x, z or `?`
+/// has more than 65,536 intervals, the refusal is TooManyRanges at `at`.
+#[tactic(auto, unfolding(crate::specs::Listed::numbers_listed))]
+pub fn numbers_listed(
+    alloc: Global,
+    domain: &Domain,
+    elements: &[Listed],
+    at: u32,
+) -> Result<Elems, ElabFault>
+    requires { AllByRecursion IsListed elements.now }
+    ensures { GivesAs written result (numbers_meant domain.now elements.now at) }
+{
+    let ranges = all_ranges(alloc, elements, at)?;
+    let kept = Elems::of(ranges).within(alloc, &domain.numbers)?;
+    Ok(kept)
+}
+
+/// The numbers that a range list lists, those of the point alone, where nothing else is tested in between.
+#[tactic(auto, unfolding(crate::specs::Listed::numbers_of))]
 pub fn numbers(
     alloc: Global,
     scope: &Scope,
     domain: &Domain,
+    wildcard: bool,
     elems: &[Elem],
+    at: u32,
 ) -> Result<Elems, ElabFault>
-    ensures { GivesAs written result (numbers_of scope.now domain.now elems.now) }
+    ensures { GivesAs written result (numbers_of scope.now domain.now wildcard elems.now at) }
 {
-    let ranges = ranges(alloc, scope, domain, elems)?;
-    let kept = Elems::of(ranges.into_vec()).within(alloc, &domain.numbers)?;
+    let elements = elements_of(alloc, scope, domain, wildcard, elems)?;
+    let kept = numbers_listed(alloc, domain, elements.as_slice(), at)?;
     Ok(kept)
 }

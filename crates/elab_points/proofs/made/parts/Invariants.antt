@@ -3,4 +3,4 @@ use Rattle.elab_points.specs.Made.{part_bins}
 use Rattle.elab_points.proofs.made.parts.Given as goal
 
 abbrev pub invariant-loop-set : goal.invariant-loop-set
-invariant-loop-set l = l.bins ++ part_bins l.name l.kind l.guard l.at (length l.bins) l.set-iterator.rest.items ≡ part_bins l.name l.kind l.guard l.at 0 l.initial.set-iterator.rest.items
+invariant-loop-set l = l.bins ++ part_bins l.head (length l.bins) l.set-iterator.rest.items ≡ part_bins l.head 0 l.initial.set-iterator.rest.items

@@ -3,4 +3,4 @@ use Rattle.elab_points.specs.Made.{single}
 use Rattle.elab_points.proofs.made.single_bins.Given as goal
 
 abbrev pub invariant-loop-value : goal.invariant-loop-value
-invariant-loop-value l = l.bins ≡ map (single l.name l.kind l.guard l.at) (take l.value-index l.values)
+invariant-loop-value l = l.bins ≡ map (single l.head) (take l.value-index l.values)
