@@ -94,7 +94,7 @@ fails_first before xs ys (TooLong cells) h = h
 fails_first before xs ys (TooManyBins count) h = (h.0, omega (arith, h.1, ap length (news-append before xs ys), length-append (news before xs) (news (before ++ news before xs) ys)))
 fails_first before xs ys Memory h = h
 
-fails_behind : (before xs ys : List Word) (f : ExpandFault) → FailsAfter (before ++ news before xs) ys f → FailsAfter before (xs ++ ys) f
+pub fails_behind : (before xs ys : List Word) (f : ExpandFault) → FailsAfter (before ++ news before xs) ys f → FailsAfter before (xs ++ ys) f
 fails_behind before xs ys Unbounded h = h
 fails_behind before xs ys (TooLong cells) h = h
 fails_behind before xs ys (TooManyBins count) h = (h.0, omega (arith, h.1, ap length (news-append before xs ys), length-append (news before xs) (news (before ++ news before xs) ys), length-append before (news before xs)))

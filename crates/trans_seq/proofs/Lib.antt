@@ -12,3 +12,4 @@ pub mod SameLemmas
 pub mod MergeLemmas
 pub mod ReachLemmas
 pub mod WordLemmas
+pub mod MetLemmas

@@ -16,7 +16,7 @@ use Rattle.trans_seq.proofs.News.{Word, among_left, among_right, among_news}
 use Rattle.trans_seq.proofs.Counted.{no_more, listed-differ, news_from, map-same}
 use Rattle.trans_seq.proofs.Written.{from_flat_map, among-of, among-from, listed-windows}
 
-none_of : (p : Seq → Bool) (seqs : List Seq) (seq : Seq) → list_any p seqs ≡ false → Contains seqs seq → p seq ≡ false
+pub none_of : (p : Seq → Bool) (seqs : List Seq) (seq : Seq) → list_any p seqs ≡ false → Contains seqs seq → p seq ≡ false
 none_of p [] seq e h = absurd (none_in seq h)
 none_of p (x ∷ xs) seq e h =
     let parts = or_parts (p x) (list_any p xs) e in
@@ -25,7 +25,7 @@ none_of p (x ∷ xs) seq e h =
 each_of : (P : Seq → Type 0) (seqs : List Seq) (seq : Seq) → All P seqs → Contains seqs seq → P seq
 each_of P seqs seq all h = subst P h.2 (all h.0 seq h.1)
 
-among_all : (seqs : List Seq) (seq : Seq) (w : Word) → Contains seqs seq → is_among (listed seq.items) w ≡ true → is_among (lists_by_all seqs) w ≡ true
+pub among_all : (seqs : List Seq) (seq : Seq) (w : Word) → Contains seqs seq → is_among (listed seq.items) w ≡ true → is_among (lists_by_all seqs) w ≡ true
 among_all [] seq w h k = absurd (none_in seq h)
 among_all (x ∷ xs) seq w h k = elim (cases_in x xs seq h) [
   | inl same ↦ among_left (listed x.items) (lists_by_all xs) w (subst (λ y. is_among (listed y.items) w ≡ true) (sym same) k)

@@ -1,5 +1,5 @@
 -- What the inner functions of `expand` do. Public contracts cite none of it.
-use Rattle.std.specs.Prelude.{ℤ, ℕ, zero, suc, ◌≡◌, ◌+◌, ◌≤◌, ◌<◌, List, [], ◌∷◌, ◌++◌, length, map, All, Any, Contains, ⊤}
+use Rattle.std.specs.Prelude.{ℤ, ℕ, zero, suc, ◌≡◌, ◌+◌, ◌≤◌, ◌<◌, List, [], ◌∷◌, ◌++◌, length, map, take, get_or, Option, All, Any, Contains, ⊤}
 use Rattle.std.specs.Ordering.{int_eq}
 use Rattle.std.specs.List.{flat_map}
 use Rattle.std.specs.Cmp.Lexicographic.{pointwise}
@@ -12,7 +12,9 @@ use Rattle.trans_seq.specs.declared.found.Found.{Found}
 use Rattle.trans_seq.specs.declared.fault.ExpandFault.{ExpandFault}
 use Rattle.trans_seq.specs.declared.fault.ExpandFault.TheVariants.{Unbounded, TooLong, TooManyBins, Memory}
 use Rattle.trans_seq.specs.declared.seq.Item.{Item}
-use Rattle.trans_seq.specs.Lists.{lengths, choices, joined, is_among, news, all_of}
+use Rattle.trans_seq.specs.declared.seq.Seq.{Seq}
+use Rattle.trans_seq.specs.Windows.{InSeq}
+use Rattle.trans_seq.specs.Lists.{lengths, choices, joined, is_among, news, all_of, lists_by_all}
 
 -- what is new in each group, after the groups before it
 abbrev pub new_groups : List (List ℤ) → List (List (List ℤ)) → List (List (List ℤ))
@@ -88,3 +90,17 @@ AllHaveList items = All HasList items
 -- an item among these has no list
 abbrev pub SomeNoList : List Item → Type 0
 SomeNoList items = Any NoList items
+
+-- ---- sequences, one after the other
+
+-- an earlier sequence has all lists of the one at the place
+pub record IsHeldBefore (seqs : List Seq) (place : ℕ) : Type 0 where
+  pub first : ℕ
+  pub before : first < place
+  pub holds : (d : Seq) (w : List (Option ℤ)) → InSeq (get_or seqs place d).items w → InSeq (get_or seqs first d).items w
+
+-- the lists of the sequences up to the place are taken, each once
+pub record Merges (seqs : List Seq) (place : ℕ) (found : Found) : Type 0 where
+  pub holds : Holds found
+  pub groups : found.groups.items ≡ []
+  pub fresh : found.fresh.items ≡ news [] (lists_by_all (take place seqs))

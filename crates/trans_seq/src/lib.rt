@@ -5,6 +5,7 @@ mod fault;
 mod found;
 pub mod laws;
 mod listing;
+mod met;
 mod reach;
 mod seq;
 mod size;

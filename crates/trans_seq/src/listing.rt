@@ -3,12 +3,13 @@ ghost use Rattle.std.specs.Prelude.{◌≡◌, ◌+◌, ◌-◌, ◌<◌, ◌≤
 ghost use Rattle.std.specs.List.{list_any};
 ghost use Rattle.cov_base.specs.Sets.{written};
 ghost use Rattle.cov_ground.specs.Limits.{most_bins, most_cells};
-ghost use Rattle.trans_seq.specs.Found.{Holds, FailsAfter, Extends, HasList, NoList, AllHaveList, SomeNoList, fronted, new_groups, packed};
+ghost use Rattle.trans_seq.specs.Found.{Holds, FailsAfter, Merges, Extends, HasList, NoList, AllHaveList, SomeNoList, fronted, new_groups, packed};
 ghost use Rattle.trans_seq.specs.Windows.{HasWord, SomeHasWord};
 ghost use Rattle.trans_seq.specs.Lists.{lengths, choices, by_lengths, from_on, all_of, listed, is_endless, has_endless as seq_has_endless, IsShort, IsFirstLong, HasEndless, Expands, RefusesToExpand, ExpandsAll, RefusesToExpandAll, lists_by_all, listed_by_all};
 
 use crate::fault::ExpandFault;
-use crate::found::{none_found, take_group, take_length};
+use crate::found::{Found, none_found, take_group, take_length};
+use crate::met::{Met, is_held, none_met};
 use crate::seq::{Item, Repeat, Seq};
 use crate::size::cells;
 use cov_base::{Int, Memory};
@@ -194,10 +195,36 @@ fn merged(alloc: Global, seqs: &[Seq]) -> Result<Vec<List<Int>>, ExpandFault>
     ensures few { IfOk result (λ lists. length (listed_by_all seqs.now) ≤ most_bins) }
     ensures err { IfErr result (FailsAfter [] (lists_by_all seqs.now)) }
 {
+    let mut met = none_met(alloc);
     let mut found = none_found(alloc);
-    for seq in seqs {
-        let lists = expand(alloc, seq)?;
-        take_group(alloc, &[], lists.as_slice(), &mut found)?;
+    for place in 0..seqs.len() {
+        take_seq(alloc, seqs, place, &mut met, &mut found)?;
     }
     Ok(found.fresh)
+}
+
+/// Takes the lists of the sequence at a place, those of the earlier ones being taken. Where an earlier one is known to
+/// have them all, nothing is written out.
+fn take_seq(
+    alloc: Global,
+    seqs: &[Seq],
+    place: usize,
+    met: &mut Met,
+    found: &mut Found,
+) -> Result<(), ExpandFault>
+    requires within { place < length seqs.now }
+    requires bounded { list_any seq_has_endless seqs.now ≡ false }
+    requires short { All IsShort seqs.now }
+    requires merges { Merges seqs.now place found.old }
+    ensures ok { OnOk result (Merges seqs.now (place + 1) found.new) }
+    ensures err { IfErr result (FailsAfter [] (lists_by_all seqs.now)) }
+{
+    let seq = &seqs[place];
+    let held = is_held(alloc, seqs, place, met)?;
+    if held {
+        return Ok(());
+    }
+    let lists = expand(alloc, seq)?;
+    take_group(alloc, &[], lists.as_slice(), found)?;
+    Ok(())
 }

@@ -1,0 +1,11 @@
+pub mod TooMany
+pub mod OnlyLists
+pub mod Words
+pub mod Same
+pub mod OneList
+pub mod Arrays
+pub mod Written
+pub mod Declared
+pub mod Dropped
+pub mod Scalars
+pub mod Within

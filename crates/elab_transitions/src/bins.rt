@@ -1,0 +1,231 @@
+//! The bins of one declaration.
+ghost use Rattle.std.specs.Prelude.{◌≡◌, IfOk, map};
+ghost use Rattle.elab_base.specs.Gives.{Gives};
+ghost use Rattle.elab_transitions.specs.Bins.{kind_of as kind_meant, default_kind as default_meant, made_bin, list_bin as bin_of_list, bins_made as bins_of_plan, removed_by, trans_made, seqs_binned, trans_bins_of, default_bin_of};
+
+use crate::lists::{list_name, seq_of_list};
+use crate::plans::{Before, Plan, check_room, fit, is_removing};
+use crate::steps::seqs_in;
+use const_eval::{Bound, Scope};
+use cov_base::{Int, Memory};
+use cov_tree::{BinsDecl, List, Name, Step, Word};
+use design_data::{BinInfo, BinKind, BinRule};
+use elab_base::{ElabFault, copy_guard, guard_in};
+use elab_values::{Domain, Made};
+use std::alloc::Global;
+use trans_seq::Seq;
+
+/// The transition bins of a declaration.
+#[derive(Drop, Debug)]
+pub struct TransBins {
+    /// Its bins, in order.
+    pub bins: List<Made>,
+    /// The sequences that it takes away from other bins of the point, as they are declared: none under the word `bins`.
+    pub removed: List<Seq>,
+    /// How many cells the point's ignored and illegal sequences have with these.
+    pub removing: u64,
+}
+
+fn kind_of(word: Word) -> BinKind
+    ensures { result ≡ kind_meant word }
+{
+    match word {
+        Word::Bins => BinKind::CvgBin,
+        Word::Illegal => BinKind::IllegalBin,
+        Word::Ignore => BinKind::IgnoreBin,
+    }
+}
+
+fn default_kind(word: Word) -> BinKind
+    ensures { result ≡ default_meant word }
+{
+    match word {
+        Word::Bins => BinKind::DefaultBin,
+        Word::Illegal => BinKind::IllegalBin,
+        Word::Ignore => BinKind::IgnoreBin,
+    }
+}
+
+fn bin_of(
+    name: Name,
+    kind: BinKind,
+    rule: BinRule,
+    guard: Option<Bound>,
+    at: u32,
+    declared: u32,
+) -> Made
+    ensures { result ≡ made_bin name kind rule guard at declared }
+{
+    Made {
+        bin: BinInfo {
+            name,
+            kind,
+            rule,
+            guard,
+        },
+        at,
+        declared: Some(declared),
+    }
+}
+
+fn list_bin(
+    alloc: Global,
+    decl: &BinsDecl,
+    declared: u32,
+    guard: &Option<Bound>,
+    list: &[Int],
+) -> Result<Made, Memory>
+    ensures { IfOk result (λ made. made ≡ bin_of_list decl.now declared guard.now list.now) }
+{
+    let name = list_name(alloc, &decl.name, list)?;
+    let mut seqs = List::new(alloc);
+    seqs.push(seq_of_list(alloc, list)?)?;
+    let guard = copy_guard(alloc, guard)?;
+    let rule = BinRule::Trans(seqs);
+    Ok(bin_of(name, kind_of(decl.word), rule, guard, decl.at, declared))
+}
+
+fn list_bins(
+    alloc: Global,
+    decl: &BinsDecl,
+    declared: u32,
+    guard: &Option<Bound>,
+    lists: &[List<Int>],
+) -> Result<List<Made>, Memory>
+    ensures { IfOk result (λ bins. bins ≡ map (bin_of_list decl.now declared guard.now) lists.now) }
+{
+    let mut bins = List::new(alloc);
+    for list in lists {
+        bins.push(list_bin(alloc, decl, declared, guard, list.as_slice())?)?;
+    }
+    Ok(bins)
+}
+
+#[tactic(auto, unfolding(crate::specs::Bins::bins_made))]
+fn scalar_bins(
+    alloc: Global,
+    decl: &BinsDecl,
+    declared: u32,
+    guard: Option<Bound>,
+    seqs: List<Seq>,
+) -> Result<List<Made>, Memory>
+    ensures { IfOk result (λ bins. bins ≡ bins_of_plan decl.now declared Plan.One guard seqs) }
+{
+    let name = decl.name.copy(alloc)?;
+    let rule = BinRule::Trans(seqs);
+    let mut bins = List::new(alloc);
+    bins.push(bin_of(name, kind_of(decl.word), rule, guard, decl.at, declared))?;
+    Ok(bins)
+}
+
+#[tactic(auto, unfolding(crate::specs::Bins::bins_made))]
+fn bins_made(
+    alloc: Global,
+    decl: &BinsDecl,
+    declared: u32,
+    plan: Plan,
+    guard: Option<Bound>,
+    seqs: List<Seq>,
+) -> Result<List<Made>, Memory>
+    ensures { IfOk result (λ bins. bins ≡ bins_of_plan decl.now declared plan guard seqs) }
+{
+    match plan {
+        Plan::One => scalar_bins(alloc, decl, declared, guard, seqs),
+        Plan::Each { lists } => list_bins(alloc, decl, declared, &guard, lists.as_slice()),
+    }
+}
+
+fn copied(alloc: Global, seqs: &[Seq]) -> Result<List<Seq>, Memory>
+    ensures { IfOk result (λ copies. copies ≡ seqs.now) }
+{
+    let mut copies = List::new(alloc);
+    for seq in seqs {
+        copies.push(seq.copy(alloc)?)?;
+    }
+    Ok(copies)
+}
+
+fn removed_seqs(alloc: Global, word: Word, seqs: &[Seq]) -> Result<List<Seq>, Memory>
+    ensures { IfOk result (λ removed. removed ≡ removed_by word seqs.now) }
+{
+    if is_removing(word) {
+        copied(alloc, seqs)
+    } else {
+        Ok(List::new(alloc))
+    }
+}
+
+#[tactic(auto, unfolding(crate::specs::Bins::trans_made))]
+fn make_bins(
+    alloc: Global,
+    decl: &BinsDecl,
+    declared: u32,
+    plan: Plan,
+    removing: u64,
+    guard: Option<Bound>,
+    seqs: List<Seq>,
+) -> Result<TransBins, Memory>
+    ensures { IfOk result (λ made. made ≡ trans_made decl.now declared plan removing guard seqs) }
+{
+    let removed = removed_seqs(alloc, decl.word, seqs.as_slice())?;
+    let bins = bins_made(alloc, decl, declared, plan, guard, seqs)?;
+    Ok(TransBins {
+        bins,
+        removed,
+        removing,
+    })
+}
+
+#[tactic(auto, unfolding(crate::specs::Bins::seqs_binned))]
+fn bin_seqs(
+    alloc: Global,
+    scope: &Scope,
+    decl: &BinsDecl,
+    before: Before,
+    seqs: List<Seq>,
+) -> Result<TransBins, ElabFault>
+    ensures { Gives result (seqs_binned scope.now decl.now before seqs) }
+{
+    let guard = guard_in(alloc, scope, &decl.guard)?;
+    let (plan, removing) = fit(alloc, decl, before, seqs.as_slice())?;
+    let made = make_bins(alloc, decl, before.declared, plan, removing, guard, seqs)?;
+    Ok(made)
+}
+
+/// The transition bins of a declaration with these sequences: one that has them all, or under `[]` one of each list, in
+/// order, a list that was there before being left out. Its steps are elaborated first, then its guard, then its limits
+/// are tested; all of these faults but those of the steps are at the declaration.
+#[tactic(auto, unfolding(crate::specs::Bins::trans_bins_of))]
+pub fn trans_bins(
+    alloc: Global,
+    scope: &Scope,
+    domain: &Domain,
+    decl: &BinsDecl,
+    sequences: &[List<Step>],
+    before: Before,
+) -> Result<TransBins, ElabFault>
+    ensures { Gives result (trans_bins_of scope.now domain.now decl.now sequences.now before) }
+{
+    let seqs = seqs_in(alloc, scope, domain, decl.wildcard, sequences, decl.at)?;
+    let made = bin_seqs(alloc, scope, decl, before, seqs)?;
+    Ok(made)
+}
+
+/// The bin of `default sequence`: it is no coverage bin, and under `illegal_bins` an
+/// illegal one.
+#[tactic(auto, unfolding(crate::specs::Bins::default_bin_of))]
+pub fn default_bin(
+    alloc: Global,
+    scope: &Scope,
+    decl: &BinsDecl,
+    before: Before,
+) -> Result<Made, ElabFault>
+    ensures { Gives result (default_bin_of scope.now decl.now before) }
+{
+    let guard = guard_in(alloc, scope, &decl.guard)?;
+    check_room(before.bins, 1, decl.at)?;
+    let name = decl.name.copy(alloc)?;
+    let kind = default_kind(decl.word);
+    let rule = BinRule::DefaultSequence;
+    Ok(bin_of(name, kind, rule, guard, decl.at, before.declared))
+}

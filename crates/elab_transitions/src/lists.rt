@@ -1,0 +1,68 @@
+//! The bins of the lists of an array.
+ghost use Rattle.std.specs.Prelude.{◌≡◌, ◌++◌, IfOk, OnOk};
+ghost use Rattle.elab_transitions.specs.Lists.{arrowed, list_text as text_of_list, list_name as name_of_list, item_once as item_of_value, seq_of_list as seq_of_values};
+
+use cov_base::{Int, Memory, ValueSet};
+use cov_tree::{List, Name};
+use std::alloc::Global;
+use trans_seq::{Item, Repeat, Seq};
+
+fn add_arrowed(alloc: Global, value: Int, text: &mut Vec<u8>) -> Result<(), Memory>
+    ensures { OnOk result (text.new.items ≡ text.old.items ++ arrowed value) }
+{
+    text.push(b'=')?;
+    text.push(b'>')?;
+    let digits = value.get().to_string(alloc)?;
+    text.extend_from_slice(digits.as_bytes())?;
+    Ok(())
+}
+
+#[tactic(auto, unfolding(crate::specs::Lists::list_text))]
+fn list_text(alloc: Global, list: &[Int]) -> Result<Vec<u8>, Memory>
+    ensures { IfOk result (λ text. text.items ≡ text_of_list list.now) }
+{
+    let mut text = Vec::new(alloc);
+    let Some((first, rest)) = list.split_first() else {
+        return Ok(text);
+    };
+    let digits = first.get().to_string(alloc)?;
+    text.extend_from_slice(digits.as_bytes())?;
+    for value in rest {
+        add_arrowed(alloc, *value, &mut text)?;
+    }
+    Ok(text)
+}
+
+/// `name[4=>5=>6]`
+#[tactic(auto, unfolding(crate::specs::Lists::list_name))]
+pub(crate) fn list_name(alloc: Global, name: &Name, list: &[Int]) -> Result<Name, Memory>
+    ensures { IfOk result (λ text. text ≡ name_of_list name.now list.now) }
+{
+    let values = list_text(alloc, list)?;
+    let mut text = Vec::from_slice(alloc, name.as_slice())?;
+    text.push(b'[')?;
+    text.extend_from_slice(values.as_slice())?;
+    text.push(b']')?;
+    Ok(Name::from_vec(text))
+}
+
+fn item_once(alloc: Global, value: Int) -> Result<Item, Memory>
+    ensures { IfOk result (λ item. item ≡ item_of_value value) }
+{
+    let set = ValueSet::from_ranges(alloc, &[(value, value)])?;
+    Ok(Item {
+        set,
+        repeat: Repeat::Once,
+    })
+}
+
+/// The sequence that has this list alone.
+pub(crate) fn seq_of_list(alloc: Global, list: &[Int]) -> Result<Seq, Memory>
+    ensures { IfOk result (λ seq. seq ≡ seq_of_values list.now) }
+{
+    let mut items = List::new(alloc);
+    for value in list {
+        items.push(item_once(alloc, *value)?)?;
+    }
+    Ok(Seq { items })
+}
