@@ -2,6 +2,7 @@
 use crate::domain::Domain;
 use cov_tree::{List, Name};
 use design_data::BinInfo;
+use name_map::NameMap;
 use trans_seq::Seq;
 
 /// A bin on the way.
@@ -40,10 +41,10 @@ pub struct PointBins {
 }
 
 /// What a cross has to know of the declarations of an item.
-#[derive(Drop, Debug)]
+#[derive(Drop)]
 pub struct ItemDecls {
-    /// The names of its declarations of bins, in order.
-    pub names: List<Name>,
+    /// The names of its declarations of bins, each with its place among them.
+    pub names: NameMap<u32>,
     /// For each of the item's bins the place of its declaration among these; None for an automatic one.
     pub from: List<Option<u32>>,
     /// The numbers of a point; None for a cross.

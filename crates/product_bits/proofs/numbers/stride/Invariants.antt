@@ -1,0 +1,10 @@
+use Rattle.std.proofs.Common.{◌≡◌, ◌≤◌, ◌+◌, drop}
+use Rattle.cross_select.specs.Products.{product_of}
+use Rattle.product_bits.proofs.numbers.stride.Given as goal
+
+abbrev pub invariant-loop-size : goal.invariant-loop-size
+invariant-loop-size l = record {
+  some : 1 ≤ l.stride;
+  stride : l.stride ≡ product_of (drop l.size-index l.sizes);
+  left : l.left + l.size-index ≡ l.axis;
+}

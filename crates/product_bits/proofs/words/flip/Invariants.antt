@@ -1,0 +1,10 @@
+use Rattle.std.proofs.Common.{◌≡◌, ℕ, ◌*◌, ◌<◌, ◌≤◌}
+use Rattle.std.specs.Prelude.{not}
+use Rattle.product_bits.specs.Marks.{is_marked}
+use Rattle.product_bits.proofs.words.flip.Given as goal
+
+abbrev pub invariant-loop-i : goal.invariant-loop-i
+invariant-loop-i l = record {
+  done : (n : ℕ) → n < 64 * l.i → is_marked l.words n ≡ not (is_marked l.initial.words n);
+  rest : (n : ℕ) → 64 * l.i ≤ n → is_marked l.words n ≡ is_marked l.initial.words n;
+}

@@ -1,0 +1,101 @@
+//! Bits of words.
+ghost use Rattle.std.specs.Prelude.{◌≡◌, ℕ, ◌+◌, ◌*◌, ◌<◌, ◌≤◌, ◌^◌, length, nat_lt, nat_le, ◌&&◌, ◌||◌, not, Bool, true, false};
+ghost use Rattle.std.specs.Int.{bit_at};
+ghost use Rattle.product_bits.specs.Marks.{has_bit, is_marked as marked_in};
+
+/// The bits of a word.
+pub(crate) const BITS: usize = 64;
+
+/// The bits of a word from `low` up to `high`, of which there is one at least.
+fn bits_between(low: usize, high: usize) -> u64
+    requires range { (low < high) × (high ≤ 64) }
+    ensures { (bit : ℕ) → has_bit result bit ≡ (nat_le low bit && nat_lt bit high) }
+{
+    (u64::MAX << low) & (u64::MAX >> (BITS - high))
+}
+
+/// Marks the bits from `from` up to `to`.
+pub(crate) fn mark(words: &mut [u64], from: usize, to: usize)
+    requires order { from ≤ to }
+    requires wide { to ≤ 64 * length words.old }
+    ensures { (n : ℕ) → marked_in words.new n ≡ (marked_in words.old n || (nat_le from n && nat_lt n to)) }
+{
+    let mut at = from;
+    while at < to {
+        let word = at / BITS;
+        let end = at + (to - at).min(BITS - at % BITS);
+        words[word] |= bits_between(at % BITS, end - word * BITS);
+        at = end;
+    }
+}
+
+/// Whether the bit is marked.
+fn is_marked(words: &[u64], at: usize) -> bool
+    requires { at < 64 * length words.now }
+    ensures { result ≡ marked_in words.now at }
+{
+    (words[at / BITS] >> (at % BITS)) & 1 == 1
+}
+
+/// The first bit from `from` up to `to` that is marked; `to` where none is.
+pub(crate) fn first_marked(words: &[u64], from: usize, to: usize) -> usize
+    requires order { from ≤ to }
+    requires wide { to ≤ 64 * length words.now }
+    ensures range { (from ≤ result) × (result ≤ to) }
+    ensures before { (n : ℕ) → from ≤ n → n < result → marked_in words.now n ≡ false }
+    ensures at { result < to → marked_in words.now result ≡ true }
+{
+    let mut at = from;
+    while at < to {
+        if at % BITS == 0 && to - at >= BITS && words[at / BITS] == 0 {
+            at += BITS;
+        } else if !is_marked(words, at) {
+            at += 1;
+        } else {
+            return at;
+        }
+    }
+    at
+}
+
+/// The 64 bits from `from` on, as a word.
+pub(crate) fn window(words: &[u64], from: usize) -> u64
+    requires { from + 64 ≤ 64 * length words.now }
+    ensures { (bit : ℕ) → bit < 64 → has_bit result bit ≡ marked_in words.now (from + bit) }
+{
+    let word = from / BITS;
+    let skip = from % BITS;
+    if skip == 0 {
+        return words[word];
+    }
+    (words[word] >> skip) | (words[word + 1] << (BITS - skip))
+}
+
+/// Adds the marks of other words.
+pub(crate) fn unite(words: &mut [u64], others: &[u64])
+    requires { length others.now ≡ length words.old }
+    ensures { (n : ℕ) → marked_in words.new n ≡ (marked_in words.old n || marked_in others.now n) }
+{
+    for i in 0..words.len() {
+        words[i] |= others[i];
+    }
+}
+
+/// Keeps the marks that others have too.
+pub(crate) fn meet(words: &mut [u64], others: &[u64])
+    requires { length others.now ≡ length words.old }
+    ensures { (n : ℕ) → marked_in words.new n ≡ (marked_in words.old n && marked_in others.now n) }
+{
+    for i in 0..words.len() {
+        words[i] &= others[i];
+    }
+}
+
+/// Marks what isn't marked, and nothing else.
+pub(crate) fn flip(words: &mut [u64])
+    ensures { (n : ℕ) → n < 64 * length words.old → marked_in words.new n ≡ not (marked_in words.old n) }
+{
+    for i in 0..words.len() {
+        words[i] = !words[i];
+    }
+}
