@@ -1,12 +1,15 @@
+pub mod Answering
 pub mod Appended
 pub mod Counts
 pub mod Decoded
 pub mod EventLaws
+pub mod LimitTests
 pub mod Local
 pub mod LocalFields
 pub mod Loops
 pub mod Numbers
 pub mod Places
+pub mod Pushing
 pub mod Readers
 pub mod RecordLaws
 pub mod TableLaws

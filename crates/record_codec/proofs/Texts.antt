@@ -45,10 +45,10 @@ none_is : (b : Bool) (n : ℕ) → cond b (Some n) None ≡ None → b ≡ false
 none_is true n e = absurd cc
 none_is false n e = refl
 
-no_bad : (low : ℕ) (bytes : List ℕ) → position (is_bad low) bytes ≡ None → AllByRecursion (IsGood low) bytes
+pub no_bad : (low : ℕ) (bytes : List ℕ) → position (is_bad low) bytes ≡ None → AllByRecursion (IsGood low) bytes
 no_bad low bytes e = all_good low bytes (ltb-false _ _ (none_is _ _ e))
 
-good_none : (low : ℕ) (bytes : List ℕ) → AllByRecursion (IsGood low) bytes → position (is_bad low) bytes ≡ None
+pub good_none : (low : ℕ) (bytes : List ℕ) → AllByRecursion (IsGood low) bytes → position (is_bad low) bytes ≡ None
 good_none low bytes h =
     let past : ltb (position_or_len (is_bad low) bytes) (length bytes) ≡ false = le-ltb _ _ (omega (arith, none_first low bytes h)) in
     ap (λ (b : Bool). cond b (Some (position_or_len (is_bad low) bytes)) None) past

@@ -28,7 +28,7 @@ bind_same (Err e) f g same = refl
 
 -- ---- the test of a value
 
-below_same : (width n : ℕ) → n < 2 ^ 64 → ltb n (greatest width + 1) ≡ ltb n (2 ^ width)
+pub below_same : (width n : ℕ) → n < 2 ^ 64 → ltb n (greatest width + 1) ≡ ltb n (2 ^ width)
 below_same width n lt = by_width (leb 64 width) refl
   where
     wide : 64 ≤ width → 2 ^ 64 ≤ 2 ^ width

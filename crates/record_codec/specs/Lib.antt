@@ -1,3 +1,4 @@
+pub mod Builders
 pub mod Bytes
 pub mod Laws
 pub mod Limits
@@ -5,4 +6,5 @@ pub mod Making
 pub mod Reading
 pub mod Samples
 pub mod Spelling
+pub mod Starts
 pub mod Under

@@ -54,6 +54,11 @@ abbrev pub IsEvent : List SignalRow → List InstRow → Event → Type 0
 IsEvent signals instances (Set signal value) = IsSomeAnd (slice_get signals signal) (λ row. IsBits row.width value)
 IsEvent signals instances (Sample instance args) = IsSomeAnd (slice_get instances instance) (λ row. AreArgs row.args args)
 
+-- a Sample has no more values than there may be arguments
+abbrev pub HasFewArgs : Event → Type 0
+HasFewArgs (Set signal value) = Unit {0}
+HasFewArgs (Sample instance args) = length args ≤ most_arguments
+
 -- what stands before the events
 pub record IsStart (r : Fields) : Type 0 where
   pub some : 1 ≤ r.version

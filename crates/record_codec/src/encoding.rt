@@ -1,14 +1,15 @@
 //! A record as its bytes.
-ghost use Rattle.std.specs.Prelude.{◌≡◌, ◌++◌, ◌<◌, ◌^◌, ◌≤◌, length, OnOk, IfOk, Ok};
+ghost use Rattle.std.specs.Prelude.{◌≡◌, ◌++◌, ◌<◌, ◌^◌, ◌*◌, ◌≤◌, [], length, OnOk, IfOk, Ok};
 ghost use Rattle.std.specs.List.{AllByRecursion, flat_map};
 ghost use Rattle.cov_ground.specs.Limits.{longest_record, most_events, most_signals, most_instances, most_arguments};
-ghost use Rattle.record_codec.specs.Limits.{IsSignalRow, IsInstRow, IsStart};
+ghost use Rattle.record_codec.specs.Limits.{IsSignalRow, IsInstRow, IsStart, HasFewArgs};
+ghost use Rattle.record_codec.specs.Starts.{with_events};
 ghost use Rattle.record_codec.specs.Bytes.{text, arg_row, signal_row, arg_table, inst_row, set_value, event};
 ghost use Rattle.record_codec.specs.Bytes.{signal_table, instance_table, event_list, front, tables, bytes_of};
 ghost use Rattle.record_codec.specs.Spelling.{spelling, fields_of};
 ghost use Rattle.record_codec.specs.Reading.{reading};
 
-use crate::{ArgRow, Event, Fields, InstRow, Record, SignalRow};
+use crate::{ArgRow, Event, Fields, InstRow, Record, SignalRow, Start};
 use cov_base::Memory;
 use cov_tree::Name;
 use std::alloc::Global;
@@ -228,6 +229,63 @@ pub(crate) fn encoded(alloc: Global, fields: &Fields) -> Result<Vec<u8>, Memory>
         fields.events.as_slice(),
     )?;
     Ok(out)
+}
+
+/// The bytes of the record that begins so and has no events.
+pub(crate) fn encoded_start(alloc: Global, start: &Start) -> Result<Vec<u8>, Memory>
+    requires { IsStart (with_events start.now []) }
+    ensures { IfOk result (λ bytes. bytes.items ≡ bytes_of (with_events start.now [])) }
+{
+    let mut out = Vec::new(alloc);
+    append_front(
+        &mut out,
+        start.version,
+        &start.id,
+        start.status,
+        start.seed,
+        start.time,
+        &start.user,
+    )?;
+    let signals = start.signals.as_slice();
+    let instances = start.instances.as_slice();
+    append_tables(&mut out, start.version, signals, instances, &[])?;
+    Ok(out)
+}
+
+/// How many bytes a value has.
+fn value_size(value: Option<u64>) -> u64
+    ensures bytes { result ≡ length (set_value value) }
+    ensures few { result ≤ 9 }
+{
+    match value {
+        None => 1,
+        Some(_) => 9,
+    }
+}
+
+/// How many bytes the values of arguments have, of 16 at most.
+fn values_size(values: &[Option<u64>]) -> u64
+    requires { length values.now ≤ most_arguments }
+    ensures bytes { result ≡ length (flat_map set_value values.now) }
+    ensures few { result ≤ 9 * most_arguments }
+{
+    let mut size = 0;
+    for value in values {
+        size += value_size(*value);
+    }
+    size
+}
+
+/// How many bytes the event has.
+pub(crate) fn event_size(entry: &Event) -> u64
+    requires { HasFewArgs entry.now }
+    ensures { result ≡ length (event entry.now) }
+{
+    match entry {
+        Event::Set { value: None, .. } => 4,
+        Event::Set { value: Some(_), .. } => 12,
+        Event::Sample { args, .. } => 3 + values_size(args.as_slice()),
+    }
 }
 
 /// The bytes of the record: `decode` reads the record from them.

@@ -15,7 +15,7 @@ use std::alloc::{AllocError, Global};
 const LONGEST: usize = 12;
 
 /// The greatest value of so many bits, of 64 at most.
-fn most_of(width: u8) -> u64
+pub(crate) fn most_of(width: u8) -> u64
     ensures { result ≡ greatest width }
 {
     if width >= MOST_BITS {

@@ -104,8 +104,8 @@ pub(crate) fn u64_up_to(most: u64, bytes: &[u8]) -> Result<(u64, &[u8]), Fault>
     Ok((number, rest))
 }
 
-// The first byte of a text that is below `low` or above 126.
-fn first_bad(low: u8, text: &[u8]) -> Option<usize>
+/// The first byte of a text that is below `low` or above 126.
+pub(crate) fn first_bad(low: u8, text: &[u8]) -> Option<usize>
     ensures { result ≡ position (is_bad low) text.now }
 {
     text.iter().position(|byte| *byte < low || 127 <= *byte)

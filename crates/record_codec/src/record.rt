@@ -42,6 +42,19 @@ pub struct Fields {
     pub events: List<Event>,
 }
 
+/// What a record says before its events: the same fields, in the same ranges.
+#[derive(Drop, Debug)]
+pub struct Start {
+    pub version: u16,
+    pub id: Name,
+    pub status: u8,
+    pub seed: u64,
+    pub time: u64,
+    pub user: Name,
+    pub signals: List<SignalRow>,
+    pub instances: List<InstRow>,
+}
+
 /// A signal: its name of 1 to 1,024 printable bytes without spaces, its width of 1 to 64 bits, and whether it is signed.
 #[derive(Drop, Debug)]
 pub struct SignalRow {

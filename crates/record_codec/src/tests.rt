@@ -1,5 +1,6 @@
 //! Worked records of both versions, each limit at its edge, and each fault at each field.
 use super::*;
+use cov_tree::List;
 use std::alloc::Global;
 use std::process::Abort;
 use std::test::*;
@@ -117,6 +118,72 @@ fn reads_arguments(rt: HostRuntime) -> Result<(), Fail> {
     assert!(rt; samples(b, 0, &[Some(255), None]));
     assert!(rt; samples(c, 0, &[None, Some(0x8000_0000_0000_0000)]));
     reads_and_spells(&rt, &SECOND)
+}
+
+// A builder of what stands before the events of a record.
+fn begun(rt: &impl AllocGlobal, bytes: &[u8]) -> Result<RecordBuilder, Fail> {
+    if bytes.len() > 100 {
+        return Err(Fail::from("a short record"));
+    }
+    let record = decode(rt.alloc(), bytes)?;
+    let start = Start {
+        version: record.version,
+        id: record.id,
+        status: record.status,
+        seed: record.seed,
+        time: record.time,
+        user: record.user,
+        signals: record.signals,
+        instances: record.instances,
+    };
+    Ok(RecordBuilder::begin(rt.alloc(), start)?)
+}
+
+fn pushed(builder: &mut RecordBuilder, events: List<Event>) -> Result<(), Fail> {
+    for event in events.into_vec() {
+        builder.push(event)?;
+    }
+    Ok(())
+}
+
+#[test]
+fn makes_the_record_again(rt: HostRuntime) -> Result<(), Fail> {
+    let mut builder = begun(&rt, &SECOND)?;
+    let outside = Event::Set {
+        signal: 1,
+        value: None,
+    };
+    assert_eq!(rt; builder.push(outside), Err(PushFault::OtherTables));
+    pushed(&mut builder, decode(rt.alloc(), &SECOND)?.events)?;
+    let record = builder.finish()?;
+    assert_eq!(rt; encode(rt.alloc(), &record)?.as_slice(), SECOND.as_slice());
+    Ok(())
+}
+
+// What stands before the events of RECORD has 48 bytes. So many events, how long each is, and what is answered.
+static FULL: [(u32, Option<u64>, MakeFault); 3] = [
+    (1_048_577, None, MakeFault::TooManyEvents { n: 1_048_577 }),
+    (
+        1_048_600,
+        Some(1),
+        MakeFault::TooManyEvents { n: 1_048_600 },
+    ),
+    (699_047, Some(1), MakeFault::TooLong { n: 8_388_612 }),
+];
+
+#[test]
+fn tells_all_that_was_pushed(rt: HostRuntime) -> Result<(), Fail> {
+    for (count, value, fault) in FULL.iter() {
+        let mut builder = begun(&rt, &RECORD)?;
+        for _ in 0..*count {
+            builder.push(Event::Set {
+                signal: 0,
+                value: *value,
+            })?;
+        }
+        assert_eq!(rt; builder.finish().err(), Some(*fault));
+    }
+    Ok(())
 }
 
 // The one-argument record without signals: a Sample of 0 and one of Unknown.
