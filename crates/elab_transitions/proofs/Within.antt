@@ -23,7 +23,7 @@ use Rattle.design_data.specs.Bins.{seqs_of}
 use Rattle.design_data.specs.Left.{is_same_seq, has_lists, has_numbers, has_seq_left}
 use Rattle.elab_values.specs.declared.made.Made.{Made}
 use Rattle.elab_transitions.specs.Lists.{item_once, seq_of_list}
-use Rattle.elab_transitions.specs.Bins.{kind_of, is_array, is_bounded, is_short, is_within, is_removing, removing_after, removing_in, removed_by, plan_of, plan_in, bins_in, fitted, list_bin, bins_made, trans_made, seqs_binned, trans_bins_of}
+use Rattle.elab_transitions.specs.Bins.{kind_of, is_array, is_short, is_within, is_removing, removing_after, removing_in, removed_by, plan_of, plan_in, bins_in, fitted, list_bin, bins_made, trans_made, seqs_binned, trans_bins_of}
 use Rattle.elab_transitions.specs.Tests.{in_some}
 use Rattle.elab_transitions.specs.Removal.{removing_of, is_seq_left, is_trans_left}
 use Rattle.elab_transitions.specs.Laws.{IsWithin, MadeIsWithin, LeftHasSeq}
@@ -86,14 +86,10 @@ list_bins_short b declared guard (list ∷ lists) each =
     let cells = list_cells list in
     (omega (arith, few, cells), list_bins_short b declared guard lists (λ l h. each l (later_in list lists l h)))
 
-bounded_array : (any : Bool) → not (true && any) ≡ true → any ≡ false
-bounded_array true e = absurd (false≢true e)
-bounded_array false e = refl
-
-bins_short : (array : Bool) (b : BinsDecl) (declared : ℕ) (guard : Option Term) (seqs : List Seq) → is_bounded array seqs ≡ true → is_short array seqs ≡ true → AllByRecursion IsShortBin (bins_made b declared (plan_of array seqs) guard seqs)
+bins_short : (array : Bool) (b : BinsDecl) (declared : ℕ) (guard : Option Term) (seqs : List Seq) → (array ≡ true → list_any has_endless seqs ≡ false) → is_short array seqs ≡ true → AllByRecursion IsShortBin (bins_made b declared (plan_of array seqs) guard seqs)
 unfolding bins_made
 bins_short true b declared guard seqs bounded short =
-    let ends = bounded_array (list_any has_endless seqs) bounded in
+    let ends = bounded refl in
     list_bins_short b declared guard (listed_by_all seqs) (λ list h. list_length seqs list ends short ((all-windows seqs ends list).0 h))
 bins_short false b declared guard seqs bounded short = (grind (arith, short), tt)
 

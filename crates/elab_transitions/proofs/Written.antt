@@ -1,8 +1,8 @@
 -- The repetitions that steps give have each value at least once, so that a sequence with an empty set has no window.
 use Rattle.std.proofs.Common.{◌≡◌, ◌∙◌, ℕ, zero, suc, ◌≤◌, ◌+◌, ℤ, pos, negsuc, List, [], ◌∷◌, ◌++◌, length, take, drop, Bool, true, false, Option, Some, None, refl, sym, ap, subst, arith, int_le, Result, Ok}
-use Rattle.std.specs.Prelude.{◌&&◌, not, min, ◌-◌, ◌^◌}
-use Rattle.std.specs.List.{All, AllByRecursion, list_all}
-use Rattle.std.proofs.lemmas.Bool.{false≢true, true≢false}
+use Rattle.std.specs.Prelude.{◌&&◌, ◌||◌, not, min, ◌-◌, ◌^◌}
+use Rattle.std.specs.List.{All, AllByRecursion, list_all, list_any}
+use Rattle.std.proofs.lemmas.Bool.{or_parts, false≢true, true≢false}
 use Rattle.std.proofs.lemmas.Int.{ints}
 use Rattle.std.proofs.lemmas.List.Elements.{All-head}
 use Rattle.cov_base.specs.Sets.{written, set_of}
@@ -15,15 +15,19 @@ use Rattle.trans_seq.specs.declared.seq.Item.{Item}
 use Rattle.trans_seq.specs.declared.seq.Seq.{Seq}
 use Rattle.trans_seq.specs.declared.seq.Repeat.{Repeat}
 use Rattle.trans_seq.specs.declared.seq.Repeat.TheVariants.{Once, Consec, Goto, NonConsec}
+use Rattle.trans_seq.specs.Lists.{goes_on, is_endless, has_endless}
 use Rattle.trans_seq.specs.Windows.{Then, IsOne, IsBlocks, IsGoto, InRepeat, InSeq, is_known_in, is_end}
 use Rattle.design_data.specs.Left.{has_numbers, has_lists}
 use Rattle.elab_base.specs.declared.fault.ElabKind.TheVariants as kind
-use Rattle.elab_base.specs.Gives.{needs}
+use Rattle.elab_base.specs.Gives.{needs, each_at}
 use Rattle.elab_base.specs.Steps.{number_in}
-use Rattle.elab_base.proofs.Keeps.{bind_ok, ok_is, each_keeps, needs_ok, and_first, all_push}
+use Rattle.elab_base.proofs.Keeps.{bind_ok, ok_is, each_keeps, needs_ok, and_first, all_push, all_as}
 use Rattle.elab_values.specs.declared.domain.Domain.{Domain}
-use Rattle.elab_values.specs.Listed.{numbers_of}
-use Rattle.elab_transitions.specs.Steps.{capped, is_repetition, ends_of, repeat_of, item_of, with_item, items_of, seq_of, with_seq, all_seqs_of, seqs_of}
+use Rattle.elab_values.specs.Listed.{listed_in, numbers_listed}
+use Rattle.elab_values.proofs.Widths.{all_listed}
+use Rattle.elab_transitions.specs.declared.steps.ListedStep.{ListedStep}
+use Rattle.elab_transitions.specs.Bins.{any_goes_on}
+use Rattle.elab_transitions.specs.Steps.{capped, is_repetition, ends_of, repeat_of, step_of, with_step, steps_of, with_sequence, sequences_of, item_of, with_item, items_of, with_seq, seqs_of, IsStep, AreSteps}
 
 -- ---- repetitions
 
@@ -67,30 +71,101 @@ repeat_often levels (times.NonConsec low high) at repeat e =
     let b = bind_ok (ends_of levels low high at) _ repeat e in
     subst IsOften (ok_is (NonConsec b.0.0 b.0.1) repeat b.2) (ends_often levels low high at b.0 b.1)
 
-item_often : (levels : Levels) (domain : Domain) (step : Step) (items new : List Item) → with_item levels domain step items ≡ Ok new → AreOften items → AreOften new
-unfolding with_item item_of
-item_often levels domain step items new e all =
-    let i = bind_ok (item_of levels domain step) _ new e in
-    let n = bind_ok (numbers_of levels domain false step.elems step.at) _ i.0 i.1 in
-    let r = bind_ok (repeat_of levels step.times step.at) _ i.0 n.2 in
-    let often = repeat_often levels step.times step.at r.0 r.1 in
-    let here : IsOften i.0.repeat = subst (λ (x : Item). IsOften x.repeat) (ok_is _ i.0 r.2) often in
-    subst AreOften (ok_is (items ++ i.0 ∷ []) new i.2) (all_push (λ (x : Item). IsOften x.repeat) items i.0 all here)
+-- ---- the steps of a declaration
 
-seq_often : (levels : Levels) (domain : Domain) (steps : List Step) (seqs new : List Seq) → with_seq levels domain steps seqs ≡ Ok new → AllOften seqs → AllOften new
-unfolding with_seq seq_of items_of
-seq_often levels domain steps seqs new e all =
-    let s = bind_ok (seq_of levels domain steps) _ new e in
-    let i = bind_ok (items_of levels domain steps) _ s.0 s.1 in
-    let often : AreOften i.0 = each_keeps (λ k. with_item levels domain) AreOften (λ k x s t e p. item_often levels domain x s t e p) 0 steps [] i.0 i.1 tt in
-    let here : AreOften s.0.items = subst (λ (x : Seq). AreOften x.items) (ok_is (record { items = i.0 }) s.0 i.2) often in
-    subst AllOften (ok_is (seqs ++ s.0 ∷ []) new s.2) (all_push (λ (x : Seq). AreOften x.items) seqs s.0 all here)
+module _ (levels : Levels) (domain : Domain) (wildcard : Bool) (R : ListedStep → Type 0) (one : (step : Step) (listed : ListedStep) → step_of levels domain wildcard step ≡ Ok listed → R listed) where
+  step_has : (step : Step) (steps new : List ListedStep) → with_step levels domain wildcard step steps ≡ Ok new → AllByRecursion R steps → AllByRecursion R new
+  unfolding with_step
+  step_has step steps new e all =
+      let s = bind_ok (step_of levels domain wildcard step) _ new e in
+      subst (AllByRecursion R) (ok_is (steps ++ s.0 ∷ []) new s.2) (all_push R steps s.0 all (one step s.0 s.1))
 
-pub seqs_often : (levels : Levels) (domain : Domain) (wildcard : Bool) (sequences : List (List Step)) (at : ℕ) (seqs : List Seq) → seqs_of levels domain wildcard sequences at ≡ Ok seqs → AllOften seqs
-unfolding seqs_of all_seqs_of
-seqs_often levels domain wildcard sequences at seqs e =
-    let n = bind_ok (needs (not wildcard) kind.NotBuiltYet at) _ seqs e in
-    each_keeps (λ k. with_seq levels domain) AllOften (λ k x s t e p. seq_often levels domain x s t e p) 0 sequences [] seqs n.2 tt
+  sequence_has : (steps : List Step) (sequences new : List (List ListedStep)) → with_sequence levels domain wildcard steps sequences ≡ Ok new
+      → AllByRecursion (AllByRecursion R) sequences → AllByRecursion (AllByRecursion R) new
+  unfolding with_sequence steps_of
+  sequence_has steps sequences new e all =
+      let s = bind_ok (steps_of levels domain wildcard steps) _ new e in
+      let each : AllByRecursion R s.0 = each_keeps (λ k. with_step levels domain wildcard) (AllByRecursion R) (λ k x a b e p. step_has x a b e p) 0 steps [] s.0 s.1 tt in
+      subst (AllByRecursion (AllByRecursion R)) (ok_is (sequences ++ s.0 ∷ []) new s.2) (all_push (AllByRecursion R) sequences s.0 all each)
+
+  sequences_have : (written : List (List Step)) (sequences : List (List ListedStep)) → sequences_of levels domain wildcard written ≡ Ok sequences → AllByRecursion (AllByRecursion R) sequences
+  unfolding sequences_of
+  sequences_have written sequences e = each_keeps (λ k. with_sequence levels domain wildcard) (AllByRecursion (AllByRecursion R)) (λ k x a b e p. sequence_has x a b e p) 0 written [] sequences e tt
+
+one_often : (levels : Levels) (domain : Domain) (wildcard : Bool) (step : Step) (listed : ListedStep) → step_of levels domain wildcard step ≡ Ok listed → IsOften listed.repeat
+unfolding step_of
+one_often levels domain wildcard step listed e =
+    let n = bind_ok (listed_in levels domain wildcard step.elems) _ listed e in
+    let r = bind_ok (repeat_of levels step.times step.at) _ listed n.2 in
+    subst (λ (x : ListedStep). IsOften x.repeat) (ok_is _ listed r.2) (repeat_often levels step.times step.at r.0 r.1)
+
+one_wide : (levels : Levels) (domain : Domain) (wildcard : Bool) (step : Step) (listed : ListedStep) → step_of levels domain wildcard step ≡ Ok listed → IsStep listed
+unfolding step_of
+one_wide levels domain wildcard step listed e =
+    let n = bind_ok (listed_in levels domain wildcard step.elems) _ listed e in
+    let r = bind_ok (repeat_of levels step.times step.at) _ listed n.2 in
+    subst IsStep (ok_is _ listed r.2) (all_listed levels domain wildcard step.elems n.0 n.1)
+
+pub sequences_widths : (levels : Levels) (domain : Domain) (wildcard : Bool) (written : List (List Step)) (sequences : List (List ListedStep)) → sequences_of levels domain wildcard written ≡ Ok sequences → AllByRecursion AreSteps sequences
+sequences_widths levels domain wildcard = sequences_have levels domain wildcard IsStep (one_wide levels domain wildcard)
+
+pub sequences_often : (levels : Levels) (domain : Domain) (wildcard : Bool) (written : List (List Step)) (sequences : List (List ListedStep)) → sequences_of levels domain wildcard written ≡ Ok sequences
+    → AllByRecursion (AllByRecursion (λ (step : ListedStep). IsOften step.repeat)) sequences
+sequences_often levels domain wildcard = sequences_have levels domain wildcard (λ (step : ListedStep). IsOften step.repeat) (one_often levels domain wildcard)
+
+-- ---- its sequences repeat as its steps do
+
+module _ (domain : Domain) (at : ℕ) (Q : Repeat → Type 0) where
+  items_keep : (k : ℕ) (steps : List ListedStep) (items new : List Item) → each_at (λ k. with_item domain at) k steps items ≡ Ok new
+      → AllByRecursion (λ (step : ListedStep). Q step.repeat) steps → AllByRecursion (λ (item : Item). Q item.repeat) items → AllByRecursion (λ (item : Item). Q item.repeat) new
+  unfolding each_at with_item item_of
+  items_keep k [] items new e steps all = subst (AllByRecursion (λ (item : Item). Q item.repeat)) (ok_is items new e) all
+  items_keep k (step ∷ rest) items new e steps all =
+      let w = bind_ok (with_item domain at step items) (each_at (λ k. with_item domain at) (k + 1) rest) new e in
+      let i = bind_ok (item_of domain step at) _ w.0 w.1 in
+      let n = bind_ok (numbers_listed domain step.elements at) _ i.0 i.1 in
+      let here : Q i.0.repeat = subst (λ (x : Item). Q x.repeat) (ok_is _ i.0 n.2) steps.0 in
+      let more = subst (AllByRecursion (λ (item : Item). Q item.repeat)) (ok_is (items ++ i.0 ∷ []) w.0 i.2) (all_push (λ (item : Item). Q item.repeat) items i.0 all here) in
+      items_keep (k + 1) rest w.0 new w.2 steps.1 more
+
+  seqs_keep : (k : ℕ) (sequences : List (List ListedStep)) (seqs new : List Seq) → each_at (λ k. with_seq domain at) k sequences seqs ≡ Ok new
+      → AllByRecursion (AllByRecursion (λ (step : ListedStep). Q step.repeat)) sequences → AllByRecursion (λ (seq : Seq). AllByRecursion (λ (item : Item). Q item.repeat) seq.items) seqs
+      → AllByRecursion (λ (seq : Seq). AllByRecursion (λ (item : Item). Q item.repeat) seq.items) new
+  unfolding each_at with_seq items_of
+  seqs_keep k [] seqs new e sequences all = subst (AllByRecursion (λ (seq : Seq). AllByRecursion (λ (item : Item). Q item.repeat) seq.items)) (ok_is seqs new e) all
+  seqs_keep k (steps ∷ rest) seqs new e sequences all =
+      let w = bind_ok (with_seq domain at steps seqs) (each_at (λ k. with_seq domain at) (k + 1) rest) new e in
+      let i = bind_ok (items_of domain at steps) _ w.0 w.1 in
+      let here : AllByRecursion (λ (item : Item). Q item.repeat) i.0 = items_keep 0 steps [] i.0 i.1 sequences.0 tt in
+      let seq : Seq = record { items = i.0 } in
+      let more = subst (AllByRecursion (λ (s : Seq). AllByRecursion (λ (item : Item). Q item.repeat) s.items)) (ok_is (seqs ++ seq ∷ []) w.0 i.2)
+      (all_push (λ (s : Seq). AllByRecursion (λ (item : Item). Q item.repeat) s.items) seqs seq all here) in
+      seqs_keep (k + 1) rest w.0 new w.2 sequences.1 more
+
+  pub seqs_repeat : (sequences : List (List ListedStep)) (seqs : List Seq) → seqs_of domain sequences at ≡ Ok seqs → AllByRecursion (AllByRecursion (λ (step : ListedStep). Q step.repeat)) sequences
+      → AllByRecursion (λ (seq : Seq). AllByRecursion (λ (item : Item). Q item.repeat) seq.items) seqs
+  unfolding seqs_of
+  seqs_repeat sequences seqs e all = seqs_keep 0 sequences [] seqs e all tt
+
+-- ---- sequences without lists of any length
+
+none_there : {X : Type 0} (p : X → Bool) (xs : List X) → list_any p xs ≡ false → AllByRecursion (λ (x : X). p x ≡ false) xs
+none_there p [] e = tt
+none_there p (x ∷ xs) e = let parts = or_parts (p x) (list_any p xs) e in (parts.0, none_there p xs parts.1)
+
+both_false : (a b : Bool) → a ≡ false → b ≡ false → (a || b) ≡ false
+both_false true b e f = absurd (true≢false e)
+both_false false b e f = f
+
+none_back : {X : Type 0} (p : X → Bool) (xs : List X) → AllByRecursion (λ (x : X). p x ≡ false) xs → list_any p xs ≡ false
+none_back p [] all = refl
+none_back p (x ∷ xs) all = both_false (p x) (list_any p xs) all.0 (none_back p xs all.1)
+
+pub seqs_bounded : (domain : Domain) (at : ℕ) (sequences : List (List ListedStep)) (seqs : List Seq) → seqs_of domain sequences at ≡ Ok seqs → list_any any_goes_on sequences ≡ false → list_any has_endless seqs ≡ false
+seqs_bounded domain at sequences seqs e bounded =
+    let steps = all_as (λ (steps : List ListedStep). any_goes_on steps ≡ false) (AllByRecursion (λ (step : ListedStep). goes_on step.repeat ≡ false)) (λ steps h. none_there (λ (step : ListedStep). goes_on step.repeat) steps h) sequences (none_there any_goes_on sequences bounded) in
+    let items = seqs_repeat domain at (λ (r : Repeat). goes_on r ≡ false) sequences seqs e steps in
+    none_back has_endless seqs (all_as (λ (seq : Seq). AllByRecursion (λ (item : Item). goes_on item.repeat ≡ false) seq.items) (λ (seq : Seq). has_endless seq ≡ false) (λ seq h. none_back is_endless seq.items h) seqs items)
 
 -- ---- empty sets
 

@@ -13,7 +13,7 @@ use Rattle.const_eval.specs.Terms.{Term}
 use Rattle.const_eval.specs.Scopes.{Levels}
 use Rattle.trans_seq.specs.declared.seq.Seq.{Seq}
 use Rattle.trans_seq.specs.Cells.{cells_of_items, cells_of_seqs}
-use Rattle.trans_seq.specs.Lists.{has_endless, listed_by_all}
+use Rattle.trans_seq.specs.Lists.{goes_on, listed_by_all}
 use Rattle.design_data.specs.declared.infos.BinKind.{BinKind}
 use Rattle.design_data.specs.declared.infos.BinKind.TheVariants.{CvgBin, IllegalBin, IgnoreBin, DefaultBin}
 use Rattle.design_data.specs.declared.infos.BinRule.{BinRule}
@@ -27,7 +27,8 @@ use Rattle.elab_transitions.specs.declared.plans.Before.{Before}
 use Rattle.elab_transitions.specs.declared.plans.Plan.{Plan}
 use Rattle.elab_transitions.specs.declared.plans.Plan.TheVariants as plans
 use Rattle.elab_transitions.specs.declared.bins.TransBins.{TransBins}
-use Rattle.elab_transitions.specs.Steps.{seqs_of}
+use Rattle.elab_transitions.specs.declared.steps.ListedStep.{ListedStep}
+use Rattle.elab_transitions.specs.Steps.{sequences_of, seqs_of}
 use Rattle.elab_transitions.specs.Lists.{list_name, seq_of_list}
 
 -- ---- words and sizes
@@ -57,9 +58,13 @@ is_array (sizes.Fixed bins) = false
 
 -- ---- limits
 
+-- a step has lists of any length
+abbrev pub any_goes_on : List ListedStep → Bool
+any_goes_on steps = list_any (λ step. goes_on step.repeat) steps
+
 -- an array has no sequence with lists of any length
-abbrev pub is_bounded : (array : Bool) → List Seq → Bool
-is_bounded array seqs = not (array && list_any has_endless seqs)
+abbrev pub is_bounded : (array : Bool) → List (List ListedStep) → Bool
+is_bounded array sequences = not (array && list_any any_goes_on sequences)
 
 unfoldable pub is_within : Seq → Bool
 is_within seq = nat_le (cells_of_items seq.items) most_cells
@@ -97,7 +102,6 @@ plan_in array seqs have at = do
 -- the bins that a declaration's sequences make, and how many cells take windows away then
 unfoldable pub fitted : BinsDecl → Before → List Seq → Result (Plan × ℕ) Refusal
 fitted b before seqs = do
-  _ ← needs (is_bounded (is_array b.size) seqs) kind.Unbounded b.at
   _ ← needs (is_short (is_array b.size) seqs) kind.TooLong b.at
   removing ← removing_in b.word before.removing seqs b.at
   plan ← plan_in (is_array b.size) seqs before.bins b.at
@@ -123,18 +127,25 @@ removed_by word seqs = if is_removing word then seqs else []
 unfoldable pub trans_made : BinsDecl → (declared : ℕ) → Plan → ℕ → Option Term → List Seq → TransBins
 trans_made b declared plan removing guard seqs = record { bins = bins_made b declared plan guard seqs; removed = removed_by b.word seqs; removing = removing }
 
--- the bins of a declaration with these sequences
-unfoldable pub seqs_binned : Levels → BinsDecl → Before → List Seq → Result TransBins Refusal
-seqs_binned levels b before seqs = do
-  guard ← guard_in levels b.guard
+-- the bins of a declaration with these sequences and this guard
+unfoldable pub seqs_binned : BinsDecl → Before → Option Term → List Seq → Result TransBins Refusal
+seqs_binned b before guard seqs = do
   fit ← fitted b before seqs
   Ok (trans_made b before.declared fit.0 fit.1 guard seqs)
+
+-- the bins of a declaration with these steps
+unfoldable pub steps_binned : Levels → Domain → BinsDecl → Before → List (List ListedStep) → Result TransBins Refusal
+steps_binned levels domain b before sequences = do
+  guard ← guard_in levels b.guard
+  _ ← needs (is_bounded (is_array b.size) sequences) kind.Unbounded b.at
+  seqs ← seqs_of domain sequences b.at
+  seqs_binned b before guard seqs
 
 -- the bins of a declaration of transitions
 unfoldable pub trans_bins_of : Levels → Domain → BinsDecl → List (List Step) → Before → Result TransBins Refusal
 trans_bins_of levels domain b sequences before = do
-  seqs ← seqs_of levels domain b.wildcard sequences b.at
-  seqs_binned levels b before seqs
+  listed ← sequences_of levels domain b.wildcard sequences
+  steps_binned levels domain b before listed
 
 -- the bin of `default sequence`
 unfoldable pub default_bin_of : Levels → BinsDecl → Before → Result Made Refusal

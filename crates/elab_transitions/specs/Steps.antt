@@ -1,5 +1,6 @@
 -- The steps and sequences of a declaration of transition bins (IEEE 1800-2017, 19.5.2).
-use Rattle.std.specs.Prelude.{ℕ, ◌-◌, ◌^◌, min, ℤ, pos, int_le, unsigned_abs, List, [], ◌∷◌, ◌++◌, Bool, false, ◌&&◌, not, Result, Ok, Err}
+use Rattle.std.specs.Prelude.{ℕ, ◌-◌, ◌^◌, min, ℤ, pos, int_le, unsigned_abs, List, [], ◌∷◌, ◌++◌, Bool, ◌&&◌, Result, Ok, Err}
+use Rattle.std.specs.List.{AllByRecursion}
 use Rattle.cov_base.specs.Sets.{set_of}
 use Rattle.cov_tree.specs.declared.expr.Expr.{Expr}
 use Rattle.cov_tree.specs.declared.bins.Step.{Step}
@@ -14,7 +15,8 @@ use Rattle.elab_base.specs.declared.fault.ElabKind.TheVariants as kind
 use Rattle.elab_base.specs.Gives.{Refusal, ◌>>=◌, needs, each}
 use Rattle.elab_base.specs.Steps.{number_in}
 use Rattle.elab_values.specs.declared.domain.Domain.{Domain}
-use Rattle.elab_values.specs.Listed.{numbers_of}
+use Rattle.elab_values.specs.Listed.{IsListed, listed_in, numbers_listed}
+use Rattle.elab_transitions.specs.declared.steps.ListedStep.{ListedStep}
 
 -- A count, or 2^32 - 1 where it is larger. That many cells are far too many: whichever number stands for such a count,
 -- its declaration is refused.
@@ -44,37 +46,59 @@ repeat_of levels (times.NonConsec low high) at = do
   ends ← ends_of levels low high at
   Ok (NonConsec ends.0 ends.1)
 
--- a step: the set of its numbers that are the point's, and then its repetition
-unfoldable pub item_of : Levels → Domain → Step → Result Item Refusal
-item_of levels domain step = do
-  numbers ← numbers_of levels domain false step.elems step.at
+-- a step: its elements, and then its repetition
+unfoldable pub step_of : Levels → Domain → (wildcard : Bool) → Step → Result ListedStep Refusal
+step_of levels domain wildcard step = do
+  elements ← listed_in levels domain wildcard step.elems
   repeat ← repeat_of levels step.times step.at
-  Ok (record { set = set_of numbers; repeat = repeat })
+  Ok (record { elements = elements; repeat = repeat })
 
-unfoldable pub with_item : Levels → Domain → Step → List Item → Result (List Item) Refusal
-with_item levels domain step items = do
-  item ← item_of levels domain step
+unfoldable pub with_step : Levels → Domain → (wildcard : Bool) → Step → List ListedStep → Result (List ListedStep) Refusal
+with_step levels domain wildcard step steps = do
+  next ← step_of levels domain wildcard step
+  Ok (steps ++ next ∷ [])
+
+unfoldable pub steps_of : Levels → Domain → (wildcard : Bool) → List Step → Result (List ListedStep) Refusal
+steps_of levels domain wildcard steps = each (with_step levels domain wildcard) steps []
+
+unfoldable pub with_sequence : Levels → Domain → (wildcard : Bool) → List Step → List (List ListedStep) → Result (List (List ListedStep)) Refusal
+with_sequence levels domain wildcard steps sequences = do
+  next ← steps_of levels domain wildcard steps
+  Ok (sequences ++ next ∷ [])
+
+-- the steps of a declaration's sequences
+unfoldable pub sequences_of : Levels → Domain → (wildcard : Bool) → List (List Step) → Result (List (List ListedStep)) Refusal
+sequences_of levels domain wildcard sequences = each (with_sequence levels domain wildcard) sequences []
+
+-- ---- sequences
+
+-- the set of a step's numbers, those of the point alone, with its repetition
+unfoldable pub item_of : Domain → ListedStep → ℕ → Result Item Refusal
+item_of domain step at = do
+  numbers ← numbers_listed domain step.elements at
+  Ok (record { set = set_of numbers; repeat = step.repeat })
+
+unfoldable pub with_item : Domain → ℕ → ListedStep → List Item → Result (List Item) Refusal
+with_item domain at step items = do
+  item ← item_of domain step at
   Ok (items ++ item ∷ [])
 
-unfoldable pub items_of : Levels → Domain → List Step → Result (List Item) Refusal
-items_of levels domain steps = each (with_item levels domain) steps []
+unfoldable pub items_of : Domain → ℕ → List ListedStep → Result (List Item) Refusal
+items_of domain at steps = each (with_item domain at) steps []
 
--- a sequence of steps
-unfoldable pub seq_of : Levels → Domain → List Step → Result Seq Refusal
-seq_of levels domain steps = do
-  items ← items_of levels domain steps
-  Ok (record { items = items })
+unfoldable pub with_seq : Domain → ℕ → List ListedStep → List Seq → Result (List Seq) Refusal
+with_seq domain at steps seqs = do
+  items ← items_of domain at steps
+  Ok (seqs ++ record { items = items } ∷ [])
 
-unfoldable pub with_seq : Levels → Domain → List Step → List Seq → Result (List Seq) Refusal
-with_seq levels domain steps seqs = do
-  seq ← seq_of levels domain steps
-  Ok (seqs ++ seq ∷ [])
+-- the sequences of a declaration at a place: the sets of its steps' literals with digits x, z or ? are within their limit
+unfoldable pub seqs_of : Domain → List (List ListedStep) → ℕ → Result (List Seq) Refusal
+seqs_of domain sequences at = each (with_seq domain at) sequences []
 
-unfoldable pub all_seqs_of : Levels → Domain → List (List Step) → Result (List Seq) Refusal
-all_seqs_of levels domain sequences = each (with_seq levels domain) sequences []
+-- ---- what is known of steps
 
--- the sequences of a declaration at a place
-unfoldable pub seqs_of : Levels → Domain → (wildcard : Bool) → List (List Step) → ℕ → Result (List Seq) Refusal
-seqs_of levels domain wildcard sequences at = do
-  _ ← needs (not wildcard) kind.NotBuiltYet at
-  all_seqs_of levels domain sequences
+abbrev pub IsStep : ListedStep → Type 0
+IsStep step = AllByRecursion IsListed step.elements
+
+abbrev pub AreSteps : List ListedStep → Type 0
+AreSteps steps = AllByRecursion IsStep steps

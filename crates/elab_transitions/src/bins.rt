@@ -1,16 +1,19 @@
 //! The bins of one declaration.
 ghost use Rattle.std.specs.Prelude.{◌≡◌, IfOk, map};
+ghost use Rattle.std.specs.List.{AllByRecursion};
 ghost use Rattle.elab_base.specs.Gives.{Gives};
-ghost use Rattle.elab_transitions.specs.Bins.{kind_of as kind_meant, default_kind as default_meant, made_bin, list_bin as bin_of_list, bins_made as bins_of_plan, removed_by, trans_made, seqs_binned, trans_bins_of, default_bin_of};
+ghost use Rattle.elab_transitions.specs.Steps.{AreSteps};
+ghost use Rattle.elab_transitions.specs.Bins.{kind_of as kind_meant, default_kind as default_meant, made_bin, list_bin as bin_of_list, bins_made as bins_of_plan, removed_by, trans_made, seqs_binned, steps_binned, trans_bins_of, default_bin_of};
 
 use crate::lists::{list_name, seq_of_list};
-use crate::plans::{Before, Plan, check_room, fit, is_removing};
-use crate::steps::seqs_in;
+use crate::plans::{Before, Plan, check_room, fit, is_array, is_bounded, is_removing};
+use crate::seqs::seqs_in;
+use crate::steps::{ListedStep, listed_sequences};
 use const_eval::{Bound, Scope};
 use cov_base::{Int, Memory};
 use cov_tree::{BinsDecl, List, Name, Step, Word};
 use design_data::{BinInfo, BinKind, BinRule};
-use elab_base::{ElabFault, copy_guard, guard_in};
+use elab_base::{ElabFault, ElabKind, copy_guard, guard_in};
 use elab_values::{Domain, Made};
 use std::alloc::Global;
 use trans_seq::Seq;
@@ -179,22 +182,41 @@ fn make_bins(
 #[tactic(auto, unfolding(crate::specs::Bins::seqs_binned))]
 fn bin_seqs(
     alloc: Global,
-    scope: &Scope,
     decl: &BinsDecl,
     before: Before,
+    guard: Option<Bound>,
     seqs: List<Seq>,
 ) -> Result<TransBins, ElabFault>
-    ensures { Gives result (seqs_binned scope.now decl.now before seqs) }
+    ensures { Gives result (seqs_binned decl.now before guard seqs) }
 {
-    let guard = guard_in(alloc, scope, &decl.guard)?;
     let (plan, removing) = fit(alloc, decl, before, seqs.as_slice())?;
     let made = make_bins(alloc, decl, before.declared, plan, removing, guard, seqs)?;
     Ok(made)
 }
 
+#[tactic(auto, unfolding(crate::specs::Bins::steps_binned))]
+fn bin_steps(
+    alloc: Global,
+    scope: &Scope,
+    domain: &Domain,
+    decl: &BinsDecl,
+    before: Before,
+    sequences: &[List<ListedStep>],
+) -> Result<TransBins, ElabFault>
+    requires { AllByRecursion AreSteps sequences.now }
+    ensures { Gives result (steps_binned scope.now domain.now decl.now before sequences.now) }
+{
+    let guard = guard_in(alloc, scope, &decl.guard)?;
+    let array = is_array(&decl.size);
+    ElabKind::Unbounded.unless(is_bounded(array, sequences), decl.at)?;
+    let seqs = seqs_in(alloc, domain, sequences, decl.at)?;
+    let made = bin_seqs(alloc, decl, before, guard, seqs)?;
+    Ok(made)
+}
+
 /// The transition bins of a declaration with these sequences: one that has them all, or under `[]` one of each list, in
-/// order, a list that was there before being left out. Its steps are elaborated first, then its guard, then its limits
-/// are tested; all of these faults but those of the steps are at the declaration.
+/// order, a list that was there before being left out. Its steps are computed first, then its guard. Then follow, at the
+/// declaration: `Unbounded`, `TooManyRanges` of literals with digits x, z or `?`, `TooLong` and `TooManyBins`.
 #[tactic(auto, unfolding(crate::specs::Bins::trans_bins_of))]
 pub fn trans_bins(
     alloc: Global,
@@ -206,8 +228,8 @@ pub fn trans_bins(
 ) -> Result<TransBins, ElabFault>
     ensures { Gives result (trans_bins_of scope.now domain.now decl.now sequences.now before) }
 {
-    let seqs = seqs_in(alloc, scope, domain, decl.wildcard, sequences, decl.at)?;
-    let made = bin_seqs(alloc, scope, decl, before, seqs)?;
+    let listed = listed_sequences(alloc, scope, domain, decl.wildcard, sequences)?;
+    let made = bin_steps(alloc, scope, domain, decl, before, listed.as_slice())?;
     Ok(made)
 }
 

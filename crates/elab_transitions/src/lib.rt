@@ -7,9 +7,9 @@ pub mod laws;
 mod left;
 mod lists;
 mod plans;
+mod seqs;
 mod steps;
 
 pub use bins::{TransBins, default_bin, trans_bins};
 pub use left::Removers;
 pub use plans::{Before, is_array};
-pub use steps::seqs_in;

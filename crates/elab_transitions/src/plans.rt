@@ -2,17 +2,18 @@
 ghost use Rattle.std.specs.Prelude.{◌≡◌, ◌+◌, min, nat_le, ℕ, true, IfOk, IfErr};
 ghost use Rattle.std.specs.List.{list_all, list_any};
 ghost use Rattle.cov_ground.specs.Limits.{most_bins};
-ghost use Rattle.trans_seq.specs.Lists.{is_endless as has_any_length, has_endless as seq_has_endless, listed_by_all};
+ghost use Rattle.trans_seq.specs.Lists.{goes_on as repeat_goes_on, listed_by_all};
 ghost use Rattle.elab_base.specs.declared.fault.ElabKind.TheVariants as kinds;
 ghost use Rattle.elab_base.specs.Gives.{Gives, Fails, needs};
-ghost use Rattle.elab_transitions.specs.Bins.{is_removing as is_removing_word, is_array as is_array_size, is_bounded as is_bounded_by, is_within as is_within_limit, is_short as is_short_by, removing_after as removing_then, removing_in, bins_in, plan_in, fitted};
+ghost use Rattle.elab_transitions.specs.Bins.{is_removing as is_removing_word, is_array as is_array_size, any_goes_on as some_goes_on, is_bounded as is_bounded_by, is_within as is_within_limit, is_short as is_short_by, removing_after as removing_then, removing_in, bins_in, plan_in, fitted};
 
+use crate::steps::ListedStep;
 use cov_base::Int;
 use cov_ground::limits::{MOST_BINS, MOST_CELLS};
 use cov_tree::{BinsDecl, List, Size, Word};
 use elab_base::{ElabFault, ElabKind};
 use std::alloc::Global;
-use trans_seq::{ExpandFault, Item, Repeat, Seq, cells, cells_of_seqs, expand_all};
+use trans_seq::{ExpandFault, Repeat, Seq, cells, cells_of_seqs, expand_all};
 
 /// What stands before a declaration of a point.
 #[derive(Clone, Copy, Debug, PartialEq, Eq)]
@@ -55,10 +56,10 @@ pub fn is_array(size: &Size) -> bool
     }
 }
 
-fn is_endless(item: &Item) -> bool
-    ensures { result ≡ has_any_length item.now }
+fn goes_on(step: &ListedStep) -> bool
+    ensures { result ≡ repeat_goes_on step.now.repeat }
 {
-    match item.repeat {
+    match step.repeat {
         Repeat::Once => false,
         Repeat::Consec { .. } => false,
         Repeat::Goto { .. } => true,
@@ -66,22 +67,23 @@ fn is_endless(item: &Item) -> bool
     }
 }
 
-fn has_endless(items: &[Item]) -> bool
-    ensures { result ≡ list_any has_any_length items.now }
+fn any_goes_on(steps: &[ListedStep]) -> bool
+    ensures { result ≡ some_goes_on steps.now }
 {
-    items.iter().any(|item| is_endless(item))
+    steps.iter().any(|step| goes_on(step))
 }
 
-fn some_endless(seqs: &[Seq]) -> bool
-    ensures { result ≡ list_any seq_has_endless seqs.now }
+fn some_endless(sequences: &[List<ListedStep>]) -> bool
+    ensures { result ≡ list_any some_goes_on sequences.now }
 {
-    seqs.iter().any(|seq| has_endless(seq.items.as_slice()))
+    sequences.iter().any(|steps| any_goes_on(steps.as_slice()))
 }
 
-fn is_bounded(array: bool, seqs: &[Seq]) -> bool
-    ensures { result ≡ is_bounded_by array seqs.now }
+/// Whether an array has no lists of any length.
+pub(crate) fn is_bounded(array: bool, sequences: &[List<ListedStep>]) -> bool
+    ensures { result ≡ is_bounded_by array sequences.now }
 {
-    !(array && some_endless(seqs))
+    !(array && some_endless(sequences))
 }
 
 #[tactic(auto, unfolding(crate::specs::Bins::is_within))]
@@ -177,7 +179,7 @@ fn make_plan(
 }
 
 /// The bins that a declaration's sequences make, and how many cells of the point take windows away then. In this order:
-/// an array has no lists of any length, or else `Unbounded`; a bin has 120 cells at most, and so do the point's ignored
+/// a bin has 120 cells at most, and so do the point's ignored
 /// and illegal sequences together, or else `TooLong`; the point has room for the bins, or else `TooManyBins`.
 #[tactic(auto, unfolding(crate::specs::Bins::fitted))]
 pub(crate) fn fit(
@@ -189,7 +191,6 @@ pub(crate) fn fit(
     ensures { Gives result (fitted decl.now before seqs.now) }
 {
     let array = is_array(&decl.size);
-    ElabKind::Unbounded.unless(is_bounded(array, seqs), decl.at)?;
     ElabKind::TooLong.unless(is_short(array, seqs), decl.at)?;
     let removing = check_removing(decl.word, before.removing, seqs, decl.at)?;
     let plan = make_plan(alloc, array, seqs, before.bins, decl.at)?;

@@ -1,15 +1,23 @@
-//! Steps and sequences.
-ghost use Rattle.std.specs.Prelude.{◌≡◌};
-ghost use Rattle.elab_base.specs.Gives.{Gives, Makes, needs};
-ghost use Rattle.elab_transitions.specs.Steps.{capped as capped_count, is_repetition as is_repetition_of, ends_of, repeat_of, item_of, with_item, items_of, seq_of, with_seq, all_seqs_of, seqs_of};
+//! Steps of sequences.
+ghost use Rattle.std.specs.Prelude.{◌≡◌, IfOk};
+ghost use Rattle.std.specs.List.{AllByRecursion};
+ghost use Rattle.elab_base.specs.Gives.{Gives, Makes};
+ghost use Rattle.elab_transitions.specs.Steps.{capped as capped_count, is_repetition as is_repetition_of, ends_of, repeat_of, step_of, with_step, steps_of, with_sequence, sequences_of, AreSteps};
 
 use const_eval::Scope;
-use cov_base::{Int, ValueSet};
+use cov_base::Int;
 use cov_tree::{Expr, List, Step, Times};
 use elab_base::{ElabFault, ElabKind, number_in};
-use elab_values::{Domain, numbers};
+use elab_values::{Domain, Listed, elements_of};
 use std::alloc::Global;
-use trans_seq::{Item, Repeat, Seq};
+use trans_seq::Repeat;
+
+/// A step with its expressions computed.
+#[derive(Drop, Debug)]
+pub(crate) struct ListedStep {
+    pub(crate) elements: List<Listed>,
+    pub(crate) repeat: Repeat,
+}
 
 /// A count that a repetition holds: a larger one than a `u32` has far too many cells in any case.
 fn capped(count: Int) -> u32
@@ -66,101 +74,87 @@ fn repeat(alloc: Global, scope: &Scope, times: &Times, at: u32) -> Result<Repeat
     }
 }
 
-#[tactic(auto, unfolding(crate::specs::Steps::item_of))]
-fn item(alloc: Global, scope: &Scope, domain: &Domain, step: &Step) -> Result<Item, ElabFault>
-    ensures { Gives result (item_of scope.now domain.now step.now) }
-{
-    let elems = numbers(alloc, scope, domain, false, step.elems.as_slice(), step.at)?;
-    let repeat = repeat(alloc, scope, &step.times, step.at)?;
-    let set = ValueSet::from_ranges(alloc, elems.as_slice())?;
-    Ok(Item { set, repeat })
-}
-
-#[tactic(auto, unfolding(crate::specs::Steps::with_item))]
-fn add_item(
-    alloc: Global,
-    scope: &Scope,
-    domain: &Domain,
-    step: &Step,
-    items: &mut List<Item>,
-) -> Result<(), ElabFault>
-    ensures { Makes result items.new (with_item scope.now domain.now step.now items.old) }
-{
-    let item = item(alloc, scope, domain, step)?;
-    items.push(item)?;
-    Ok(())
-}
-
-#[tactic(auto, unfolding(crate::specs::Steps::items_of))]
-fn items(
-    alloc: Global,
-    scope: &Scope,
-    domain: &Domain,
-    steps: &[Step],
-) -> Result<List<Item>, ElabFault>
-    ensures { Gives result (items_of scope.now domain.now steps.now) }
-{
-    let mut items = List::new(alloc);
-    for step in steps {
-        add_item(alloc, scope, domain, step, &mut items)?;
-    }
-    Ok(items)
-}
-
-#[tactic(auto, unfolding(crate::specs::Steps::seq_of))]
-fn seq(alloc: Global, scope: &Scope, domain: &Domain, steps: &[Step]) -> Result<Seq, ElabFault>
-    ensures { Gives result (seq_of scope.now domain.now steps.now) }
-{
-    let items = items(alloc, scope, domain, steps)?;
-    Ok(Seq { items })
-}
-
-#[tactic(auto, unfolding(crate::specs::Steps::with_seq))]
-fn add_seq(
-    alloc: Global,
-    scope: &Scope,
-    domain: &Domain,
-    steps: &List<Step>,
-    seqs: &mut List<Seq>,
-) -> Result<(), ElabFault>
-    ensures { Makes result seqs.new (with_seq scope.now domain.now steps.now seqs.old) }
-{
-    let seq = seq(alloc, scope, domain, steps.as_slice())?;
-    seqs.push(seq)?;
-    Ok(())
-}
-
-#[tactic(auto, unfolding(crate::specs::Steps::all_seqs_of))]
-fn all_seqs(
-    alloc: Global,
-    scope: &Scope,
-    domain: &Domain,
-    sequences: &[List<Step>],
-) -> Result<List<Seq>, ElabFault>
-    ensures { Gives result (all_seqs_of scope.now domain.now sequences.now) }
-{
-    let mut seqs = List::new(alloc);
-    for steps in sequences {
-        add_seq(alloc, scope, domain, steps, &mut seqs)?;
-    }
-    Ok(seqs)
-}
-
-/// The sequences of a declaration at a place, in order: of each step first its numbers, those of the point alone, then its
-/// repetition, which is `BadRepeat` at the step unless 1 <= low <= high. A count above 2^32 - 1 stands as that: its
-/// sequence has too many cells in any case.
-#[tactic(auto, unfolding(crate::specs::Steps::seqs_of))]
-pub fn seqs_in(
+#[tactic(auto, unfolding(crate::specs::Steps::step_of))]
+fn listed_step(
     alloc: Global,
     scope: &Scope,
     domain: &Domain,
     wildcard: bool,
-    sequences: &[List<Step>],
-    at: u32,
-) -> Result<List<Seq>, ElabFault>
-    ensures { Gives result (seqs_of scope.now domain.now wildcard sequences.now at) }
+    step: &Step,
+) -> Result<ListedStep, ElabFault>
+    ensures { Gives result (step_of scope.now domain.now wildcard step.now) }
 {
-    ElabKind::NotBuiltYet.unless(!wildcard, at)?;
-    let seqs = all_seqs(alloc, scope, domain, sequences)?;
-    Ok(seqs)
+    let elements = elements_of(alloc, scope, domain, wildcard, step.elems.as_slice())?;
+    let repeat = repeat(alloc, scope, &step.times, step.at)?;
+    Ok(ListedStep { elements, repeat })
+}
+
+#[tactic(auto, unfolding(crate::specs::Steps::with_step))]
+fn add_step(
+    alloc: Global,
+    scope: &Scope,
+    domain: &Domain,
+    wildcard: bool,
+    step: &Step,
+    steps: &mut List<ListedStep>,
+) -> Result<(), ElabFault>
+    ensures { Makes result steps.new (with_step scope.now domain.now wildcard step.now steps.old) }
+{
+    let next = listed_step(alloc, scope, domain, wildcard, step)?;
+    steps.push(next)?;
+    Ok(())
+}
+
+#[tactic(auto, unfolding(crate::specs::Steps::steps_of))]
+fn listed_steps(
+    alloc: Global,
+    scope: &Scope,
+    domain: &Domain,
+    wildcard: bool,
+    sequence: &[Step],
+) -> Result<List<ListedStep>, ElabFault>
+    ensures { Gives result (steps_of scope.now domain.now wildcard sequence.now) }
+{
+    let mut steps = List::new(alloc);
+    for step in sequence {
+        add_step(alloc, scope, domain, wildcard, step, &mut steps)?;
+    }
+    Ok(steps)
+}
+
+#[tactic(auto, unfolding(crate::specs::Steps::with_sequence))]
+fn add_sequence(
+    alloc: Global,
+    scope: &Scope,
+    domain: &Domain,
+    wildcard: bool,
+    sequence: &List<Step>,
+    sequences: &mut List<List<ListedStep>>,
+) -> Result<(), ElabFault>
+    ensures { Makes result sequences.new (with_sequence scope.now domain.now wildcard sequence.now sequences.old) }
+{
+    let next = listed_steps(alloc, scope, domain, wildcard, sequence.as_slice())?;
+    sequences.push(next)?;
+    Ok(())
+}
+
+/// The steps of a declaration's sequences, in order: of each step first its elements, then its repetition, which is
+/// `BadRepeat` at the step unless 1 <= low <= high. A count above 2^32 - 1 stands as that: its sequence has too many cells
+/// in any case.
+#[tactic(auto, unfolding(crate::specs::Steps::sequences_of))]
+pub(crate) fn listed_sequences(
+    alloc: Global,
+    scope: &Scope,
+    domain: &Domain,
+    wildcard: bool,
+    written: &[List<Step>],
+) -> Result<List<List<ListedStep>>, ElabFault>
+    ensures gives { Gives result (sequences_of scope.now domain.now wildcard written.now) }
+    ensures steps { IfOk result (λ sequences. AllByRecursion AreSteps sequences) }
+{
+    let mut sequences = List::new(alloc);
+    for sequence in written {
+        add_sequence(alloc, scope, domain, wildcard, sequence, &mut sequences)?;
+    }
+    Ok(sequences)
 }

@@ -1,7 +1,7 @@
 use Rattle.std.proofs.lemmas.Result.{err_from_is_err_and}
 use Rattle.elab_transitions.specs.Steps.{items_of}
 use Rattle.elab_base.proofs.Folds.{left_more, left_stops, left_done}
-use Rattle.elab_transitions.proofs.steps.items.Goals as goal
+use Rattle.elab_transitions.proofs.seqs.items.Goals as goal
 
 pub returns-in_err-add_item : goal.returns-in_err-add_item
 unfolding items_of

@@ -2,7 +2,7 @@ use Rattle.std.proofs.Common.{[]}
 use Rattle.elab_base.specs.Gives.{each}
 use Rattle.elab_transitions.specs.Steps.{with_item}
 use Rattle.elab_base.proofs.Folds.{Left}
-use Rattle.elab_transitions.proofs.steps.items.Given as goal
+use Rattle.elab_transitions.proofs.seqs.items.Given as goal
 
 abbrev pub invariant-loop-step : goal.invariant-loop-step
-invariant-loop-step l = Left (λ k. with_item l.scope l.domain) l.step-index l.steps l.items (each (with_item l.scope l.domain) l.steps [])
+invariant-loop-step l = Left (λ k. with_item l.domain l.at) l.step-index l.steps l.items (each (with_item l.domain l.at) l.steps [])
