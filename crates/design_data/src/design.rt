@@ -2,8 +2,11 @@
 ghost use Rattle.std.specs.Prelude.{◌≡◌};
 ghost use Rattle.design_data.specs.Limits.{IsDesign, IsDesign-prop};
 
+use crate::testing::is_design;
 use crate::{GroupInfo, InstInfo, Signal};
+use cov_ground::Memory;
 use cov_tree::List;
+use std::alloc::Global;
 
 /// A design. It is always within its limits: whoever makes one shows them.
 #[derive(Drop, Debug)]
@@ -16,6 +19,10 @@ pub struct Design {
 }
 
 impl Design {
+    ghost use Rattle.std.specs.Prelude.{◌≡◌, IfOk};
+    ghost use Rattle.design_data.specs.Limits.{IsDesign};
+    ghost use Rattle.design_data.specs.Testing.{IsTested};
+
     /// The design of these parts, of which the caller knows that they are one. It tests nothing and takes no memory.
     pub fn of(
         signals: List<Signal>,
@@ -35,6 +42,31 @@ impl Design {
             instances,
             bin_count,
         }
+    }
+
+    /// The design of these parts, if they are one: exactly where all limits hold, each index is one, each bin has
+    /// something left, and the bins are numbered from 0 without a gap. All products of a cross with declared bins are
+    /// tried, and the instances, 1,024 at most, are looked through for each group; else it takes linear time.
+    pub fn tested(
+        alloc: Global,
+        signals: List<Signal>,
+        groups: List<GroupInfo>,
+        instances: List<InstInfo>,
+        bin_count: u32,
+    ) -> Result<Option<Design>, Memory>
+        ensures { IfOk result (IsTested signals groups instances bin_count) }
+    {
+        let is_design = is_design(
+            alloc,
+            signals.as_slice(),
+            groups.as_slice(),
+            instances.as_slice(),
+            bin_count,
+        )?;
+        if !is_design {
+            return Ok(None);
+        }
+        Ok(Some(Design::of(signals, groups, instances, bin_count)))
     }
 
     /// The signals, in order of declaration.

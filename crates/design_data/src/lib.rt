@@ -5,6 +5,11 @@
 mod crosses;
 mod design;
 mod infos;
+mod items;
+mod left;
+mod numbers;
+mod rules;
+mod testing;
 
 pub use crosses::{has, products, sizes};
 pub use design::Design;

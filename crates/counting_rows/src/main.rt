@@ -1,0 +1,77 @@
+//! Worked rows of `cov_counting`: each line of standard input is a design in postfix words, ` : `, and samples. It is
+//! written again with the count of each of the design's bins behind ` = `, or with `no design` where the parts are none.
+//! The file `stdout` has the counts, written by hand after IEEE 1800-2017, clause 19.
+#![tactic(auto)]
+
+mod designs;
+mod making;
+mod samples;
+
+use cov_counting::tally_by_definition;
+use design_data::Design;
+use record_codec::Record;
+use std::alloc::Global;
+use std::io;
+use std::io::{Input, Print};
+use std::process::ExitCode;
+
+/// Writes the counts behind a row.
+fn show_counts<R: Print>(rt: &R, line: &str, counts: &[u64]) -> io::Result<()> {
+    print!(rt; "{line} =")?;
+    for count in counts {
+        print!(rt; " {count}")?;
+    }
+    println!(rt; "")
+}
+
+/// Writes a row with its counts.
+fn show<R: Print>(
+    rt: &R,
+    alloc: Global,
+    line: &str,
+    design: &Design,
+    record: &Record,
+) -> io::Result<()> {
+    match tally_by_definition(alloc, design, record) {
+        Ok(counts) => show_counts(rt, line, counts.as_slice()),
+        Err(_) => println!(rt; "{line} : no counts"),
+    }
+}
+
+/// Writes a row of a design with its answer.
+fn show_samples<R: Print>(
+    rt: &R,
+    alloc: Global,
+    line: &str,
+    design: &Design,
+    events: &str,
+) -> io::Result<()> {
+    match samples::record(alloc, design, events) {
+        Some(record) => show(rt, alloc, line, design, &record),
+        None => println!(rt; "{line} = no record"),
+    }
+}
+
+/// Writes a row with its answer.
+fn row<R: Print>(rt: &R, alloc: Global, line: &str) -> io::Result<()> {
+    let Some((parts, events)) = line.split_once(':') else {
+        return println!(rt; "{line} : no row");
+    };
+    match designs::design(alloc, parts) {
+        Some(design) => show_samples(rt, alloc, line, &design, events),
+        None => println!(rt; "{line} = no design"),
+    }
+}
+
+/// Writes all rows.
+fn rows<R: Input + Print>(rt: &R, alloc: Global) -> io::Result<()> {
+    for line in rt.lines(alloc) {
+        row(rt, alloc, line?.as_str())?;
+    }
+    Ok(())
+}
+
+fn main(rt: HostRuntime) -> ExitCode {
+    let alloc = rt.alloc();
+    ExitCode::from(if rows(&rt, alloc).is_ok() { 0 } else { 1 })
+}

@@ -1,0 +1,7 @@
+use Rattle.std.proofs.Common.{◌≡◌, take, true, false}
+use Rattle.std.specs.List.{list_any, list_all, AllByRecursion}
+use Rattle.design_data.specs.Crosses.{has}
+use Rattle.design_data.proofs.rules.has_some.Given as goal
+
+abbrev pub invariant-loop-product : goal.invariant-loop-product
+invariant-loop-product l = list_any (has l.bins l.kind l.rule) (take l.product-index l.products) ≡ false
