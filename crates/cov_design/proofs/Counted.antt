@@ -1,6 +1,6 @@
 -- What counting the bins of an item adds.
-use Rattle.std.proofs.Common.{◌≡◌, ◌∙◌, ℕ, suc, ◌+◌, ◌≤◌, List, [], ◌∷◌, length, map, refl, sym, ap, subst, Bool, true, false, arith, Result, Ok, Err}
-use Rattle.std.specs.Prelude.{nat_le, nat_lt, ◌&&◌, not, ◌==◌}
+use Rattle.std.proofs.Common.{◌≡◌, ◌∙◌, ℕ, suc, ◌+◌, ◌≤◌, List, [], ◌∷◌, length, map, refl, ap, subst, true, arith, Ok}
+use Rattle.std.specs.Prelude.{nat_le, nat_lt, ◌&&◌}
 use Rattle.std.specs.List.{AllByRecursion}
 use Rattle.cov_ground.specs.Limits.{most_ranges, most_design_bins, most_design_ranges}
 use Rattle.design_data.specs.declared.infos.BinInfo.{BinInfo}

@@ -1,14 +1,13 @@
 -- What was declared, numbered, is a design.
-use Rattle.std.proofs.Common.{◌≡◌, ◌∙◌, ℕ, ◌+◌, ◌<◌, ◌≤◌, List, [], ◌∷◌, length, map, refl, sym, ap, subst, arith}
+use Rattle.std.proofs.Common.{ℕ, ◌+◌, ◌<◌, List, [], ◌∷◌, length, refl, arith}
 use Rattle.std.specs.List.{AllByRecursion}
-use Rattle.cov_ground.specs.Limits.{most_instances, most_items, most_arguments, most_design_bins, most_design_ranges}
 use Rattle.design_data.specs.declared.infos.BinInfo.{BinInfo}
 use Rattle.design_data.specs.declared.infos.ItemInfo.{ItemInfo}
 use Rattle.design_data.specs.declared.infos.InstInfo.{InstInfo}
 use Rattle.design_data.specs.declared.infos.ItemShape.{ItemShape}
 use Rattle.design_data.specs.declared.infos.ItemShape.TheVariants.{Point, Cross}
-use Rattle.design_data.specs.Bins.{bins_in, items_in, numbered_items, total}
-use Rattle.design_data.specs.Limits.{HasWidth, IsItem, IsShape, IsInstance, IsDesign, ranges_of, ranges_in}
+use Rattle.design_data.specs.Bins.{total}
+use Rattle.design_data.specs.Limits.{IsItem, IsShape, IsInstance, IsDesign, ranges_of}
 use Rattle.elab_base.proofs.Keeps.{all_as}
 use Rattle.elab_order.specs.declared.numbers.Load.{Load}
 use Rattle.elab_order.specs.Order.{items_numbered, first_of, numbered_from, numbered}
@@ -30,13 +29,10 @@ items_stay : (items : List ItemInfo) (n : ℕ) (xs : List ItemInfo) → AllByRec
 items_stay items n [] all = tt
 items_stay items n (x ∷ xs) all = (item_stays items x n (all.0 items), items_stay items (n + length x.bins) xs all.1)
 
-no_args : (inst : InstInfo) → inst.args ≡ [] → (length inst.args ≤ most_arguments) × AllByRecursion (λ arg. HasWidth arg.width) inst.args
-no_args inst e = (let h = ap length e in omega (arith, h), subst (AllByRecursion (λ arg. HasWidth arg.width)) (sym e) tt)
-
 inst_stays : (groups n : ℕ) (inst : InstInfo) → IsDeclared groups inst → IsInstance groups (record inst { items = items_numbered n inst.items })
 inst_stays groups n inst d =
-    let args = no_args inst d.args in
-    record { group = d.group; arg_count = args.0; args = args.1; items = items_stay (items_numbered n inst.items) n inst.items d.items }
+    let args = d.args in
+    record { group = d.group; arg_count = args.few; args = args.widths; items = items_stay (items_numbered n inst.items) n inst.items d.items }
 
 from_stay : (groups : ℕ) (loads : List Load) (i : ℕ) (insts : List InstInfo) → AllByRecursion (IsDeclared groups) insts → AllByRecursion (IsInstance groups) (numbered_from loads i insts)
 from_stay groups loads i [] all = tt
@@ -48,7 +44,7 @@ all_stay groups insts all = from_stay groups _ 0 insts all
 
 -- ---- the design
 
-pub design_is : (known : Known) → IsKnown known → IsDesign known.signals known.groups (numbered known.instances) known.counts.bins
+pub design_is : (known : Known) → IsKnown known → IsDesign known.outside.signals known.groups (numbered known.instances) known.counts.bins
 design_is known k =
     let insts = known.instances in
     let below = all_as (IsDeclared (length known.groups)) (λ (inst : InstInfo). inst.group < length known.groups) (λ inst d. d.group) insts k.each in
@@ -63,8 +59,8 @@ design_is known k =
     let few_r = k.few_ranges in
     let count = k.instance_count in
     record {
-      signal_count = k.signal_count;
-      widths = k.widths;
+      signal_count = k.outside.few;
+      widths = k.outside.widths;
       instance_count = omega (arith, count, length');
       item_count = omega (arith, i, few_i, items');
       each = all_stay (length known.groups) insts k.each;

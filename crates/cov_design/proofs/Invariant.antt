@@ -1,128 +1,110 @@
 -- What was declared is within all limits.
-use Rattle.std.proofs.Common.{◌≡◌, ◌∙◌, ℕ, suc, ◌+◌, ◌<◌, ◌≤◌, List, [], ◌∷◌, ◌++◌, length, map, refl, sym, ap, subst, Bool, true, false, arith, Option, Some, None, Result, Ok, Err}
-use Rattle.std.specs.Prelude.{ℤ, pos, negsuc, ◌-ℤ◌, int_le, int_lt, unsigned_abs, nat_le, nat_lt, ◌&&◌, slice_get}
+use Rattle.std.proofs.Common.{◌≡◌, ℕ, ◌+◌, ◌<◌, ◌≤◌, List, [], ◌∷◌, ◌++◌, length, refl, sym, ap, subst, true, arith, Option, Some, None, Ok}
+use Rattle.std.specs.Prelude.{nat_lt, set}
 use Rattle.std.specs.List.{AllByRecursion}
-use Rattle.std.proofs.lemmas.List.{length-append, length_push}
-use Rattle.cov_ground.specs.Limits.{most_signals, most_instances, most_items, most_bins, most_bits, longest_design, most_design_bins, most_design_ranges}
-use Rattle.name_map.specs.Names.{meaning_of, with_name}
+use Rattle.std.proofs.lemmas.List.{length_push, length-set}
+use Rattle.cov_ground.specs.Limits.{most_instances, most_items, most_design_bins, most_design_ranges}
+use Rattle.name_map.specs.Names.{Pairs, meaning_of}
+use Rattle.cov_tree.specs.declared.expr.Expr.{Expr}
 use Rattle.cov_tree.specs.declared.groups.Member.{Member}
 use Rattle.cov_tree.specs.declared.groups.Member.TheVariants as members
 use Rattle.cov_tree.specs.declared.groups.PointDecl.{PointDecl}
 use Rattle.cov_tree.specs.declared.declarations.TypeText.{TypeText}
-use Rattle.cov_tree.specs.declared.declarations.TypeText.TheVariants as texts
 use Rattle.cov_tree.specs.declared.declarations.Decl.{Decl}
 use Rattle.cov_tree.specs.declared.declarations.Decl.TheVariants as decls
-use Rattle.const_eval.specs.Terms.{Term, typ_of}
-use Rattle.const_eval.specs.Scopes.{Levels}
+use Rattle.const_eval.specs.Terms.{typ_of}
 use Rattle.const_eval.specs.Binding.{has_width}
-use Rattle.design_data.specs.declared.infos.Signal.{Signal}
+use Rattle.cov_options.specs.declared.values.Level.TheVariants as levels
+use Rattle.cov_options.specs.Table.{defaults}
 use Rattle.design_data.specs.declared.infos.GroupInfo.{GroupInfo}
 use Rattle.design_data.specs.declared.infos.InstInfo.{InstInfo}
 use Rattle.design_data.specs.declared.infos.ItemInfo.{ItemInfo}
 use Rattle.design_data.specs.declared.infos.BinInfo.{BinInfo}
-use Rattle.design_data.specs.Bins.{bins_in, items_in, total}
-use Rattle.design_data.specs.Limits.{HasWidth, IsItem, ranges_of, ranges_in}
+use Rattle.design_data.specs.Bins.{bins_in, total}
+use Rattle.design_data.specs.Limits.{ranges_of, ranges_in}
 use Rattle.elab_base.specs.declared.fault.ElabKind.TheVariants as kind
 use Rattle.elab_base.specs.declared.names.What.{What}
 use Rattle.elab_base.specs.declared.names.What.TheVariants as what
-use Rattle.elab_base.specs.Gives.{needs, each_at}
-use Rattle.elab_base.specs.Steps.{unused, bound_in, guard_in, number_in}
-use Rattle.elab_base.proofs.Keeps.{bind_ok, ok_is, each_keeps, needs_ok, and_first, and_second, all_push, all_as}
+use Rattle.elab_base.specs.Gives.{needs}
+use Rattle.elab_base.specs.Steps.{unused, bound_in, guard_in}
+use Rattle.elab_base.proofs.Keeps.{bind_ok, ok_is, each_keeps, needs_ok, all_push, all_as}
+use Rattle.elab_decls.specs.declared.outside.Outside.{Outside}
+use Rattle.elab_decls.specs.declared.formals.Formals.{Formals}
+use Rattle.elab_decls.specs.Enumerations.{enumeration}
+use Rattle.elab_decls.specs.Variables.{variable}
+use Rattle.elab_decls.specs.Formals.{args_fit, formals_of}
+use Rattle.elab_decls.specs.Options.{options_set, group_options, point_defaults}
+use Rattle.elab_decls.specs.Invariant.{IsOutside, AreArguments, CountsHits}
+use Rattle.elab_decls.proofs.Widths.{tested_width}
+use Rattle.elab_decls.proofs.Kept.{variable_keeps, enumeration_keeps, formals_are}
+use Rattle.elab_decls.proofs.Hits.{options_keep, group_keeps}
 use Rattle.elab_values.specs.declared.made.Made.{Made}
-use Rattle.elab_values.specs.Domains.{domain_of_typ}
 use Rattle.elab_points.specs.Left.{bins_of_point}
-use Rattle.elab_points.proofs.Kept.{AreLeft, few_left}
+use Rattle.elab_points.proofs.Kept.{AreLeft, point_left}
 use Rattle.elab_order.proofs.Numbering.{total-append}
 use Rattle.cov_design.specs.declared.counts.Counts.{Counts}
 use Rattle.cov_design.specs.declared.known.Known.{Known}
 use Rattle.cov_design.specs.declared.points.Items.{Items}
-use Rattle.cov_design.specs.declared.variables.Shape.{Shape}
+use Rattle.cov_design.specs.declared.points.Inside.{Inside}
+use Rattle.cov_design.specs.declared.points.Head.{Head}
+use Rattle.cov_design.specs.declared.instances.Body.{Body}
 use Rattle.cov_design.specs.Counting.{bins_counted}
-use Rattle.cov_design.specs.Variables.{is_span, span_shape, plain_shape, shape_of, with_signal, variable}
-use Rattle.cov_design.specs.Points.{point_name, point_item, default_settings, with_point, bound_point, named_point, member, no_items, members_walked}
-use Rattle.cov_design.specs.Walk.{group_info, groups_fit, group, group_meant, members_of, inst_info, with_instance, instance, declared, nothing, walked}
+use Rattle.cov_design.specs.Domains.{domain_of_point}
+use Rattle.cov_design.specs.Points.{point_name, point_item, with_point, head_of, headed_point, named_point, member, no_items, members_walked}
+use Rattle.cov_design.specs.Groups.{group_info, named, groups_fit, group}
+use Rattle.cov_design.specs.Instances.{formals_at, samples_at, members_at, group_meant, entered, body_walked, inst_info, with_instance, instance_of, instance}
+use Rattle.cov_design.specs.Walk.{outside_step, declared, nothing, walked}
 use Rattle.cov_design.specs.Invariant.{IsAlone, IsDeclared, IsKnown}
 use Rattle.cov_design.proofs.Counted.{Counted, counted, length-infos, ranges-infos, point_rules}
 
--- ---- types
+-- ---- what is declared outside groups
 
-tested_width : (width : ℕ) → has_width width ≡ true → HasWidth width
-tested_width width e =
-    let low = and_first (nat_le 1 width) (nat_le width 64) e in
-    let high = and_second (nat_le 1 width) (nat_le width 64) e in
-    (grind (arith, low), grind (arith, high))
+outside_known : (known : Known) (outside : Outside) → IsKnown known → IsOutside outside → IsKnown (record known { outside = outside })
+outside_known known outside k o = record {
+  outside = o;
+  instance_count = k.instance_count;
+  each = k.each;
+  items = k.items;
+  few_items = k.few_items;
+  bins = k.bins;
+  few_bins = k.few_bins;
+  ranges = k.ranges;
+  few_ranges = k.few_ranges;
+}
 
-difference : (d : ℤ) → int_le (pos 0) d ≡ true → int_lt d (pos 64) ≡ true → HasWidth (unsigned_abs d + 1)
-difference (pos n) low high = let lt : n < 64 = grind (arith, high) in (omega arith, omega (arith, lt))
-difference (negsuc n) low high = absurd (grind (arith, low))
+variable_known : (typ : TypeText) (name : List ℕ) (at : ℕ) (s t : Known) → outside_step (variable typ name at) s ≡ Ok t → IsKnown s → IsKnown t
+variable_known typ name at s t e known =
+    let o = bind_ok (variable typ name at s.outside) _ t e in
+    subst IsKnown (ok_is _ t o.2) (outside_known s o.0 known (variable_keeps typ name at s.outside o.0 o.1 known.outside))
 
-span_width : (high low : ℤ) → is_span high low ≡ true → HasWidth (unsigned_abs (high -ℤ low) + 1)
-span_width high low e =
-    let more = and_second (int_le (pos 0) low) (int_le low high && (int_le low (pos 255) && int_lt (high -ℤ low) (pos 64))) e in
-    let order = and_first (int_le low high) (int_le low (pos 255) && int_lt (high -ℤ low) (pos 64)) more in
-    let last = and_second (int_le low high) (int_le low (pos 255) && int_lt (high -ℤ low) (pos 64)) more in
-    let few = and_second (int_le low (pos 255)) (int_lt (high -ℤ low) (pos 64)) last in
-    let some : int_le (pos 0) (high -ℤ low) ≡ true = grind (arith, order) in
-    difference (high -ℤ low) some few
+enumeration_known : (name : List ℕ) (base : Option TypeText) (names : List (List ℕ × Option Expr)) (at : ℕ) (s t : Known) → outside_step (enumeration name base names at) s ≡ Ok t → IsKnown s → IsKnown t
+enumeration_known name base names at s t e known =
+    let o = bind_ok (enumeration name base names at s.outside) _ t e in
+    subst IsKnown (ok_is _ t o.2) (outside_known s o.0 known (enumeration_keeps name base names at s.outside o.0 o.1 known.outside))
 
-one_bit : HasWidth 1
-one_bit = (omega arith, omega arith)
-
-shape_width : (levels : Levels) (typ : TypeText) (at : ℕ) (shape : Shape) → shape_of levels typ at ≡ Ok shape → HasWidth shape.typ.width
-unfolding shape_of
-shape_width levels (texts.Vector signed None place) at shape e = subst (λ (s : Shape). HasWidth s.typ.width) (ok_is (plain_shape 1 signed) shape e) one_bit
-shape_width levels (texts.Vector signed (Some ends) place) at shape e =
-    let h = bind_ok (number_in levels ends.0) _ shape e in
-    let l = bind_ok (number_in levels ends.1) _ shape h.2 in
-    let n = bind_ok (needs (is_span h.0 l.0) kind.TooWide place) _ shape l.2 in
-    subst (λ (s : Shape). HasWidth s.typ.width) (ok_is (span_shape signed h.0 l.0) shape n.2) (span_width h.0 l.0 (needs_ok (is_span h.0 l.0) kind.TooWide place n.0 n.1))
-shape_width levels (texts.Fixed width signed) at shape e =
-    let n = bind_ok (needs (has_width width) kind.TooWide at) _ shape e in
-    subst (λ (s : Shape). HasWidth s.typ.width) (ok_is (plain_shape width signed) shape n.2) (tested_width width (needs_ok (has_width width) kind.TooWide at n.0 n.1))
-shape_width levels (texts.Named name place) at shape e = absurd cc
-
--- ---- variables
-
-variable_keeps : (typ : TypeText) (name : List ℕ) (at : ℕ) (s t : Known) → variable typ name at s ≡ Ok t → IsKnown s → IsKnown t
-unfolding variable with_signal
-variable_keeps typ name at s t e known =
-    let a = bind_ok (shape_of s.scope typ at) _ t e in
-    let u = bind_ok (unused s.names name at) _ t a.2 in
-    let n = bind_ok (needs (nat_lt (length s.signals) most_signals) kind.DesignLimit at) _ t u.2 in
-    let few = needs_ok (nat_lt (length s.signals) most_signals) kind.DesignLimit at n.0 n.1 in
-    let signal : Signal = record { name = name; width = a.0.typ.width; signed = a.0.typ.signed } in
-    let count = length_push s.signals signal in
-    let here : IsKnown (with_signal name a.0 s) = record {
-      signal_count = grind (arith, few, count);
-      widths = all_push (λ (x : Signal). HasWidth x.width) s.signals signal known.widths (shape_width s.scope typ at a.0 a.1);
-      instance_count = known.instance_count;
-      each = known.each;
-      items = known.items;
-      few_items = known.few_items;
-      bins = known.bins;
-      few_bins = known.few_bins;
-      ranges = known.ranges;
-      few_ranges = known.few_ranges;
-    } in
-    subst IsKnown (ok_is _ t n.2) here
+-- a further name changes no signal
+named_outside : (name : List ℕ) (meaning : What) (outside : Outside) → IsOutside outside → IsOutside (named name meaning outside)
+named_outside name meaning outside o = record { few = o.few; widths = o.widths }
 
 -- ---- groups
 
 more_groups : (n m : ℕ) → n ≤ m → (inst : InstInfo) → IsDeclared n inst → IsDeclared m inst
 more_groups n m le inst d = let lt = d.group in record { group = omega (arith, lt, le); args = d.args; items = d.items }
 
-group_keeps : (place : ℕ) (name : List ℕ) (at : ℕ) (s t : Known) → group place name at s ≡ Ok t → IsKnown s → IsKnown t
+all_more : (n m : ℕ) → n ≤ m → (insts : List InstInfo) → AllByRecursion (IsDeclared n) insts → AllByRecursion (IsDeclared m) insts
+all_more n m le insts all = all_as (IsDeclared n) (IsDeclared m) (more_groups n m le) insts all
+
+group_keeps_known : (place : ℕ) (name : List ℕ) (at : ℕ) (s t : Known) → group place name at s ≡ Ok t → IsKnown s → IsKnown t
 unfolding group
-group_keeps place name at s t e known =
-    let u = bind_ok (unused s.names name at) _ t e in
+group_keeps_known place name at s t e known =
+    let u = bind_ok (unused s.outside.names name at) _ t e in
     let c = bind_ok (groups_fit s at) _ t u.2 in
-    let one : GroupInfo = group_info name in
+    let one : GroupInfo = group_info name defaults in
     let count = length_push s.groups one in
-    let here : IsKnown (record s { names = with_name s.names name (what.Group place c.0); groups = s.groups ++ one ∷ [] }) = record {
-      signal_count = known.signal_count;
-      widths = known.widths;
+    let here : IsKnown (record s { outside = named name (what.Group place c.0) s.outside; groups = s.groups ++ one ∷ [] }) = record {
+      outside = named_outside name (what.Group place c.0) s.outside known.outside;
       instance_count = known.instance_count;
-      each = all_as (IsDeclared (length s.groups)) (IsDeclared (length (s.groups ++ one ∷ []))) (more_groups (length s.groups) (length (s.groups ++ one ∷ [])) (omega (arith, count))) s.instances known.each;
+      each = all_more (length s.groups) (length (s.groups ++ one ∷ [])) (omega (arith, count)) s.instances known.each;
       items = known.items;
       few_items = known.few_items;
       bins = known.bins;
@@ -143,22 +125,40 @@ pub record AreItems (start : Counts) (s : Items) : Type 0 where
   pub few_ranges : s.counts.ranges ≤ most_design_ranges
   pub each : AllByRecursion IsAlone s.items
 
-alone : (name : List ℕ) (expr : Term) (guard : Option Term) (bins : List Made) (s t : Counts) → has_width (typ_of expr).width ≡ true → AreLeft bins → Counted bins s t → IsAlone (point_item name expr guard bins)
-alone name expr guard bins s t width left count items =
+pub record IsHead (head : Head) : Type 0 where
+  pub width : has_width (typ_of head.expr).width ≡ true
+  pub hits : CountsHits head.options
+
+head_is : (outside : Outside) (inside : Inside) (name : List ℕ) (p : PointDecl) (head : Head) → head_of outside inside name p ≡ Ok head → CountsHits inside.options → IsHead head
+unfolding head_of
+head_is outside inside name p head e hits =
+    let x = bind_ok (bound_in outside.scope p.expr) _ head e in
+    let g = bind_ok (guard_in outside.scope p.guard) _ head x.2 in
+    let o = bind_ok (options_set levels.Point outside.scope p.options (point_defaults inside.options)) _ head g.2 in
+    let n = bind_ok (needs (has_width (typ_of x.0).width) kind.TooWide p.at) _ head o.2 in
+    let width = needs_ok (has_width (typ_of x.0).width) kind.TooWide p.at n.0 n.1 in
+    let here : IsHead (record { name = name; expr = x.0; guard = g.0; options = o.0 }) = record {
+      width = width;
+      hits = options_keep levels.Point outside.scope p.options (point_defaults inside.options) o.0 o.1 hits;
+    } in
+    subst IsHead (ok_is _ head n.2) here
+
+alone : (head : Head) (bins : List Made) (s t : Counts) → IsHead head → AreLeft bins → Counted bins s t → IsAlone (point_item head bins)
+alone head bins s t is left count items =
     let few = left.few in
     let same = length-infos bins in
     record {
-      at_least = omega arith;
+      at_least = is.hits;
       bins = omega (arith, few, same);
       removing = omega arith;
-      shape = (tested_width (typ_of expr).width width, point_rules (point_item name expr guard bins) bins left.have count.short);
+      shape = (tested_width (typ_of head.expr).width is.width, point_rules (point_item head bins) bins left.have count.short);
     }
 
-added_point : (name : List ℕ) (expr : Term) (guard : Option Term) (bins : List Made) (counts start : Counts) (s : Items) → has_width (typ_of expr).width ≡ true → s.counts.items < most_items → AreLeft bins → Counted bins s.counts counts
-    → AreItems start s → AreItems start (with_point name expr guard bins counts s)
+added_point : (head : Head) (bins : List Made) (counts start : Counts) (s : Items) → IsHead head → s.counts.items < most_items → AreLeft bins → Counted bins s.counts counts
+    → AreItems start s → AreItems start (with_point head bins counts s)
 unfolding with_point
-added_point name expr guard bins counts start s width room left count h =
-    let item = point_item name expr guard bins in
+added_point head bins counts start s is room left count h =
+    let item = point_item head bins in
     let length' = length_push s.items item in
     let bins' = total-append (λ (x : ItemInfo). length x.bins) s.items (item ∷ []) in
     let ranges' = total-append (λ (x : ItemInfo). total (λ (bin : BinInfo). ranges_of bin.rule) x.bins) s.items (item ∷ []) in
@@ -176,38 +176,45 @@ added_point name expr guard bins counts start s width room left count h =
       few_bins = count.few_bins h.few_bins;
       ranges = omega (arith, r, cr, ranges', same_ranges);
       few_ranges = count.few_ranges h.few_ranges;
-      each = all_push IsAlone s.items item h.each (alone name expr guard bins s.counts counts width left count);
+      each = all_push IsAlone s.items item h.each (alone head bins s.counts counts is left count);
     }
 
-bound_keeps : (levels : Levels) (name : List ℕ) (expr : Term) (guard : Option Term) (p : PointDecl) (start : Counts) (s t : Items) → bound_point levels name expr guard p s ≡ Ok t → s.counts.items < most_items → AreItems start s → AreItems start t
-unfolding bound_point
-bound_keeps levels name expr guard p start s t e room h =
-    let n = bind_ok (needs (has_width (typ_of expr).width) kind.TooWide p.at) _ t e in
-    let b = bind_ok (bins_of_point levels (domain_of_typ (typ_of expr)) name default_settings p.bins p.at) _ t n.2 in
-    let c = bind_ok (bins_counted b.0.bins s.counts) _ t b.2 in
-    let width = needs_ok (has_width (typ_of expr).width) kind.TooWide p.at n.0 n.1 in
-    subst (AreItems start) (ok_is _ t c.2) (added_point name expr guard b.0.bins c.0 start s width room (few_left levels (domain_of_typ (typ_of expr)) name default_settings p.bins p.at b.0 b.1) (counted b.0.bins s.counts c.0 c.1) h)
+headed_keeps : (outside : Outside) (inside : Inside) (head : Head) (p : PointDecl) (start : Counts) (s t : Items) → headed_point outside inside head p s ≡ Ok t → IsHead head → s.counts.items < most_items → AreItems start s → AreItems start t
+unfolding headed_point
+headed_keeps outside inside head p start s t e is room h =
+    let domain = domain_of_point outside inside.names p.expr (typ_of head.expr) in
+    let b = bind_ok (bins_of_point outside.scope domain p.bins) _ t e in
+    let c = bind_ok (bins_counted b.0 s.counts) _ t b.2 in
+    subst (AreItems start) (ok_is _ t c.2) (added_point head b.0 c.0 start s is room (point_left outside.scope domain p.bins b.0 b.1) (counted b.0 s.counts c.0 c.1) h)
 
-named_keeps : (levels : Levels) (name : List ℕ) (p : PointDecl) (start : Counts) (s t : Items) → named_point levels name p s ≡ Ok t → AreItems start s → AreItems start t
+named_keeps : (outside : Outside) (inside : Inside) (name : List ℕ) (p : PointDecl) (start : Counts) (s t : Items) → named_point outside inside name p s ≡ Ok t → CountsHits inside.options → AreItems start s → AreItems start t
 unfolding named_point
-named_keeps levels name p start s t e h =
+named_keeps outside inside name p start s t e hits h =
     let u = bind_ok (unused s.names name p.at) _ t e in
     let n = bind_ok (needs (nat_lt s.counts.items most_items) kind.DesignLimit p.at) _ t u.2 in
-    let x = bind_ok (bound_in levels p.expr) _ t n.2 in
-    let g = bind_ok (guard_in levels p.guard) _ t x.2 in
+    let x = bind_ok (head_of outside inside name p) _ t n.2 in
     let few = needs_ok (nat_lt s.counts.items most_items) kind.DesignLimit p.at n.0 n.1 in
-    bound_keeps levels name x.0 g.0 p start s t g.2 (grind (arith, few)) h
+    headed_keeps outside inside x.0 p start s t x.2 (head_is outside inside name p x.0 x.1 hits) (grind (arith, few)) h
 
-member_keeps : (levels : Levels) (m : Member) (start : Counts) (s t : Items) → member levels m s ≡ Ok t → AreItems start s → AreItems start t
-member_keeps levels (members.Point p) start s t e h = named_keeps levels (point_name p (length s.items)) p start s t e h
-member_keeps levels (members.Opt o) start s t e h = absurd cc
-member_keeps levels (members.Cross c) start s t e h = absurd cc
+member_keeps : (outside : Outside) (inside : Inside) (m : Member) (start : Counts) (s t : Items) → member outside inside m s ≡ Ok t → CountsHits inside.options → AreItems start s → AreItems start t
+member_keeps outside inside (members.Point p) start s t e hits h = named_keeps outside inside (point_name p (length s.items)) p start s t e hits h
+member_keeps outside inside (members.Opt o) start s t e hits h = subst (AreItems start) (ok_is s t e) h
+member_keeps outside inside (members.Cross c) start s t e hits h = absurd cc
 
-members_keep : (levels : Levels) (start : Counts) (ms : List Member) (t : Items) → start.items ≤ most_items → start.bins ≤ most_design_bins → start.ranges ≤ most_design_ranges → members_walked levels start ms ≡ Ok t → AreItems start t
+members_keep : (outside : Outside) (inside : Inside) (start : Counts) (ms : List Member) (t : Items) → start.items ≤ most_items → start.bins ≤ most_design_bins → start.ranges ≤ most_design_ranges → CountsHits inside.options → members_walked outside inside start ms ≡ Ok t → AreItems start t
 unfolding members_walked
-members_keep levels start ms t items bins ranges e =
-    each_keeps (λ k. member levels) (AreItems start) (λ k m s u f h. member_keeps levels m start s u f h) 0 ms (no_items start) t e
+members_keep outside inside start ms t items bins ranges hits e =
+    each_keeps (λ k. member outside inside) (AreItems start) (λ k m s u f h. member_keeps outside inside m start s u f hits h) 0 ms (no_items start) t e
     (record { items = omega arith; few_items = items; bins = omega arith; few_bins = bins; ranges = omega arith; few_ranges = ranges; each = tt })
+
+body_keeps : (outside : Outside) (names : Pairs What) (start : Counts) (ms : List Member) (body : Body) → start.items ≤ most_items → start.bins ≤ most_design_bins → start.ranges ≤ most_design_ranges → body_walked outside names start ms ≡ Ok body → AreItems start body.items
+unfolding body_walked
+body_keeps outside names start ms body items bins ranges e =
+    let o = bind_ok (group_options outside.scope ms) _ body e in
+    let inside : Inside = record { names = names; options = o.0 } in
+    let m = bind_ok (members_walked outside inside start ms) _ body o.2 in
+    let all = members_keep outside inside start ms m.0 items bins ranges (group_keeps outside.scope ms o.0 o.1) m.1 in
+    subst (λ (b : Body). AreItems start b.items) (ok_is _ body m.2) all
 
 -- ---- instances
 
@@ -223,20 +230,17 @@ group_below groups (Some what.Constant) at place e = absurd cc
 group_below groups (Some (what.Variable enumeration)) at place e = absurd cc
 group_below groups (Some what.Instance) at place e = absurd cc
 group_below groups (Some (what.Formal by_ref enumeration)) at place e = absurd cc
-group_below groups (Some (what.Item index)) at place e = absurd cc
+group_below groups (Some what.Item) at place e = absurd cc
 group_below groups (Some what.Bin) at place e = absurd cc
 group_below groups None at place e = absurd cc
 
-instance_keeps : (text : List Decl) (of_group name : List ℕ) (at : ℕ) (s t : Known) → instance text of_group name at s ≡ Ok t → IsKnown s → IsKnown t
-unfolding instance with_instance
-instance_keeps text of_group name at s t e known =
-    let u = bind_ok (unused s.names name at) _ t e in
-    let g = bind_ok (group_meant (length s.groups) (meaning_of s.names of_group) at) _ t u.2 in
-    let n = bind_ok (needs (nat_lt (length s.instances) most_instances) kind.DesignLimit at) _ t g.2 in
-    let m = bind_ok (members_walked s.scope s.counts (members_of text g.0.0)) _ t n.2 in
-    let few = needs_ok (nat_lt (length s.instances) most_instances) kind.DesignLimit at n.0 n.1 in
-    let all = members_keep s.scope s.counts (members_of text g.0.0) m.0 known.few_items known.few_bins known.few_ranges m.1 in
-    let inst = inst_info name g.0.1 m.0 in
+added_instance : (name of_group : List ℕ) (g : ℕ) (formals : Formals) (body : Body) (s : Known) → g < length s.groups → length s.instances < most_instances → AreArguments formals.args → AreItems s.counts body.items
+    → IsKnown s → IsKnown (with_instance name of_group g formals.args body s)
+unfolding with_instance
+added_instance name of_group g formals body s below few args all known =
+    let inst = inst_info name g formals.args body in
+    let infos = set s.groups g (group_info of_group body.options) in
+    let same = length-set s.groups g (group_info of_group body.options) in
     let count = length_push s.instances inst in
     let items' = total-append (λ (x : InstInfo). length x.items) s.instances (inst ∷ []) in
     let bins' = total-append (λ (x : InstInfo). bins_in x.items) s.instances (inst ∷ []) in
@@ -247,33 +251,52 @@ instance_keeps text of_group name at s t e known =
     let ai = all.items in
     let ab = all.bins in
     let ar = all.ranges in
-    let one : IsDeclared (length s.groups) inst = record { group = group_below (length s.groups) (meaning_of s.names of_group) at g.0 g.1; args = refl; items = all.each } in
-    let here : IsKnown (with_instance name g.0.1 m.0 s) = record {
-      signal_count = known.signal_count;
-      widths = known.widths;
-      instance_count = grind (arith, few, count);
-      each = all_push (IsDeclared (length s.groups)) s.instances inst known.each one;
+    let one : IsDeclared (length s.groups) inst = record { group = below; args = args; items = all.each } in
+    let each = all_push (IsDeclared (length s.groups)) s.instances inst known.each one in
+    record {
+      outside = named_outside name what.Instance s.outside known.outside;
+      instance_count = omega (arith, few, count);
+      each = subst (λ (n : ℕ). AllByRecursion (IsDeclared n) (s.instances ++ inst ∷ [])) (sym same) each;
       items = omega (arith, i, ai, items');
       few_items = all.few_items;
       bins = omega (arith, b, ab, bins');
       few_bins = all.few_bins;
       ranges = omega (arith, r, ar, ranges');
       few_ranges = all.few_ranges;
-    } in
-    subst IsKnown (ok_is _ t m.2) here
+    }
+
+instance_of_keeps : (text : List Decl) (place : ℕ × ℕ) (of_group name : List ℕ) (args : List Expr) (at : ℕ) (s t : Known) → instance_of text place of_group name args at s ≡ Ok t → place.1 < length s.groups → length s.instances < most_instances → IsKnown s → IsKnown t
+unfolding instance_of
+instance_of_keeps text place of_group name args at s t e below few known =
+    let f = bind_ok (formals_of s.outside (formals_at text place.0) (samples_at text place.0) args at) _ t e in
+    let outside = entered s.outside f.0.inner in
+    let b = bind_ok (body_walked outside f.0.names s.counts (members_at text place.0)) _ t f.2 in
+    let all = body_keeps outside f.0.names s.counts (members_at text place.0) b.0 known.few_items known.few_bins known.few_ranges b.1 in
+    let are = formals_are s.outside (formals_at text place.0) (samples_at text place.0) args at f.0 f.1 in
+    subst IsKnown (ok_is _ t b.2) (added_instance name of_group place.1 f.0 b.0 s below few are all known)
+
+instance_keeps : (text : List Decl) (of_group name : List ℕ) (args : List Expr) (at : ℕ) (s t : Known) → instance text of_group name args at s ≡ Ok t → IsKnown s → IsKnown t
+unfolding instance
+instance_keeps text of_group name args at s t e known =
+    let u = bind_ok (unused s.outside.names name at) _ t e in
+    let g = bind_ok (group_meant (length s.groups) (meaning_of s.outside.names of_group) at) _ t u.2 in
+    let a = bind_ok (needs (args_fit (formals_at text g.0.0) args) kind.ArgCount at) _ t g.2 in
+    let n = bind_ok (needs (nat_lt (length s.instances) most_instances) kind.DesignLimit at) _ t a.2 in
+    let few = needs_ok (nat_lt (length s.instances) most_instances) kind.DesignLimit at n.0 n.1 in
+    let below = group_below (length s.groups) (meaning_of s.outside.names of_group) at g.0 g.1 in
+    instance_of_keeps text g.0 of_group name args at s t n.2 below (grind (arith, few)) known
 
 -- ---- the walk
 
 declared_keeps : (text : List Decl) (place : ℕ) (decl : Decl) (s t : Known) → declared text place decl s ≡ Ok t → IsKnown s → IsKnown t
-declared_keeps text place (decls.Enum name base names at) s t e known = absurd cc
-declared_keeps text place (decls.Var typ name at) s t e known = variable_keeps typ name at s t e known
-declared_keeps text place (decls.Group name formals event args ms at) s t e known = group_keeps place name at s t e known
-declared_keeps text place (decls.Instance of_group name args at) s t e known = instance_keeps text of_group name at s t e known
+declared_keeps text place (decls.Enum name base names at) s t e known = enumeration_known name base names at s t e known
+declared_keeps text place (decls.Var typ name at) s t e known = variable_known typ name at s t e known
+declared_keeps text place (decls.Group name formals event args ms at) s t e known = group_keeps_known place name at s t e known
+declared_keeps text place (decls.Instance of_group name args at) s t e known = instance_keeps text of_group name args at s t e known
 
 begins : IsKnown nothing
 begins = record {
-  signal_count = omega arith;
-  widths = tt;
+  outside = record { few = omega arith; widths = tt };
   instance_count = omega arith;
   each = tt;
   items = refl;

@@ -1,3 +1,6 @@
 pub mod Counted
 pub mod Invariant
 pub mod Designs
+pub mod Stops
+pub mod Lawful
+pub mod Watching

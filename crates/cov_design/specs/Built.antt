@@ -1,31 +1,16 @@
 -- Which declarations are built. What isn't is refused before the walk, at the first declaration that holds it.
-use Rattle.std.specs.Prelude.{ℕ, List, [], ◌∷◌, Bool, true, false, ◌&&◌, Result}
+use Rattle.std.specs.Prelude.{ℕ, List, Bool, true, false, ◌&&◌, Result}
 use Rattle.std.specs.List.{list_all, list_any}
 use Rattle.cov_tree.specs.declared.bins.Word.{Word}
 use Rattle.cov_tree.specs.declared.bins.Word.TheVariants as words
-use Rattle.cov_tree.specs.declared.bins.BinsDecl.{BinsDecl}
-use Rattle.cov_tree.specs.declared.bins.OptDecl.{OptDecl}
-use Rattle.cov_tree.specs.declared.expr.Expr.{Expr}
-use Rattle.cov_tree.specs.declared.groups.Formal.{Formal}
 use Rattle.cov_tree.specs.declared.groups.Member.{Member}
 use Rattle.cov_tree.specs.declared.groups.Member.TheVariants as members
 use Rattle.cov_tree.specs.declared.groups.PointDecl.{PointDecl}
-use Rattle.cov_tree.specs.declared.declarations.TypeText.{TypeText}
-use Rattle.cov_tree.specs.declared.declarations.TypeText.TheVariants as texts
 use Rattle.cov_tree.specs.declared.declarations.Decl.{Decl}
 use Rattle.cov_tree.specs.declared.declarations.Decl.TheVariants as decls
 use Rattle.elab_base.specs.declared.fault.ElabKind.TheVariants as kind
-use Rattle.elab_base.specs.Gives.{Refusal, ◌>>=◌, needs, each}
+use Rattle.elab_base.specs.Gives.{Refusal, needs, each}
 use Rattle.elab_points.specs.Built.{is_built_decl}
-
-abbrev pub is_empty : {A : Type 0} → List A → Bool
-is_empty [] = true
-is_empty (x ∷ xs) = false
-
-abbrev pub is_built_typ : TypeText → Bool
-is_built_typ (texts.Vector signed span at) = true
-is_built_typ (texts.Fixed width signed) = true
-is_built_typ (texts.Named name at) = false
 
 abbrev pub is_coverage_word : Word → Bool
 is_coverage_word words.Bins = true
@@ -34,18 +19,18 @@ is_coverage_word words.Ignore = false
 
 -- a point that declares coverage bins: automatic bins aren't built
 abbrev pub is_built_point : PointDecl → Bool
-is_built_point p = is_empty p.options && (list_any (λ b. is_coverage_word b.word) p.bins && list_all is_built_decl p.bins)
+is_built_point p = list_any (λ b. is_coverage_word b.word) p.bins && list_all is_built_decl p.bins
 
 abbrev pub is_built_member : Member → Bool
-is_built_member (members.Opt option) = false
+is_built_member (members.Opt option) = true
 is_built_member (members.Point p) = is_built_point p
 is_built_member (members.Cross c) = false
 
 abbrev pub is_built : Decl → Bool
-is_built (decls.Enum name base names at) = false
-is_built (decls.Var typ name at) = is_built_typ typ
-is_built (decls.Group name formals event args ms at) = is_empty formals && list_all is_built_member ms
-is_built (decls.Instance of_group name args at) = is_empty args
+is_built (decls.Enum name base names at) = true
+is_built (decls.Var typ name at) = true
+is_built (decls.Group name formals event args ms at) = list_all is_built_member ms
+is_built (decls.Instance of_group name args at) = true
 
 -- where a declaration stands
 abbrev pub place_in : Decl → ℕ

@@ -24,7 +24,7 @@ parts_of design = record { signals = design.signals; groups = design.groups; ins
 
 -- what was declared, its bins numbered in the order of the nodes
 abbrev pub parts_known : Known → Parts
-parts_known known = record { signals = known.signals; groups = known.groups; instances = numbered known.instances; bin_count = known.counts.bins }
+parts_known known = record { signals = known.outside.signals; groups = known.groups; instances = numbered known.instances; bin_count = known.counts.bins }
 
 -- the design of a text, or its first fault
 unfoldable pub Elaborates : DesignText → Result Parts Refusal

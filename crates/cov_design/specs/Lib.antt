@@ -1,7 +1,10 @@
 pub mod Built
 pub mod Counting
-pub mod Variables
+pub mod Domains
 pub mod Points
+pub mod Groups
+pub mod Instances
 pub mod Walk
 pub mod Elaboration
+pub mod Events
 pub mod Invariant

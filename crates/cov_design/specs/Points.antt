@@ -1,8 +1,8 @@
 -- The points of an instance (IEEE 1800-2017, 19.5).
-use Rattle.std.specs.Prelude.{ℕ, ◌+◌, List, [], ◌∷◌, ◌++◌, length, map, codes, nat_lt, false, Option, Some, None, Result, Ok, Err}
+use Rattle.std.specs.Prelude.{ℕ, ◌+◌, List, [], ◌∷◌, ◌++◌, length, map, codes, nat_eq, nat_lt, Option, Some, None, is_some, Result, Ok, Err}
 use Rattle.std.specs.Fmt.{decimal}
 use Rattle.cov_ground.specs.Limits.{most_items}
-use Rattle.name_map.specs.Names.{with_name}
+use Rattle.name_map.specs.Names.{with_name, meaning_of}
 use Rattle.cov_tree.specs.declared.expr.Expr.{Expr}
 use Rattle.cov_tree.specs.declared.expr.Expr.TheViews.{out-Expr}
 use Rattle.cov_tree.specs.declared.expr.Expr.TheOpen as expr
@@ -10,8 +10,8 @@ use Rattle.cov_tree.specs.declared.expr.Expr.TheOpen.{Expr-F}
 use Rattle.cov_tree.specs.declared.groups.PointDecl.{PointDecl}
 use Rattle.cov_tree.specs.declared.groups.Member.{Member}
 use Rattle.cov_tree.specs.declared.groups.Member.TheVariants as members
-use Rattle.const_eval.specs.Terms.{Term, typ_of}
-use Rattle.const_eval.specs.Scopes.{Levels}
+use Rattle.const_eval.specs.Terms.{typ_of}
+use Rattle.cov_options.specs.declared.values.Level.TheVariants as levels
 use Rattle.const_eval.specs.Binding.{has_width}
 use Rattle.design_data.specs.declared.infos.ItemInfo.{ItemInfo}
 use Rattle.design_data.specs.declared.infos.ItemShape.TheVariants.{Point}
@@ -19,14 +19,17 @@ use Rattle.elab_base.specs.declared.fault.ElabKind.TheVariants as kind
 use Rattle.elab_base.specs.declared.names.What.TheVariants as what
 use Rattle.elab_base.specs.Gives.{Refusal, ◌>>=◌, needs, each}
 use Rattle.elab_base.specs.Steps.{unused, bound_in, guard_in}
-use Rattle.elab_values.specs.declared.made.Made.{Made}
+use Rattle.elab_decls.specs.declared.outside.Outside.{Outside}
+use Rattle.elab_decls.specs.Options.{options_set, point_defaults}
+use Rattle.elab_values.specs.declared.made.PointBins.{PointBins}
 use Rattle.elab_values.specs.declared.made.Settings.{Settings}
-use Rattle.elab_values.specs.Domains.{domain_of_typ}
 use Rattle.elab_points.specs.Left.{bins_of_point}
 use Rattle.cov_design.specs.declared.counts.Counts.{Counts}
-use Rattle.cov_design.specs.declared.known.Known.{Known}
 use Rattle.cov_design.specs.declared.points.Items.{Items}
+use Rattle.cov_design.specs.declared.points.Inside.{Inside}
+use Rattle.cov_design.specs.declared.points.Head.{Head}
 use Rattle.cov_design.specs.Counting.{bins_counted}
+use Rattle.cov_design.specs.Domains.{domain_of_point}
 
 -- `point_K`
 abbrev pub numbered_name : ℕ → List ℕ
@@ -52,55 +55,68 @@ unfoldable pub point_name : PointDecl → ℕ → List ℕ
 point_name p k = label_or p.label k p.expr
 
 -- a point, whose bins aren't numbered yet
-abbrev pub point_item : List ℕ → Term → Option Term → List Made → ItemInfo
-point_item name expr guard bins = record {
-  name = name;
-  weight = 1;
-  type_weight = 1;
-  goal = 100;
-  at_least = 1;
-  guard = guard;
-  shape = Point expr;
+abbrev pub point_item : Head → PointBins → ItemInfo
+point_item head found = record {
+  name = head.name;
+  weight = head.options.weight;
+  type_weight = head.options.type_weight;
+  goal = head.options.goal;
+  at_least = head.options.at_least;
+  guard = head.guard;
+  shape = Point head.expr;
   first_bin = 0;
-  bins = map (λ made. made.bin) bins;
-  ignored = [];
-  illegal = [];
+  bins = map (λ made. made.bin) found.bins;
+  ignored = found.ignored;
+  illegal = found.illegal;
 }
 
-unfoldable pub with_point : List ℕ → Term → Option Term → List Made → Counts → Items → Items
-with_point name expr guard bins counts s = record {
-  names = with_name s.names name (what.Item (length s.items));
-  items = s.items ++ point_item name expr guard bins ∷ [];
+unfoldable pub with_point : Head → PointBins → Counts → Items → Items
+with_point head found counts s = record {
+  names = with_name s.names head.name (what.Item (length s.items));
+  items = s.items ++ point_item head found ∷ [];
   counts = record counts { items = s.counts.items + 1 };
 }
 
--- what the bins of a point depend on where no option is set
-abbrev pub default_settings : Settings
-default_settings = record { auto_bin_max = 64; distribute_first = false; intersected = false }
-
--- a point of a bound expression, each of which has 1 to 64 bits
-unfoldable pub bound_point : Levels → List ℕ → Term → Option Term → PointDecl → Items → Result Items Refusal
-bound_point levels name expr guard p s = do
+-- the expression, the guard and the options of a point; each point has 1 to 64 bits
+unfoldable pub head_of : Outside → Inside → List ℕ → PointDecl → Result Head Refusal
+head_of outside inside name p = do
+  expr ← bound_in outside.scope p.expr
+  guard ← guard_in outside.scope p.guard
+  options ← options_set levels.Point outside.scope p.options (point_defaults inside.options)
   _ ← needs (has_width (typ_of expr).width) kind.TooWide p.at
-  found ← bins_of_point levels (domain_of_typ (typ_of expr)) name default_settings p.bins p.at
-  counts ← bins_counted found.bins s.counts
-  Ok (with_point name expr guard found.bins counts s)
+  Ok (record { name = name; expr = expr; guard = guard; options = options })
 
-unfoldable pub named_point : Levels → List ℕ → PointDecl → Items → Result Items Refusal
-named_point levels name p s = do
+-- What the bins of a point depend on besides their declarations (19.5.1, 19.7): the greatest number of automatic bins,
+-- whether the group's bins are distributed first, and whether a cross of the group has `intersect` on the point.
+abbrev pub settings_of : Inside → Head → Settings
+settings_of inside head = record {
+  auto_bin_max = head.options.auto_bin_max;
+  distribute_first = nat_eq inside.options.type_distribute_first 1;
+  intersected = is_some (meaning_of inside.intersected head.name);
+}
+
+-- the bins of a point
+unfoldable pub headed_point : Outside → Inside → Head → PointDecl → Items → Result Items Refusal
+headed_point outside inside head p s = do
+  found ← bins_of_point outside.scope (domain_of_point outside inside.names p.expr (typ_of head.expr)) head.name (settings_of inside head) p.bins p.at
+  counts ← bins_counted found.bins s.counts
+  Ok (with_point head found counts s)
+
+unfoldable pub named_point : Outside → Inside → List ℕ → PointDecl → Items → Result Items Refusal
+named_point outside inside name p s = do
   _ ← unused s.names name p.at
   _ ← needs (nat_lt s.counts.items most_items) kind.DesignLimit p.at
-  expr ← bound_in levels p.expr
-  guard ← guard_in levels p.guard
-  bound_point levels name expr guard p s
+  head ← head_of outside inside name p
+  headed_point outside inside head p s
 
-abbrev pub member : Levels → Member → Items → Result Items Refusal
-member levels (members.Point p) s = named_point levels (point_name p (length s.items)) p s
-member levels (members.Opt o) s = Err (kind.NotBuiltYet, o.at)
-member levels (members.Cross c) s = Err (kind.NotBuiltYet, c.at)
+-- a member that is an item; the options of the group are set before
+abbrev pub member : Outside → Inside → Member → Items → Result Items Refusal
+member outside inside (members.Point p) s = named_point outside inside (point_name p (length s.items)) p s
+member outside inside (members.Opt o) s = Ok s
+member outside inside (members.Cross c) s = Err (kind.NotBuiltYet, c.at)
 
 abbrev pub no_items : Counts → Items
 no_items counts = record { names = []; items = []; counts = counts }
 
-unfoldable pub members_walked : Levels → Counts → List Member → Result Items Refusal
-members_walked levels counts ms = each (member levels) ms (no_items counts)
+unfoldable pub members_walked : Outside → Inside → Counts → List Member → Result Items Refusal
+members_walked outside inside counts ms = each (member outside inside) ms (no_items counts)

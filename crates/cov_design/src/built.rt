@@ -3,21 +3,11 @@ ghost use Rattle.std.specs.Prelude.{◌≡◌};
 ghost use Rattle.std.specs.List.{list_all, list_any};
 ghost use Rattle.elab_base.specs.Gives.{Gives, Makes};
 ghost use Rattle.elab_points.specs.Built.{is_built_decl};
-ghost use Rattle.cov_design.specs.Built.{is_built_typ, is_coverage_word, is_built_point, is_built_member, is_built as is_built_at, place_in, built_at, all_built};
+ghost use Rattle.cov_design.specs.Built.{is_coverage_word, is_built_point, is_built_member, is_built as is_built_at, place_in, built_at, all_built};
 
-use cov_tree::{BinsDecl, Decl, Member, PointDecl, TypeText, Word};
+use cov_tree::{BinsDecl, Decl, Member, PointDecl, Word};
 use elab_base::{ElabFault, ElabKind};
 use elab_points::is_built as is_built_bins;
-
-fn is_type(typ: &TypeText) -> bool
-    ensures { result ≡ is_built_typ typ.now }
-{
-    match typ {
-        TypeText::Vector { .. } => true,
-        TypeText::Fixed { .. } => true,
-        TypeText::Named { .. } => false,
-    }
-}
 
 fn is_coverage(word: &Word) -> bool
     ensures { result ≡ is_coverage_word word.now }
@@ -44,16 +34,14 @@ fn are_bins(bins: &[BinsDecl]) -> bool
 fn is_point(point: &PointDecl) -> bool
     ensures { result ≡ is_built_point point.now }
 {
-    point.options.as_slice().is_empty()
-        && has_coverage(point.bins.as_slice())
-        && are_bins(point.bins.as_slice())
+    has_coverage(point.bins.as_slice()) && are_bins(point.bins.as_slice())
 }
 
 fn is_member(member: &Member) -> bool
     ensures { result ≡ is_built_member member.now }
 {
     match member {
-        Member::Opt(_) => false,
+        Member::Opt(_) => true,
         Member::Point(point) => is_point(point),
         Member::Cross(_) => false,
     }
@@ -69,14 +57,8 @@ fn is_built(decl: &Decl) -> bool
     ensures { result ≡ is_built_at decl.now }
 {
     match decl {
-        Decl::Enum { .. } => false,
-        Decl::Var { typ, .. } => is_type(typ.get()),
-        Decl::Group {
-            formals,
-            members,
-            ..
-        } => { formals.as_slice().is_empty() && are_members(members.as_slice()) }
-        Decl::Instance { args, .. } => args.as_slice().is_empty(),
+        Decl::Group { members, .. } => are_members(members.as_slice()),
+        _ => true,
     }
 }
 

@@ -12,11 +12,11 @@ use cov_ground::Memory;
 use cov_tree::{Decl, DesignText};
 use design_data::Design;
 use elab_base::ElabFault;
+use elab_decls::Outside;
 use elab_order::number;
 use std::alloc::Global;
 
 /// What a text declares, within all limits.
-#[tactic(auto, using(crate::proofs::Invariant::walked_known))]
 fn known_of(alloc: Global, text: &[Decl]) -> Result<Known, ElabFault>
     ensures gives { Gives result (walked text.now) }
     ensures known { IfOk result IsKnown }
@@ -32,13 +32,17 @@ fn design_of(alloc: Global, known: Known) -> Result<Design, Memory>
     ensures { IfOk result (λ design. parts_of design ≡ parts_known known) }
 {
     let Known {
-        names: _,
-        scope: _,
-        signals,
+        outside,
         groups,
         instances,
         counts,
     } = known;
+    let Outside {
+        names: _,
+        scope: _,
+        enumerations: _,
+        signals,
+    } = outside;
     let instances = number(alloc, instances)?;
     Ok(Design::of(signals, groups, instances, counts.bins))
 }

@@ -4,11 +4,16 @@
 
 mod built;
 mod counts;
+mod domains;
 mod elaboration;
+mod events;
+mod groups;
+mod instances;
 mod known;
+pub mod laws;
 mod points;
-mod variables;
 mod walk;
 
 pub use elab_base::{ElabFault, ElabKind};
 pub use elaboration::elaborate;
+pub use events::event_scope;

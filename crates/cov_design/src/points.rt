@@ -5,18 +5,20 @@ ghost use Rattle.const_eval.specs.Terms.{typ_of as typ_of_term};
 ghost use Rattle.const_eval.specs.Binding.{has_width as tests_width};
 ghost use Rattle.elab_base.specs.declared.fault.ElabKind.TheVariants as kinds;
 ghost use Rattle.elab_base.specs.Gives.{Gives, Makes, needs};
-ghost use Rattle.cov_design.specs.Points.{numbered_name as numbered_text, point_name, point_item, default_settings, with_point, bound_point, named_point, member, members_walked};
+ghost use Rattle.cov_design.specs.Points.{numbered_name as numbered_text, point_name, settings_of, with_point, head_of, headed_point, named_point, member, members_walked};
 
 use crate::counts::{Counts, count_bins};
-use crate::variables::has_width;
-use const_eval::{Bound, Scope, typ};
+use crate::domains::point_domain;
+use const_eval::{Bound, typ};
 use cov_ground::Memory;
 use cov_ground::limits::MOST_ITEMS;
+use cov_options::{Level, Options};
 use cov_tree::{Expr, List, Member, Name, PointDecl};
 use design_data::{BinInfo, ItemInfo, ItemShape};
 use elab_base::{ElabFault, ElabKind, What, add_name, bind_in, check_unused, guard_in};
+use elab_decls::{Outside, has_width, point_defaults, set_options};
 use elab_points::point_bins;
-use elab_values::{Made, Settings, domain_of};
+use elab_values::{Made, PointBins, Settings};
 use name_map::NameMap;
 use std::alloc::Global;
 
@@ -26,6 +28,25 @@ pub struct Items {
     pub names: NameMap<What>,
     pub items: List<ItemInfo>,
     pub counts: Counts,
+}
+
+/// What the members of an instance have in common: the names of its formals and sample arguments, the options of its
+/// group, and what its crosses intersect.
+#[derive(Drop)]
+pub struct Inside {
+    pub names: NameMap<What>,
+    pub options: Options,
+    /// The names on which a cross of the group has `intersect`, each with the place of the first.
+    pub intersected: NameMap<u32>,
+}
+
+/// What stands at the head of a point.
+#[derive(Drop)]
+pub struct Head {
+    pub name: Name,
+    pub expr: Bound,
+    pub guard: Option<Bound>,
+    pub options: Options,
 }
 
 fn numbered_name(alloc: Global, k: usize) -> Result<Name, Memory>
@@ -70,67 +91,60 @@ fn check_width(expr: &Bound, at: u32) -> Result<(), ElabFault>
     Ok(())
 }
 
-/// What the bins of a point depend on where no option is set.
-fn settings() -> Settings
-    ensures { result ≡ default_settings }
-{
-    Settings {
-        auto_bin_max: 64,
-        distribute_first: false,
-        intersected: false,
-    }
-}
-
 /// The bins themselves.
 fn infos(alloc: Global, bins: Vec<Made>) -> Result<List<BinInfo>, Memory>
     ensures { IfOk result (λ infos. infos ≡ map (λ made. made.bin) bins.items) }
 {
     let mut infos = List::new(alloc);
     for made in bins {
-        let Made { bin, .. } = made;
+        let Made {
+            bin,
+            at: _,
+            declared: _,
+        } = made;
         infos.push(bin)?;
     }
     Ok(infos)
 }
 
-/// The number as one of 32 bits. So many items as it doesn't hold don't fit into memory.
-fn index_of(place: usize) -> Result<u32, Memory>
-    ensures { IfOk result (λ same. same ≡ place) }
-{
-    match u32::try_from(place) {
-        Ok(place) => Ok(place),
-        Err(_) => Err(Memory),
-    }
-}
-
 #[tactic(auto, unfolding(crate::specs::Points::with_point))]
 fn keep_point(
     alloc: Global,
-    name: Name,
-    expr: Bound,
-    guard: Option<Bound>,
-    bins: List<Made>,
+    head: Head,
+    found: PointBins,
     counts: Counts,
     items: &mut Items,
 ) -> Result<(), Memory>
     requires { items.old.counts.items < most_items }
-    ensures { OnOk result (items.new ≡ with_point name expr guard bins counts items.old) }
+    ensures { OnOk result (items.new ≡ with_point head found counts items.old) }
 {
     let index = index_of(items.items.as_slice().len())?;
-    add_name(alloc, &mut items.names, &name, What::Item { index })?;
+    add_name(alloc, &mut items.names, &head.name, What::Item { index })?;
+    let PointBins {
+        bins,
+        names: _,
+        ignored,
+        illegal,
+    } = found;
     let bins = infos(alloc, bins.into_vec())?;
+    let Head {
+        name,
+        expr,
+        guard,
+        options,
+    } = head;
     items.items.push(ItemInfo {
         name,
-        weight: 1,
-        type_weight: 1,
-        goal: 100,
-        at_least: 1,
+        weight: options.weight,
+        type_weight: options.type_weight,
+        goal: options.goal,
+        at_least: options.at_least,
         guard,
         shape: ItemShape::Point(expr),
         first_bin: 0,
         bins,
-        ignored: List::new(alloc),
-        illegal: List::new(alloc),
+        ignored,
+        illegal,
     })?;
     let count = items.counts.items + 1;
     items.counts = counts;
@@ -138,81 +152,122 @@ fn keep_point(
     Ok(())
 }
 
-#[tactic(auto, unfolding(crate::specs::Points::bound_point))]
-fn add_bound(
+/// The expression, the guard and the options of a point.
+#[tactic(auto, unfolding(crate::specs::Points::head_of))]
+fn read_head(
     alloc: Global,
-    scope: &Scope,
+    outside: &mut Outside,
+    inside: &Inside,
     name: Name,
-    expr: Bound,
-    guard: Option<Bound>,
+    point: &PointDecl,
+) -> Result<Head, ElabFault>
+    ensures gives { Gives result (head_of outside.old inside.now name point.now) }
+    ensures same { outside.new ≡ outside.old }
+{
+    let expr = bind_in(alloc, &outside.scope, &point.expr)?;
+    let guard = guard_in(alloc, &outside.scope, &point.guard)?;
+    let mut options = point_defaults(alloc, &inside.options);
+    let decls = point.options.as_slice();
+    set_options(alloc, Level::Point, &mut outside.scope, decls, &mut options)?;
+    check_width(&expr, point.at)?;
+    Ok(Head {
+        name,
+        expr,
+        guard,
+        options,
+    })
+}
+
+/// What the bins of a point depend on besides their declarations.
+fn settings(inside: &Inside, head: &Head) -> Settings
+    ensures { result ≡ settings_of inside.now head.now }
+{
+    Settings {
+        auto_bin_max: head.options.auto_bin_max,
+        distribute_first: inside.options.type_distribute_first == 1,
+        intersected: inside.intersected.get(head.name.as_slice()).is_some(),
+    }
+}
+
+#[tactic(auto, unfolding(crate::specs::Points::headed_point))]
+fn add_headed(
+    alloc: Global,
+    outside: &Outside,
+    inside: &Inside,
+    head: Head,
     point: &PointDecl,
     items: &mut Items,
 ) -> Result<(), ElabFault>
     requires { items.old.counts.items < most_items }
-    ensures { Makes result items.new (bound_point scope.now name expr guard point.now items.old) }
+    ensures { Makes result items.new (headed_point outside.now inside.now head point.now items.old) }
 {
-    check_width(&expr, point.at)?;
-    let domain = domain_of(alloc, typ(&expr))?;
+    let domain = point_domain(alloc, outside, &inside.names, &point.expr, typ(&head.expr))?;
     let found = point_bins(
         alloc,
-        scope,
+        &outside.scope,
         &domain,
-        &name,
-        settings(),
+        &head.name,
+        settings(inside, &head),
         point.bins.as_slice(),
         point.at,
     )?;
     let mut counts = items.counts;
     count_bins(found.bins.as_slice(), &mut counts)?;
-    keep_point(alloc, name, expr, guard, found.bins, counts, items)?;
+    keep_point(alloc, head, found, counts, items)?;
     Ok(())
 }
 
 #[tactic(auto, unfolding(crate::specs::Points::named_point))]
 fn add_named(
     alloc: Global,
-    scope: &Scope,
+    outside: &mut Outside,
+    inside: &Inside,
     name: Name,
     point: &PointDecl,
     items: &mut Items,
 ) -> Result<(), ElabFault>
-    ensures { Makes result items.new (named_point scope.now name point.now items.old) }
+    ensures gives { Makes result items.new (named_point outside.old inside.now name point.now items.old) }
+    ensures same { outside.new ≡ outside.old }
 {
     check_unused(&items.names, &name, point.at)?;
     check_items(&items.counts, point.at)?;
-    let expr = bind_in(alloc, scope, &point.expr)?;
-    let guard = guard_in(alloc, scope, &point.guard)?;
-    add_bound(alloc, scope, name, expr, guard, point, items)?;
+    let head = read_head(alloc, outside, inside, name, point)?;
+    add_headed(alloc, outside, inside, head, point, items)?;
     Ok(())
 }
 
 fn add_member(
     alloc: Global,
-    scope: &Scope,
+    outside: &mut Outside,
+    inside: &Inside,
     found: &Member,
     items: &mut Items,
 ) -> Result<(), ElabFault>
-    ensures { Makes result items.new (member scope.now found.now items.old) }
+    ensures gives { Makes result items.new (member outside.old inside.now found.now items.old) }
+    ensures same { outside.new ≡ outside.old }
 {
     match found {
         Member::Point(point) => {
             let name = name_of(alloc, point, items.items.as_slice().len())?;
-            add_named(alloc, scope, name, point, items)
+            add_named(alloc, outside, inside, name, point, items)
         }
-        Member::Opt(option) => Err(ElabKind::NotBuiltYet.at(option.at)),
+        Member::Opt(_) => Ok(()),
         Member::Cross(cross) => Err(ElabKind::NotBuiltYet.at(cross.at)),
     }
 }
 
-/// The items of an instance.
+/// The items of an instance. What is declared outside is lent, with the names of the instance entered, and as before
+/// afterwards.
 #[tactic(auto, unfolding(crate::specs::Points::members_walked))]
 pub(crate) fn walk_members(
     alloc: Global,
-    scope: &Scope,
+    outside: &mut Outside,
+    inside: &Inside,
     counts: Counts,
     members: &[Member],
 ) -> Result<Items, ElabFault>
-    ensures { Gives result (members_walked scope.now counts members.now) }
+    ensures gives { Gives result (members_walked outside.old inside.now counts members.now) }
+    ensures same { outside.new ≡ outside.old }
 {
     let mut items = Items {
         names: NameMap::new(alloc),
@@ -220,7 +275,7 @@ pub(crate) fn walk_members(
         counts,
     };
     for found in members {
-        add_member(alloc, scope, found, &mut items)?;
+        add_member(alloc, outside, inside, found, &mut items)?;
     }
     Ok(items)
 }
