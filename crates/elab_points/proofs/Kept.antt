@@ -1,31 +1,44 @@
 -- What is known of the bins of a point: there are no more than an item may have, and each has something left.
-use Rattle.std.proofs.Common.{◌≡◌, ◌∙◌, ℕ, zero, suc, ◌+◌, ◌≤◌, ℤ, List, [], ◌∷◌, ◌++◌, length, map, refl, sym, ap, subst, Bool, true, false, cond, arith, Option, Result, Ok, Err}
-use Rattle.std.specs.Prelude.{nat_le}
+use Rattle.std.proofs.Common.{◌≡◌, ◌∙◌, ℕ, zero, suc, ◌+◌, ◌≤◌, ℤ, List, [], ◌∷◌, ◌++◌, length, map, filter, refl, sym, ap, subst, Bool, true, false, cond, arith, Option, Some, None, Result, Ok, Err}
+use Rattle.std.specs.Prelude.{nat_le, int_lt, if◌then◌else◌}
 use Rattle.std.specs.List.{AllByRecursion}
 use Rattle.std.proofs.lemmas.List.{length-append, length_push}
 use Rattle.cov_ground.specs.Limits.{most_bins}
-use Rattle.cov_base.specs.Sets.{written, set_of, ascending}
+use Rattle.cov_base.specs.Sets.{written, set_of, ascending, put}
 use Rattle.bin_spec.specs.Parts.{places, part, parts}
 use Rattle.cov_tree.specs.declared.bins.BinsDecl.{BinsDecl}
+use Rattle.cov_tree.specs.declared.bins.Right.{Right}
+use Rattle.cov_tree.specs.declared.bins.Right.TheVariants as rights
+use Rattle.cov_tree.specs.declared.bins.Size.{Size}
+use Rattle.cov_tree.specs.declared.bins.Size.TheVariants as sizes
+use Rattle.const_eval.specs.Terms.{Term}
 use Rattle.const_eval.specs.Scopes.{Levels}
+use Rattle.design_data.specs.declared.infos.BinRule.TheVariants.{Default}
 use Rattle.elab_base.specs.declared.fault.ElabKind.TheVariants as kind
-use Rattle.elab_base.specs.Gives.{needs}
+use Rattle.elab_base.specs.Gives.{needs, each_at}
 use Rattle.elab_base.specs.Steps.{unused, guard_in}
 use Rattle.elab_base.proofs.Keeps.{bind_ok, ok_is, each_keeps, needs_ok, all_append}
 use Rattle.elab_values.specs.declared.domain.Domain.{Domain}
-use Rattle.elab_points.specs.declared.declared.Walked.{Walked}
+use Rattle.elab_values.specs.declared.elements.Listed.{Listed}
 use Rattle.elab_values.specs.declared.made.Made.{Made}
 use Rattle.elab_values.specs.declared.made.PointBins.{PointBins}
 use Rattle.elab_values.specs.declared.made.Settings.{Settings}
+use Rattle.elab_values.specs.Listed.{numbers_listed}
+use Rattle.elab_points.specs.declared.declared.Entry.{Entry}
+use Rattle.elab_points.specs.declared.declared.Entry.TheVariants.{Bin, Rest}
+use Rattle.elab_points.specs.declared.declared.Walked.{Walked}
 use Rattle.elab_points.specs.declared.made.Head.{Head}
 use Rattle.elab_points.specs.declared.made.Plan.{Plan}
+use Rattle.elab_points.specs.declared.made.Plan.TheVariants as plans
 use Rattle.elab_points.specs.declared.made.Wanted.{Wanted}
 use Rattle.elab_points.specs.declared.made.Wanted.TheVariants as wants
+use Rattle.elab_points.specs.Automatic.{automatic, declares_coverage, automatic_added, automatic_binned, with_automatic}
 use Rattle.elab_points.specs.Built.{is_built_decl}
-use Rattle.elab_values.specs.Listed.{numbers_of}
-use Rattle.elab_points.specs.Made.{wanted_in, bins_wanted, plan_of, planned, value_bin, single, part_bins, bins_made}
-use Rattle.elab_points.specs.Declarations.{elems_in, head_of, bins_added, numbers_binned, bins_declared, no_bins, bins_walked}
-use Rattle.elab_points.specs.Left.{bin_left, has_some, some_of, left_of, bins_left, left_by, point_left, bins_of_point}
+use Rattle.elab_points.specs.Declarations.{kind_of, default_kind, elements_in, entered, head_of, bins_added, values_binned, elements_binned, values_declared, one_added, rest_added, default_added, default_sized, default_declared, declared_by, bins_declared, no_bins, bins_walked}
+use Rattle.elab_points.specs.Filter.{passes, keep_of, filter_in, kept_numbers}
+use Rattle.elab_points.specs.Left.{bin_left, has_some, some_of, left_of, bins_left, left_by, point_left, walked_left, bins_of_point}
+use Rattle.elab_points.specs.Made.{wanted_in, bins_wanted, plan_of, planned, plan_bins, named_bin, single, part_bins, parts_kept, bins_made}
+use Rattle.elab_points.specs.Rest.{unlisted, rest_bin, entry_bins, all_bins, entry_counted, entries_counted, all_filled}
 
 -- ---- how many bins a declaration makes
 
@@ -45,48 +58,199 @@ length-part_bins : (head : Head) (j : ℕ) (sets : List (List (ℤ × ℤ))) →
 length-part_bins head j [] = refl
 length-part_bins head j (set ∷ sets) = ap (λ (n : ℕ). suc n) (length-part_bins head (j + 1) sets)
 
-length-made : (wanted : Wanted) (head : Head) (numbers : List ℤ) → length (bins_made (plan_of wanted numbers) head numbers) ≡ bins_wanted wanted numbers
+length-parts_kept : (distribute : Bool) (keep : Option Term) (n : ℕ) (numbers kept : List ℤ) → length (parts_kept distribute keep n numbers kept) ≡ n
+length-parts_kept distribute None n numbers kept = length-parts kept n
+length-parts_kept true (Some term) n numbers kept = length-map (filter (passes term)) (parts numbers n) ∙ length-parts numbers n
+length-parts_kept false (Some term) n numbers kept = length-parts kept n
+
+length-made : (distribute : Bool) (keep : Option Term) (plan : Plan) (head : Head) (numbers kept : List ℤ) → length (bins_made distribute keep plan head numbers kept) ≡ plan_bins plan
 unfolding bins_made
-length-made wants.One head numbers = refl
-length-made wants.Each head numbers = length-map (single head) (ascending numbers)
-length-made (wants.Spread n) head numbers = length-part_bins head 0 (map set_of (parts numbers n)) ∙ (length-map set_of (parts numbers n) ∙ length-parts numbers n)
+length-made distribute keep plans.One head numbers kept = refl
+length-made distribute keep (plans.Each distinct) head numbers kept = length-map (single head) distinct
+length-made distribute keep (plans.Spread n) head numbers kept =
+    let sets = parts_kept distribute keep n numbers kept in
+    length-part_bins head 0 (map set_of sets) ∙ (length-map set_of sets ∙ length-parts_kept distribute keep n numbers kept)
+
+plan_is : (wanted : Wanted) (kept : List ℤ) → plan_bins (plan_of wanted kept) ≡ bins_wanted wanted kept
+plan_is wants.One kept = refl
+plan_is wants.Each kept = refl
+plan_is (wants.Spread n) kept = refl
+
+-- a plan has room in its item
+plan_fits : (have : ℕ) (wanted : Wanted) (kept : List ℤ) (at : ℕ) (plan : Plan) → planned have wanted kept at ≡ Ok plan → have + plan_bins plan ≤ most_bins
+unfolding planned
+plan_fits have wanted kept at plan e =
+    let n = bind_ok (needs (nat_le (have + bins_wanted wanted kept) most_bins) kind.TooManyBins at) _ plan e in
+    let fits = needs_ok (nat_le (have + bins_wanted wanted kept) most_bins) kind.TooManyBins at n.0 n.1 in
+    let same = plan_is wanted kept in
+    let here : have + plan_bins (plan_of wanted kept) ≤ most_bins = grind (arith, fits, same) in
+    subst (λ (p : Plan). have + plan_bins p ≤ most_bins) (ok_is (plan_of wanted kept) plan n.2) here
 
 -- ---- the declarations
 
-FewBins : Walked → Type 0
-FewBins w = length w.bins ≤ most_bins
+-- the bins among entries, without those of arrays of `default`
+abbrev bins_among : List Entry → ℕ
+bins_among [] = 0
+bins_among (Bin made ∷ es) = bins_among es + 1
+bins_among (Rest head ∷ es) = bins_among es
 
-binned_few : (levels : Levels) (b : BinsDecl) (numbers : List ℤ) (w t : Walked) → numbers_binned levels b numbers w ≡ Ok t → FewBins t
-unfolding numbers_binned planned bins_added FewBins
-binned_few levels b numbers w t e =
-    let a = bind_ok (wanted_in levels b.size b.at) _ t e in
+among-append : (xs ys : List Entry) → bins_among (xs ++ ys) ≡ bins_among xs + bins_among ys
+among-append [] ys = omega arith
+among-append (Bin made ∷ xs) ys = let h = among-append xs ys in omega (arith, h)
+among-append (Rest head ∷ xs) ys = among-append xs ys
+
+among-bins : (bins : List Made) → bins_among (map Bin bins) ≡ length bins
+among-bins [] = refl
+among-bins (made ∷ bins) = let h = among-bins bins in omega (arith, h)
+
+pub record AreCounted (w : Walked) : Type 0 where
+  pub few : w.count ≤ most_bins
+  pub is : w.count ≡ bins_among w.entries
+
+added_counted : (head : Head) (count : ℕ) (bins : List Made) (kept : List ℤ) (w : Walked) → length bins ≡ count → w.count + count ≤ most_bins → AreCounted w → AreCounted (bins_added head count bins kept w)
+unfolding bins_added
+added_counted head count bins kept w many room h =
+    let was = h.is in
+    let both = among-append w.entries (map Bin bins) in
+    let these = among-bins bins in
+    record { few = room; is = omega (arith, was, both, these, many) }
+
+values_counted : (domain : Domain) (distribute : Bool) (keep : Option Term) (wanted : Wanted) (elements : List Listed) (head : Head) (w t : Walked) → values_binned domain distribute keep wanted elements head w ≡ Ok t → AreCounted w → AreCounted t
+unfolding values_binned
+values_counted domain distribute keep wanted elements head w t e h =
+    let n = bind_ok (numbers_listed domain elements head.at) _ t e in
+    let k = bind_ok (kept_numbers keep n.0 head.at) _ t n.2 in
+    let p = bind_ok (planned w.count wanted k.0 head.at) _ t k.2 in
+    let many = length-made distribute keep p.0 head n.0 k.0 in
+    subst AreCounted (ok_is _ t p.2) (added_counted head (plan_bins p.0) (bins_made distribute keep p.0 head n.0 k.0) k.0 w many (plan_fits w.count wanted k.0 head.at p.0 p.1) h)
+
+declared_values : (levels : Levels) (domain : Domain) (distribute : Bool) (b : BinsDecl) (w t : Walked) → values_declared levels domain distribute b w ≡ Ok t → AreCounted w → AreCounted t
+unfolding values_declared elements_binned
+declared_values levels domain distribute b w t e h =
+    let s = bind_ok (elements_in levels domain b.wildcard b.right) _ t e in
+    let k = bind_ok (filter_in levels domain.typ (keep_of b.right)) _ t s.2 in
+    let a = bind_ok (wanted_in levels b.size b.at) _ t k.2 in
     let g = bind_ok (guard_in levels b.guard) _ t a.2 in
-    let p = bind_ok (planned (length w.bins) a.0 numbers b.at) _ t g.2 in
-    let n = bind_ok (needs (nat_le (length w.bins + bins_wanted a.0 numbers) most_bins) kind.TooManyBins b.at) _ p.0 p.1 in
-    let fits = needs_ok (nat_le (length w.bins + bins_wanted a.0 numbers) most_bins) kind.TooManyBins b.at n.0 n.1 in
-    let is : plan_of a.0 numbers ≡ p.0 = ok_is _ p.0 n.2 in
-    let head : Head = head_of b g.0 w in
-    let count = length-append w.bins (bins_made (plan_of a.0 numbers) head numbers) in
-    let made = length-made a.0 head numbers in
-    let few : length (w.bins ++ bins_made (plan_of a.0 numbers) head numbers) ≤ most_bins = grind (arith, fits, count, made) in
-    let here : FewBins (bins_added head p.0 numbers w) = subst (λ (q : Plan). length (w.bins ++ bins_made q head numbers) ≤ most_bins) is few in
-    subst FewBins (ok_is _ t p.2) here
+    values_counted domain distribute k.0 a.0 s.0 (head_of b (kind_of b.word) g.0 w) w t g.2 h
 
-declared_few : (levels : Levels) (domain : Domain) (b : BinsDecl) (w t : Walked) → bins_declared levels domain b w ≡ Ok t → FewBins t
+one_counted : (head : Head) (w t : Walked) → default_added head w ≡ Ok t → AreCounted w → AreCounted t
+unfolding default_added one_added
+one_counted head w t e h =
+    let n = bind_ok (needs (nat_le (w.count + 1) most_bins) kind.TooManyBins head.at) _ t e in
+    let fits = needs_ok (nat_le (w.count + 1) most_bins) kind.TooManyBins head.at n.0 n.1 in
+    let was = h.is in
+    let both = among-append w.entries (Bin (named_bin head head.name Default) ∷ []) in
+    subst AreCounted (ok_is _ t n.2) (record { few = grind (arith, fits); is = omega (arith, was, both) })
+
+rest_counted : (head : Head) (w : Walked) → AreCounted w → AreCounted (rest_added head w)
+unfolding rest_added
+rest_counted head w h =
+    let was = h.is in
+    let both = among-append w.entries (Rest head ∷ []) in
+    record { few = h.few; is = omega (arith, was, both) }
+
+sized_counted : (size : Size) (head : Head) (w t : Walked) → default_sized size head w ≡ Ok t → AreCounted w → AreCounted t
+sized_counted sizes.Open head w t e h = subst AreCounted (ok_is (rest_added head w) t e) (rest_counted head w h)
+sized_counted sizes.Scalar head w t e h = one_counted head w t e h
+sized_counted (sizes.Fixed bins) head w t e h = one_counted head w t e h
+
+declared_default : (levels : Levels) (b : BinsDecl) (w t : Walked) → default_declared levels b w ≡ Ok t → AreCounted w → AreCounted t
+unfolding default_declared
+declared_default levels b w t e h =
+    let g = bind_ok (guard_in levels b.guard) _ t e in
+    sized_counted b.size (head_of b (default_kind b.word) g.0 w) w t g.2 h
+
+right_counted : (levels : Levels) (domain : Domain) (distribute : Bool) (b : BinsDecl) (right : Right) (w t : Walked) → declared_by levels domain distribute b w right ≡ Ok t → AreCounted w → AreCounted t
+right_counted levels domain distribute b (rights.Ranges elems keep) w t e h = declared_values levels domain distribute b w t e h
+right_counted levels domain distribute b (rights.Whole name keep) w t e h = declared_values levels domain distribute b w t e h
+right_counted levels domain distribute b (rights.Trans seqs) w t e h = absurd cc
+right_counted levels domain distribute b rights.Default w t e h = declared_default levels b w t e h
+right_counted levels domain distribute b rights.DefaultSequence w t e h = absurd cc
+
+declared_counted : (levels : Levels) (domain : Domain) (name : List ℕ) (distribute : Bool) (b : BinsDecl) (w t : Walked) → bins_declared levels domain name distribute b w ≡ Ok t → AreCounted w → AreCounted t
 unfolding bins_declared
-declared_few levels domain b w t e =
-    let a = bind_ok (unused w.known b.name b.at) _ t e in
-    let p = bind_ok (needs (is_built_decl b) kind.NotBuiltYet b.at) _ t a.2 in
-    let n = bind_ok (numbers_of levels domain b.wildcard (elems_in b.right) b.at) _ t p.2 in
-    binned_few levels b n.0 w t n.2
+declared_counted levels domain name distribute b w t e h =
+    let a = bind_ok (entered name b w) _ t e in
+    right_counted levels domain distribute b b.right w t a.2 h
 
-begins_few : FewBins no_bins
-unfolding FewBins
-begins_few = omega arith
+begins_counted : AreCounted no_bins
+begins_counted = record { few = omega arith; is = refl }
 
-walked_few : (levels : Levels) (domain : Domain) (bs : List BinsDecl) (w : Walked) → bins_walked levels domain bs ≡ Ok w → FewBins w
+walked_counted : (levels : Levels) (domain : Domain) (name : List ℕ) (distribute : Bool) (bs : List BinsDecl) (w : Walked) → bins_walked levels domain name distribute bs ≡ Ok w → AreCounted w
 unfolding bins_walked
-walked_few levels domain bs w e = each_keeps (λ k. bins_declared levels domain) FewBins (λ k b s t e h. declared_few levels domain b s t e) 0 bs no_bins w e begins_few
+walked_counted levels domain name distribute bs w e =
+    each_keeps (λ k. bins_declared levels domain name distribute) AreCounted (λ k b s t e h. declared_counted levels domain name distribute b s t e h) 0 bs no_bins w e begins_counted
+
+-- ---- automatic bins
+
+automatic_counted : (domain : Domain) (settings : Settings) (at : ℕ) (w t : Walked) → automatic_binned domain settings at w ≡ Ok t → AreCounted w → AreCounted t
+unfolding automatic_binned automatic_added
+automatic_counted domain settings at w t e h =
+    let autos = automatic domain settings at in
+    let n = bind_ok (needs (nat_le (w.count + length autos) most_bins) kind.TooManyBins at) _ t e in
+    let fits = needs_ok (nat_le (w.count + length autos) most_bins) kind.TooManyBins at n.0 n.1 in
+    let was = h.is in
+    let both = among-append w.entries (map Bin autos) in
+    let these = among-bins autos in
+    subst AreCounted (ok_is _ t n.2) (record { few = grind (arith, fits); is = omega (arith, was, both, these) })
+
+undeclared_counted : (domain : Domain) (settings : Settings) (bs : List BinsDecl) (at : ℕ) (w t : Walked) → with_automatic domain settings bs at w ≡ Ok t → AreCounted w → AreCounted t
+unfolding with_automatic
+undeclared_counted domain settings bs at w t e h = by (declares_coverage bs) refl e
+  where
+    by : (b : Bool) → declares_coverage bs ≡ b → (if b then Ok w else automatic_binned domain settings at w) ≡ Ok t → AreCounted t
+    by true is e = subst AreCounted (ok_is w t e) h
+    by false is e = automatic_counted domain settings at w t e h
+
+-- ---- arrays of `default`
+
+length-put : (v : ℤ) (xs : List ℤ) → length (put v xs) ≤ length xs + 1
+length-put v [] = omega arith
+length-put v (x ∷ xs) = by (int_lt v x) (int_lt x v) (length-put v xs)
+  where
+    by : (a b : Bool) → length (put v xs) ≤ length xs + 1 → length (if a then v ∷ x ∷ xs else (if b then x ∷ put v xs else x ∷ xs)) ≤ suc (length xs) + 1
+    by true b h = omega arith
+    by false true h = omega (arith, h)
+    by false false h = omega arith
+
+length-ascending : (xs : List ℤ) → length (ascending xs) ≤ length xs
+length-ascending [] = omega arith
+length-ascending (x ∷ xs) = let h = length-ascending xs in let p = length-put x (ascending xs) in omega (arith, h, p)
+
+pub record AreFilled (count : ℕ) (among : ℕ) (bins : List Made) (t : ℕ) : Type 0 where
+  pub few : t ≤ most_bins
+  pub all : count + length bins ≤ t + among
+
+entries_filled : (rest : List (ℤ × ℤ)) (k : ℕ) (es : List Entry) (count t : ℕ) → each_at (λ i. entry_counted (length (written rest))) k es count ≡ Ok t → count ≤ most_bins → AreFilled count (bins_among es) (all_bins rest es) t
+unfolding each_at all_bins entry_counted
+entries_filled rest k [] count t e le = let is : count ≡ t = ok_is count t e in record { few = omega (arith, is, le); all = omega (arith, is) }
+entries_filled rest k (Bin made ∷ es) count t e le =
+    let h = entries_filled rest (k + 1) es count t e le in
+    let all = h.all in
+    record { few = h.few; all = omega (arith, all) }
+entries_filled rest k (Rest head ∷ es) count t e le =
+    let more = length (written rest) in
+    let b = bind_ok (entry_counted more (Rest head) count) (each_at (λ i. entry_counted more) (k + 1) es) t e in
+    let n = bind_ok (needs (nat_le (count + more) most_bins) kind.TooManyBins head.at) _ b.0 b.1 in
+    let fits : count + more ≤ most_bins = grind (arith, needs_ok (nat_le (count + more) most_bins) kind.TooManyBins head.at n.0 n.1) in
+    let next : count + more ≡ b.0 = ok_is (count + more) b.0 n.2 in
+    let h = entries_filled rest (k + 1) es b.0 t b.2 (omega (arith, fits, next)) in
+    let all = h.all in
+    let these = length-map (rest_bin head) (ascending (written rest)) in
+    let few = length-ascending (written rest) in
+    let both = length-append (map (rest_bin head) (ascending (written rest))) (all_bins rest es) in
+    record { few = h.few; all = omega (arith, all, these, few, both, next) }
+
+filled_few : (domain : Domain) (w : Walked) (bins : List Made) → all_filled domain w.listed w.entries w.count ≡ Ok bins → AreCounted w → length bins ≤ most_bins
+unfolding all_filled entries_counted
+filled_few domain w bins e h =
+    let rest = unlisted domain w.listed in
+    let t = bind_ok (entries_counted (length (written rest)) w.entries w.count) _ bins e in
+    let f = entries_filled rest 0 w.entries w.count t.0 t.1 h.few in
+    let few = f.few in
+    let all = f.all in
+    let was = h.is in
+    subst (λ (bins : List Made). length bins ≤ most_bins) (ok_is (all_bins rest w.entries) bins t.2) (omega (arith, few, all, was))
 
 -- ---- what is left
 
@@ -120,11 +284,20 @@ pub record AreLeft (bins : List Made) : Type 0 where
   pub few : length bins ≤ most_bins
   pub have : AllByRecursion (λ made. has_some made.bin.rule ≡ true) bins
 
+by_left : (ignored illegal : List (ℤ × ℤ)) (bins : List Made) → length bins ≤ most_bins → AreLeft (left_by ignored illegal bins)
+unfolding left_by HasSome
+by_left ignored illegal bins few =
+    let all = set_of (written (ignored ++ illegal)) in
+    let only = set_of (written illegal) in
+    let less = left_few all only bins in
+    record { few = omega (arith, few, less); have = left_have all only bins }
+
 pub few_left : (levels : Levels) (domain : Domain) (name : List ℕ) (settings : Settings) (bs : List BinsDecl) (at : ℕ) (found : PointBins) → bins_of_point levels domain name settings bs at ≡ Ok found → AreLeft found.bins
-unfolding bins_of_point left_by FewBins HasSome
+unfolding bins_of_point walked_left
 few_left levels domain name settings bs at found e =
-    let w = bind_ok (bins_walked levels domain bs) _ found e in
-    let few = walked_few levels domain bs w.0 w.1 in
-    let is = ok_is (point_left w.0) found w.2 in
-    let less = left_few (set_of (written (w.0.ignored ++ w.0.illegal))) (set_of (written w.0.illegal)) w.0.bins in
-    subst (λ (found : PointBins). AreLeft found.bins) is (record { few = omega (arith, few, less); have = left_have (set_of (written (w.0.ignored ++ w.0.illegal))) (set_of (written w.0.illegal)) w.0.bins })
+    let d = bind_ok (bins_walked levels domain name settings.distribute_first bs) _ found e in
+    let w = bind_ok (with_automatic domain settings bs at d.0) _ found d.2 in
+    let all = bind_ok (all_filled domain w.0.listed w.0.entries w.0.count) _ found w.2 in
+    let counted = undeclared_counted domain settings bs at d.0 w.0 w.1 (walked_counted levels domain name settings.distribute_first bs d.0 d.1) in
+    let few = filled_few domain w.0 all.0 all.1 counted in
+    subst (λ (found : PointBins). AreLeft found.bins) (ok_is (point_left w.0 all.0) found all.2) (by_left w.0.ignored w.0.illegal all.0 few)

@@ -1,3 +1,4 @@
+pub mod Filters
 pub mod Singles
 pub mod Removal
 pub mod Kept

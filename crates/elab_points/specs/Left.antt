@@ -16,6 +16,8 @@ use Rattle.elab_values.specs.declared.made.PointBins.{PointBins}
 use Rattle.elab_values.specs.declared.made.Settings.{Settings}
 use Rattle.elab_points.specs.declared.declared.Walked.{Walked}
 use Rattle.elab_points.specs.Declarations.{bins_walked}
+use Rattle.elab_points.specs.Automatic.{with_automatic}
+use Rattle.elab_points.specs.Rest.{all_filled}
 
 abbrev pub set_left : (removed set : List (ℤ × ℤ)) → List (ℤ × ℤ)
 set_left removed set = set_of (without (written set) (written removed))
@@ -47,7 +49,7 @@ has_some (Values set) = not (length set == 0)
 has_some (Patterns patterns) = true
 has_some (Trans seqs) = true
 has_some Default = true
-has_some (DefaultValues set) = true
+has_some (DefaultValues set) = not (length set == 0)
 has_some DefaultSequence = true
 has_some (Picked select) = true
 has_some (Product places) = true
@@ -66,11 +68,18 @@ bins_left all illegal bins = flat_map (left_of all illegal) bins
 unfoldable pub left_by : (ignored illegal : List (ℤ × ℤ)) → List Made → List Made
 left_by ignored illegal bins = bins_left (set_of (written (ignored ++ illegal))) (set_of (written illegal)) bins
 
-abbrev pub point_left : Walked → PointBins
-point_left w = record { bins = left_by w.ignored w.illegal w.bins; names = w.names; ignored = w.ignored_seqs; illegal = w.illegal_seqs }
+abbrev pub point_left : Walked → (bins : List Made) → PointBins
+point_left w bins = record { bins = left_by w.ignored w.illegal bins; names = w.names; ignored = w.ignored_seqs; illegal = w.illegal_seqs }
+
+-- what is left of all that is declared, with the bins of arrays of `default` in their places
+unfoldable pub walked_left : Domain → Walked → Result PointBins Refusal
+walked_left domain w = do
+  bins ← all_filled domain w.listed w.entries w.count
+  Ok (point_left w bins)
 
 -- the bins of a point of this name, which stands there
 unfoldable pub bins_of_point : Levels → Domain → (name : List ℕ) → Settings → List BinsDecl → (at : ℕ) → Result PointBins Refusal
 bins_of_point levels domain name settings bs at = do
-  w ← bins_walked levels domain bs
-  Ok (point_left w)
+  declared ← bins_walked levels domain name settings.distribute_first bs
+  w ← with_automatic domain settings bs at declared
+  walked_left domain w

@@ -1,4 +1,7 @@
+pub mod Automatic
 pub mod Built
 pub mod Declarations
+pub mod Filter
 pub mod Left
 pub mod Made
+pub mod Rest

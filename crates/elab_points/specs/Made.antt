@@ -1,12 +1,13 @@
 -- The bins of one declaration: one of all listed numbers, one of each, or so many over which they are spread
 -- (IEEE 1800-2017, 19.5.1).
-use Rattle.std.specs.Prelude.{ℕ, ◌+◌, ◌≤◌, nat_le, ℤ, pos, int_le, unsigned_abs, List, [], ◌∷◌, ◌++◌, length, map, Result, Ok, Err}
+use Rattle.std.specs.Prelude.{ℕ, ◌+◌, ◌≤◌, nat_le, ℤ, pos, int_le, unsigned_abs, List, [], ◌∷◌, ◌++◌, length, map, filter, Bool, Option, Some, None, Result, Ok, Err, if◌then◌else◌}
 use Rattle.std.specs.Fmt.{decimal, signed_decimal}
 use Rattle.cov_ground.specs.Limits.{most_bins}
 use Rattle.cov_base.specs.Sets.{written, set_of, ascending}
 use Rattle.bin_spec.specs.Parts.{parts}
 use Rattle.cov_tree.specs.declared.bins.Size.{Size}
 use Rattle.cov_tree.specs.declared.bins.Size.TheVariants as sizes
+use Rattle.const_eval.specs.Terms.{Term}
 use Rattle.const_eval.specs.Scopes.{Levels}
 use Rattle.design_data.specs.declared.infos.BinRule.{BinRule}
 use Rattle.design_data.specs.declared.infos.BinRule.TheVariants.{Values}
@@ -14,6 +15,7 @@ use Rattle.elab_base.specs.declared.fault.ElabKind.TheVariants as kind
 use Rattle.elab_base.specs.Gives.{Refusal, ◌>>=◌, needs}
 use Rattle.elab_base.specs.Steps.{number_in}
 use Rattle.elab_values.specs.declared.made.Made.{Made}
+use Rattle.elab_points.specs.Filter.{passes}
 use Rattle.elab_points.specs.declared.made.Head.{Head}
 use Rattle.elab_points.specs.declared.made.Wanted.{Wanted}
 use Rattle.elab_points.specs.declared.made.Wanted.TheVariants as wants
@@ -51,6 +53,12 @@ planned have wanted numbers at = do
   _ ← needs (nat_le (have + bins_wanted wanted numbers) most_bins) kind.TooManyBins at
   Ok (plan_of wanted numbers)
 
+-- how many bins a plan has
+abbrev pub plan_bins : Plan → ℕ
+plan_bins plans.One = 1
+plan_bins (plans.Each numbers) = length numbers
+plan_bins (plans.Spread n) = n
+
 abbrev pub IsPlan : Plan → Type 0
 IsPlan plans.One = Unit {0}
 IsPlan (plans.Each numbers) = Unit {0}
@@ -76,7 +84,18 @@ abbrev pub part_bins : Head → ℕ → List (List (ℤ × ℤ)) → List Made
 part_bins head j [] = []
 part_bins head j (set ∷ sets) = value_bin head (indexed head.name (decimal j)) set ∷ part_bins head (j + 1) sets
 
-unfoldable pub bins_made : Plan → Head → List ℤ → List Made
-bins_made plans.One head numbers = value_bin head head.name (set_of numbers) ∷ []
-bins_made (plans.Each distinct) head numbers = map (single head) distinct
-bins_made (plans.Spread n) head numbers = part_bins head 0 (map set_of (parts numbers n))
+-- the numbers of a set that pass a filter
+abbrev pub set_filtered : Term → List (ℤ × ℤ) → List (ℤ × ℤ)
+set_filtered term set = set_of (filter (passes term) (written set))
+
+-- The numbers of the parts over which listed numbers are spread: a filter is applied before, or to each part, where
+-- `type_option.distribute_first` says so (19.7.1).
+abbrev pub parts_kept : (distribute : Bool) → Option Term → ℕ → (numbers kept : List ℤ) → List (List ℤ)
+parts_kept distribute None n numbers kept = parts kept n
+parts_kept distribute (Some term) n numbers kept = if distribute then map (filter (passes term)) (parts numbers n) else parts kept n
+
+-- the bins of a declaration that lists numbers, of which a filter keeps some
+unfoldable pub bins_made : (distribute : Bool) → Option Term → Plan → Head → (numbers kept : List ℤ) → List Made
+bins_made distribute keep plans.One head numbers kept = value_bin head head.name (set_of kept) ∷ []
+bins_made distribute keep (plans.Each distinct) head numbers kept = map (single head) distinct
+bins_made distribute keep (plans.Spread n) head numbers kept = part_bins head 0 (map set_of (parts_kept distribute keep n numbers kept))

@@ -1,28 +1,52 @@
 //! Which bins of a point are built.
 ghost use Rattle.std.specs.Prelude.{◌≡◌};
-ghost use Rattle.elab_points.specs.Built.{is_built_right, is_built_decl};
+ghost use Rattle.elab_points.specs.Built.{is_scalar as is_scalar_size, is_built_right, is_built_wildcard, is_built_decl};
 
-use cov_tree::{BinsDecl, Right};
+use cov_tree::{BinsDecl, Right, Size};
+
+/// Whether a declaration asks for one bin.
+pub(crate) fn is_scalar(size: &Size) -> bool
+    ensures { result ≡ is_scalar_size size.now }
+{
+    match size {
+        Size::Scalar => true,
+        Size::Open => false,
+        Size::Fixed(_) => false,
+    }
+}
 
 fn is_built_values(right: &Right) -> bool
     ensures { result ≡ is_built_right right.now }
 {
     match right {
-        Right::Ranges { keep: None, .. } => true,
-        Right::Ranges { keep: Some(_), .. } => false,
-        Right::Whole { .. } => false,
+        Right::Ranges { .. } => true,
+        Right::Whole { .. } => true,
         Right::Trans(_) => false,
-        Right::Default => false,
+        Right::Default => true,
         Right::DefaultSequence => false,
     }
 }
 
-/// Whether the bins of a declaration are built: so far those of values alone, without `wildcard` and `with`.
+fn is_built_literals(size: &Size, right: &Right) -> bool
+    ensures { result ≡ is_built_wildcard size.now right.now }
+{
+    match right {
+        Right::Ranges { keep: None, .. } => !is_scalar(size),
+        Right::Ranges { keep: Some(_), .. } => false,
+        Right::Whole { .. } => true,
+        Right::Trans(_) => false,
+        Right::Default => true,
+        Right::DefaultSequence => false,
+    }
+}
+
+/// Whether the bins of a declaration are built: so far those of values, but for the literals with x, z or `?` of scalar
+/// bins and of filtered ones, and `default`.
 pub fn is_built(decl: &BinsDecl) -> bool
     ensures { result ≡ is_built_decl decl.now }
 {
     if decl.wildcard {
-        return false;
+        return is_built_literals(&decl.size, &decl.right);
     }
     is_built_values(&decl.right)
 }

@@ -1,35 +1,59 @@
 //! The declarations of bins of a point, in order.
-ghost use Rattle.std.specs.Prelude.{◌≡◌, ◌++◌, ◌∷◌, [], OnOk, IfOk};
+ghost use Rattle.std.specs.Prelude.{◌≡◌, ◌++◌, ◌∷◌, [], ◌+◌, ◌≤◌, map, true, OnOk, IfOk};
+ghost use Rattle.std.specs.List.{AllByRecursion};
+ghost use Rattle.cov_ground.specs.Limits.{most_bins};
 ghost use Rattle.name_map.specs.Names.{with_name};
-ghost use Rattle.elab_base.specs.declared.names.What.TheVariants as what;
 ghost use Rattle.cov_base.specs.Sets.{written, set_of};
+ghost use Rattle.elab_base.specs.declared.names.What.TheVariants as what;
 ghost use Rattle.elab_base.specs.Gives.{Gives, Makes};
-ghost use Rattle.elab_points.specs.Made.{IsPlan};
-ghost use Rattle.elab_points.specs.Declarations.{kind_of as kind_meant, elems_in, is_ignore, is_illegal, with_set, head_of, bins_added, numbers_binned, bins_declared, bins_walked};
+ghost use Rattle.elab_values.specs.Listed.{IsListed};
+ghost use Rattle.elab_points.specs.declared.declared.Entry.TheVariants.{Bin};
+ghost use Rattle.elab_points.specs.Made.{IsWanted, IsPlan, plan_bins};
+ghost use Rattle.elab_points.specs.Declarations.{kind_of as kind_meant, default_kind as default_meant, is_ignore, is_illegal, names_point, is_default, may_default, entered, whole_elements, elements_in, with_set, head_of, bins_added, values_binned, elements_binned, values_declared, one_added, rest_added, default_added, default_sized, default_declared, declared_by, bins_declared, bins_walked};
 
 use crate::built::is_built;
-use crate::made::{Head, Plan, bins_of, make_plan, size_of};
+use crate::filter::{filter_of, keep_numbers};
+use crate::made::{Head, Plan, Wanted, bin_of, bins_of, check_room, make_plan, size_of};
 use const_eval::{Bound, Scope};
 use cov_base::{Int, Memory, ValueSet};
-use cov_tree::{BinsDecl, Elem, List, Name, Right, Word};
-use design_data::BinKind;
+use cov_tree::{BinsDecl, List, Name, Right, Size, Word};
+use design_data::{BinKind, BinRule};
 use elab_base::{ElabFault, ElabKind, What, add_name, check_unused, guard_in};
-use elab_values::{Domain, Made, numbers};
+use elab_values::{Domain, Listed, Made, elements_of, numbers_listed};
 use name_map::NameMap;
 use std::alloc::Global;
 use trans_seq::Seq;
 use value_bins::Elems;
 
-/// The bins of a point on the way, as declared, with the names of the declarations, and what they remove: a set of numbers
-/// for each declaration, one behind the other, and sequences.
+/// What a declaration of a point adds to its bins.
+#[derive(Drop)]
+pub enum Entry {
+    /// A bin.
+    Bin(Made),
+    /// A bin for each number that is listed nowhere: an array of `default`.
+    Rest(Head),
+}
+
+/// The bins of a point on the way, before removal. Sets stand one behind the other, one for each declaration.
 #[derive(Drop)]
 pub struct Walked {
+    /// The names of the declarations, to find one.
     pub known: NameMap<What>,
+    /// The same names in order.
     pub names: List<Name>,
-    pub bins: List<Made>,
+    /// The bins in order.
+    pub entries: List<Entry>,
+    /// How many bins there are, without those of arrays of `default`.
+    pub count: usize,
+    /// The sets of all listed numbers.
+    pub listed: List<(Int, Int)>,
+    /// The sets of the ignore bins.
     pub ignored: List<(Int, Int)>,
+    /// The sets of the illegal bins.
     pub illegal: List<(Int, Int)>,
+    /// The sequences of the ignore bins.
     pub ignored_seqs: List<Seq>,
+    /// The sequences of the illegal bins.
     pub illegal_seqs: List<Seq>,
 }
 
@@ -43,12 +67,13 @@ fn kind_of(word: &Word) -> BinKind
     }
 }
 
-fn elems(right: &Right) -> &[Elem]
-    ensures { result.now ≡ elems_in right.now }
+fn default_kind(word: &Word) -> BinKind
+    ensures { result ≡ default_meant word.now }
 {
-    match right {
-        Right::Ranges { elems, .. } => elems.as_slice(),
-        _ => &[],
+    match word {
+        Word::Bins => BinKind::DefaultBin,
+        Word::Illegal => BinKind::IllegalBin,
+        Word::Ignore => BinKind::DefaultBin,
     }
 }
 
@@ -70,18 +95,101 @@ fn is_of_illegal(kind: BinKind) -> bool
     }
 }
 
-/// Adds the set of listed numbers to what is removed, where it is to be.
+/// Whether `name with` names its point.
+fn is_of_point(name: &Name, right: &Right) -> bool
+    ensures { result ≡ names_point name.now right.now }
+{
+    match right {
+        Right::Whole { name: other, .. } => other == name,
+        Right::Ranges { .. } => true,
+        Right::Trans(_) => true,
+        Right::Default => true,
+        Right::DefaultSequence => true,
+    }
+}
+
+fn is_of_default(right: &Right) -> bool
+    ensures { result ≡ is_default right.now }
+{
+    match right {
+        Right::Ranges { .. } => false,
+        Right::Whole { .. } => false,
+        Right::Trans(_) => false,
+        Right::Default => true,
+        Right::DefaultSequence => true,
+    }
+}
+
+/// Whether it is no ignore bin that is `default` or `default sequence`.
+fn is_default_allowed(word: &Word, right: &Right) -> bool
+    ensures { result ≡ may_default word.now right.now }
+{
+    match word {
+        Word::Bins => true,
+        Word::Illegal => true,
+        Word::Ignore => !is_of_default(right),
+    }
+}
+
+/// What the words of a declaration alone tell.
+#[tactic(auto, unfolding(crate::specs::Declarations::entered))]
+fn check_entry(name: &Name, decl: &BinsDecl, walked: &Walked) -> Result<(), ElabFault>
+    ensures { Gives result (entered name.now decl.now walked.now) }
+{
+    check_unused(&walked.known, &decl.name, decl.at)?;
+    ElabKind::NotThisPoint.unless(is_of_point(name, &decl.right), decl.at)?;
+    ElabKind::IgnoreDefault.unless(is_default_allowed(&decl.word, &decl.right), decl.at)?;
+    ElabKind::NotBuiltYet.unless(is_built(decl), decl.at)?;
+    Ok(())
+}
+
+/// All numbers of a set.
+fn whole(alloc: Global, set: &[(Int, Int)]) -> Result<List<Listed>, Memory>
+    ensures { IfOk result (λ elements. elements ≡ whole_elements set.now) }
+{
+    let mut elements = List::new(alloc);
+    for range in set {
+        elements.push(Listed::Range {
+            low: range.0,
+            high: range.1,
+        })?;
+    }
+    Ok(elements)
+}
+
+/// What a declaration lists.
+#[tactic(auto, using(crate::proofs::Filters::whole_known), unfolding(crate::specs::Declarations::elements_in))]
+fn elements(
+    alloc: Global,
+    scope: &Scope,
+    domain: &Domain,
+    wildcard: bool,
+    right: &Right,
+) -> Result<List<Listed>, ElabFault>
+    ensures gives { Gives result (elements_in scope.now domain.now wildcard right.now) }
+    ensures widths { IfOk result (λ elements. AllByRecursion IsListed elements) }
+{
+    match right {
+        Right::Ranges { elems, .. } => elements_of(alloc, scope, domain, wildcard, elems.as_slice()),
+        Right::Whole { .. } => Ok(whole(alloc, domain.numbers.intervals())?),
+        Right::Trans(_) => Ok(List::new(alloc)),
+        Right::Default => Ok(List::new(alloc)),
+        Right::DefaultSequence => Ok(List::new(alloc)),
+    }
+}
+
+/// Adds the set of listed numbers, where it is to be.
 fn add_set(
     alloc: Global,
-    removes: bool,
+    adds: bool,
     elems: &Elems,
-    removed: &mut List<(Int, Int)>,
+    ranges: &mut List<(Int, Int)>,
 ) -> Result<(), Memory>
-    ensures { OnOk result (removed.new ≡ with_set removes removed.old (written elems.now)) }
+    ensures { OnOk result (ranges.new ≡ with_set adds ranges.old (written elems.now)) }
 {
-    if removes {
+    if adds {
         let set = ValueSet::from_ranges(alloc, elems.as_slice())?;
-        removed.append(List::of(Vec::from_slice(alloc, set.intervals())?))?;
+        ranges.append(List::of(Vec::from_slice(alloc, set.intervals())?))?;
     }
     Ok(())
 }
@@ -100,15 +208,16 @@ fn place_of(place: usize) -> Result<u32, Memory>
 fn head(
     alloc: Global,
     decl: &BinsDecl,
+    kind: BinKind,
     guard: Option<Bound>,
     walked: &Walked,
 ) -> Result<Head, Memory>
-    ensures { IfOk result (λ head. head ≡ head_of decl.now guard walked.now) }
+    ensures { IfOk result (λ head. head ≡ head_of decl.now kind guard walked.now) }
 {
     let place = place_of(walked.names.as_slice().len())?;
     Ok(Head {
         name: decl.name.copy(alloc)?,
-        kind: kind_of(&decl.word),
+        kind,
         guard,
         at: decl.at,
         declared: Some(place),
@@ -124,57 +233,206 @@ fn keep_name(alloc: Global, name: &Name, walked: &mut Walked) -> Result<(), Memo
     Ok(())
 }
 
-#[tactic(auto, unfolding(crate::specs::Declarations::bins_added))]
-fn keep_bins(
+/// Adds bins.
+pub(crate) fn keep_bins(bins: Vec<Made>, entries: &mut List<Entry>) -> Result<(), Memory>
+    ensures { OnOk result (entries.new ≡ entries.old ++ map Bin bins.items) }
+{
+    for made in bins {
+        entries.push(Entry::Bin(made))?;
+    }
+    Ok(())
+}
+
+/// Adds what a declaration lists and removes.
+fn keep_sets(
     alloc: Global,
-    head: &Head,
-    plan: &Plan,
-    elems: &Elems,
+    kind: BinKind,
+    kept: &Elems,
     walked: &mut Walked,
 ) -> Result<(), Memory>
-    requires { IsPlan plan.now }
-    ensures { OnOk result (walked.new ≡ bins_added head.now plan.now (written elems.now) walked.old) }
+    ensures { OnOk result (walked.new ≡ record walked.old { listed = with_set true walked.old.listed (written kept.now); ignored = with_set (is_ignore kind) walked.old.ignored (written kept.now); illegal = with_set (is_illegal kind) walked.old.illegal (written kept.now) }) }
+{
+    add_set(alloc, true, kept, &mut walked.listed)?;
+    add_set(alloc, is_of_ignore(kind), kept, &mut walked.ignored)?;
+    add_set(alloc, is_of_illegal(kind), kept, &mut walked.illegal)?;
+    Ok(())
+}
+
+#[tactic(auto, unfolding(crate::specs::Declarations::bins_added))]
+fn add_bins(
+    alloc: Global,
+    head: &Head,
+    count: usize,
+    bins: List<Made>,
+    kept: &Elems,
+    walked: &mut Walked,
+) -> Result<(), Memory>
+    requires { walked.old.count + count ≤ most_bins }
+    ensures { OnOk result (walked.new ≡ bins_added head.now count bins (written kept.now) walked.old) }
 {
     keep_name(alloc, &head.name, walked)?;
-    let bins = bins_of(alloc, plan, head, elems)?;
-    walked.bins.append(bins)?;
-    add_set(alloc, is_of_ignore(head.kind), elems, &mut walked.ignored)?;
-    add_set(alloc, is_of_illegal(head.kind), elems, &mut walked.illegal)?;
+    keep_bins(bins.into_vec(), &mut walked.entries)?;
+    walked.count += count;
+    keep_sets(alloc, head.kind, kept, walked)?;
     Ok(())
 }
 
-#[tactic(auto, unfolding(crate::specs::Declarations::numbers_binned))]
-fn bin_numbers(
+/// Adds the bins of elements that list numbers.
+#[tactic(auto, unfolding(crate::specs::Declarations::values_binned))]
+fn bin_values(
     alloc: Global,
-    scope: &Scope,
-    decl: &BinsDecl,
-    elems: &Elems,
+    domain: &Domain,
+    distribute: bool,
+    keep: &Option<Bound>,
+    wanted: Wanted,
+    elements: &[Listed],
+    head: &Head,
     walked: &mut Walked,
 ) -> Result<(), ElabFault>
-    ensures { Makes result walked.new (numbers_binned scope.now decl.now (written elems.now) walked.old) }
+    requires widths { AllByRecursion IsListed elements.now }
+    requires wanted { IsWanted wanted }
+    ensures { Makes result walked.new (values_binned domain.now distribute keep.now wanted elements.now head.now walked.old) }
 {
-    let wanted = size_of(alloc, scope, &decl.size, decl.at)?;
-    let guard = guard_in(alloc, scope, &decl.guard)?;
-    let plan = make_plan(alloc, walked.bins.as_slice().len(), wanted, elems, decl.at)?;
-    let head = head(alloc, decl, guard, walked)?;
-    keep_bins(alloc, &head, &plan, elems, walked)?;
+    let numbers = numbers_listed(alloc, domain, elements, head.at)?;
+    let kept = keep_numbers(alloc, keep, &numbers, head.at)?;
+    let plan = make_plan(alloc, walked.count, wanted, &kept, head.at)?;
+    let bins = bins_of(alloc, distribute, keep, &plan, head, &numbers, &kept)?;
+    add_bins(alloc, head, plan.count(), bins, &kept, walked)?;
     Ok(())
 }
 
-#[tactic(auto, unfolding(crate::specs::Declarations::bins_declared))]
-fn add_bins(
+#[tactic(auto, unfolding(crate::specs::Declarations::elements_binned))]
+fn bin_elements(
     alloc: Global,
     scope: &Scope,
     domain: &Domain,
+    distribute: bool,
+    decl: &BinsDecl,
+    elements: &[Listed],
+    walked: &mut Walked,
+) -> Result<(), ElabFault>
+    requires { AllByRecursion IsListed elements.now }
+    ensures { Makes result walked.new (elements_binned scope.now domain.now distribute decl.now elements.now walked.old) }
+{
+    let keep = filter_of(alloc, scope, domain.typ, &decl.right)?;
+    let wanted = size_of(alloc, scope, &decl.size, decl.at)?;
+    let guard = guard_in(alloc, scope, &decl.guard)?;
+    let head = head(alloc, decl, kind_of(&decl.word), guard, walked)?;
+    bin_values(alloc, domain, distribute, &keep, wanted, elements, &head, walked)?;
+    Ok(())
+}
+
+#[tactic(auto, unfolding(crate::specs::Declarations::values_declared))]
+fn declare_values(
+    alloc: Global,
+    scope: &Scope,
+    domain: &Domain,
+    distribute: bool,
     decl: &BinsDecl,
     walked: &mut Walked,
 ) -> Result<(), ElabFault>
-    ensures { Makes result walked.new (bins_declared scope.now domain.now decl.now walked.old) }
+    ensures { Makes result walked.new (values_declared scope.now domain.now distribute decl.now walked.old) }
 {
-    check_unused(&walked.known, &decl.name, decl.at)?;
-    ElabKind::NotBuiltYet.unless(is_built(decl), decl.at)?;
-    let elems = numbers(alloc, scope, domain, decl.wildcard, elems(&decl.right), decl.at)?;
-    bin_numbers(alloc, scope, decl, &elems, walked)?;
+    let elements = elements(alloc, scope, domain, decl.wildcard, &decl.right)?;
+    bin_elements(alloc, scope, domain, distribute, decl, elements.as_slice(), walked)?;
+    Ok(())
+}
+
+/// Adds the one bin of a declaration.
+#[tactic(auto, unfolding(crate::specs::Declarations::one_added))]
+fn add_one(alloc: Global, head: &Head, rule: BinRule, walked: &mut Walked) -> Result<(), Memory>
+    requires { walked.old.count + 1 ≤ most_bins }
+    ensures { OnOk result (walked.new ≡ one_added head.now rule walked.old) }
+{
+    keep_name(alloc, &head.name, walked)?;
+    let name = head.name.copy(alloc)?;
+    walked.entries.push(Entry::Bin(bin_of(alloc, head, name, rule)?))?;
+    walked.count += 1;
+    Ok(())
+}
+
+/// Adds an array of `default`.
+#[tactic(auto, unfolding(crate::specs::Declarations::rest_added))]
+fn add_rest(alloc: Global, head: Head, walked: &mut Walked) -> Result<(), Memory>
+    ensures { OnOk result (walked.new ≡ rest_added head walked.old) }
+{
+    keep_name(alloc, &head.name, walked)?;
+    walked.entries.push(Entry::Rest(head))?;
+    Ok(())
+}
+
+#[tactic(auto, unfolding(crate::specs::Declarations::default_added))]
+fn add_default(alloc: Global, head: &Head, walked: &mut Walked) -> Result<(), ElabFault>
+    ensures { Makes result walked.new (default_added head.now walked.old) }
+{
+    check_room(walked.count, 1, head.at)?;
+    add_one(alloc, head, BinRule::Default, walked)?;
+    Ok(())
+}
+
+fn add_sized(
+    alloc: Global,
+    size: &Size,
+    head: Head,
+    walked: &mut Walked,
+) -> Result<(), ElabFault>
+    ensures { Makes result walked.new (default_sized size.now head walked.old) }
+{
+    match size {
+        Size::Open => Ok(add_rest(alloc, head, walked)?),
+        Size::Scalar => add_default(alloc, &head, walked),
+        Size::Fixed(_) => add_default(alloc, &head, walked),
+    }
+}
+
+#[tactic(auto, unfolding(crate::specs::Declarations::default_declared))]
+fn declare_default(
+    alloc: Global,
+    scope: &Scope,
+    decl: &BinsDecl,
+    walked: &mut Walked,
+) -> Result<(), ElabFault>
+    ensures { Makes result walked.new (default_declared scope.now decl.now walked.old) }
+{
+    let guard = guard_in(alloc, scope, &decl.guard)?;
+    let head = head(alloc, decl, default_kind(&decl.word), guard, walked)?;
+    add_sized(alloc, &decl.size, head, walked)?;
+    Ok(())
+}
+
+fn declare_right(
+    alloc: Global,
+    scope: &Scope,
+    domain: &Domain,
+    distribute: bool,
+    decl: &BinsDecl,
+    walked: &mut Walked,
+) -> Result<(), ElabFault>
+    ensures { Makes result walked.new (declared_by scope.now domain.now distribute decl.now walked.old decl.now.right) }
+{
+    match &decl.right {
+        Right::Ranges { .. } => declare_values(alloc, scope, domain, distribute, decl, walked),
+        Right::Whole { .. } => declare_values(alloc, scope, domain, distribute, decl, walked),
+        Right::Trans(_) => Err(ElabKind::NotBuiltYet.at(decl.at)),
+        Right::Default => declare_default(alloc, scope, decl, walked),
+        Right::DefaultSequence => Err(ElabKind::NotBuiltYet.at(decl.at)),
+    }
+}
+
+#[tactic(auto, unfolding(crate::specs::Declarations::bins_declared))]
+fn declare(
+    alloc: Global,
+    scope: &Scope,
+    domain: &Domain,
+    name: &Name,
+    distribute: bool,
+    decl: &BinsDecl,
+    walked: &mut Walked,
+) -> Result<(), ElabFault>
+    ensures { Makes result walked.new (bins_declared scope.now domain.now name.now distribute decl.now walked.old) }
+{
+    check_entry(name, decl, walked)?;
+    declare_right(alloc, scope, domain, distribute, decl, walked)?;
     Ok(())
 }
 
@@ -184,21 +442,25 @@ pub(crate) fn walk_bins(
     alloc: Global,
     scope: &Scope,
     domain: &Domain,
+    name: &Name,
+    distribute: bool,
     decls: &[BinsDecl],
 ) -> Result<Walked, ElabFault>
-    ensures { Gives result (bins_walked scope.now domain.now decls.now) }
+    ensures { Gives result (bins_walked scope.now domain.now name.now distribute decls.now) }
 {
     let mut walked = Walked {
         known: NameMap::new(alloc),
         names: List::new(alloc),
-        bins: List::new(alloc),
+        entries: List::new(alloc),
+        count: 0,
+        listed: List::new(alloc),
         ignored: List::new(alloc),
         illegal: List::new(alloc),
         ignored_seqs: List::new(alloc),
         illegal_seqs: List::new(alloc),
     };
     for decl in decls {
-        add_bins(alloc, scope, domain, decl, &mut walked)?;
+        declare(alloc, scope, domain, name, distribute, decl, &mut walked)?;
     }
     Ok(walked)
 }

@@ -1,9 +1,12 @@
 //! What removal leaves of the bins of a point.
 ghost use Rattle.std.specs.Prelude.{◌≡◌, ◌++◌, OnOk, IfOk};
 ghost use Rattle.elab_base.specs.Gives.{Gives};
-ghost use Rattle.elab_points.specs.Left.{rule_left as left_of_rule, bin_left as left_of_bin, has_some as has_number, some_of, left_of, bins_left as left_of_bins, left_by, point_left as left_of_point, bins_of_point};
+ghost use Rattle.elab_points.specs.Left.{rule_left as left_of_rule, bin_left as left_of_bin, has_some as has_number, some_of, left_of, bins_left as left_of_bins, left_by, walked_left as left_of_walked, bins_of_point};
+ghost use Rattle.elab_points.specs.Automatic.{CanHaveBins};
 
+use crate::auto::add_undeclared;
 use crate::declared::{Walked, walk_bins};
+use crate::rest::fill;
 use const_eval::Scope;
 use cov_base::{Int, Memory, ValueSet};
 use cov_tree::{BinsDecl, List, Name};
@@ -62,6 +65,7 @@ fn has_some(rule: &BinRule) -> bool
 {
     match rule {
         BinRule::Values(set) => !set.intervals().is_empty(),
+        BinRule::DefaultValues(set) => !set.intervals().is_empty(),
         _ => true,
     }
 }
@@ -124,19 +128,23 @@ fn left(
 }
 
 /// What is left of all that is declared.
-fn point_left(alloc: Global, walked: Walked) -> Result<PointBins, Memory>
-    ensures { IfOk result (λ found. found ≡ left_of_point walked) }
+#[tactic(auto, unfolding(crate::specs::Left::walked_left))]
+fn walked_left(alloc: Global, domain: &Domain, walked: Walked) -> Result<PointBins, ElabFault>
+    ensures { Gives result (left_of_walked domain.now walked) }
 {
     let Walked {
         known: _,
         names,
-        bins,
+        entries,
+        count,
+        listed,
         ignored,
         illegal,
         ignored_seqs,
         illegal_seqs,
     } = walked;
-    let bins = left(alloc, ignored, illegal, bins)?;
+    let all = fill(alloc, domain, listed.as_slice(), entries, count)?;
+    let bins = left(alloc, ignored, illegal, all)?;
     Ok(PointBins {
         bins,
         names,
@@ -156,9 +164,11 @@ pub fn point_bins(
     decls: &[BinsDecl],
     at: u32,
 ) -> Result<PointBins, ElabFault>
+    requires { CanHaveBins domain.now settings }
     ensures { Gives result (bins_of_point scope.now domain.now name.now settings decls.now at) }
 {
-    let walked = walk_bins(alloc, scope, domain, decls)?;
-    let found = point_left(alloc, walked)?;
+    let mut walked = walk_bins(alloc, scope, domain, name, settings.distribute_first, decls)?;
+    add_undeclared(alloc, domain, settings, decls, at, &mut walked)?;
+    let found = walked_left(alloc, domain, walked)?;
     Ok(found)
 }

@@ -1,12 +1,16 @@
-//! The bins of a coverpoint's values: as they are declared, and what removal leaves of them (IEEE 1800-2017, 19.5).
+//! The bins of a coverpoint: as they are declared, automatic ones, those of `default`, and what removal leaves of them
+//! (IEEE 1800-2017, 19.5).
 #![tactic(auto)]
 
+mod auto;
 mod built;
 mod declared;
+mod filter;
 mod left;
 mod made;
+mod rest;
 
 pub use built::is_built;
-pub use declared::Walked;
+pub use declared::{Entry, Walked};
 pub use left::point_bins;
 pub use made::{Head, Plan, Wanted};

@@ -1,5 +1,5 @@
 //! The bins of one declaration.
-ghost use Rattle.std.specs.Prelude.{◌≡◌, ◌≤◌, ◌+◌, ℕ, nat_le, IfOk, IfErr, OnOk, map, ◌∷◌, []};
+ghost use Rattle.std.specs.Prelude.{◌≡◌, ◌≤◌, ◌+◌, ℕ, nat_le, IfOk, IfErr, OnOk, map, filter, ◌∷◌, []};
 ghost use Rattle.std.specs.Fmt.{decimal};
 ghost use Rattle.cov_ground.specs.Limits.{most_bins};
 ghost use Rattle.cov_base.specs.Sets.{written, set_of, ascending};
@@ -7,8 +7,10 @@ ghost use Rattle.bin_spec.specs.Parts.{parts as parts_of};
 ghost use Rattle.elab_base.specs.declared.fault.ElabKind.TheVariants as kinds;
 ghost use Rattle.elab_base.specs.Gives.{Gives, Fails, needs};
 ghost use Rattle.elab_points.specs.declared.made.Wanted.TheVariants.{Each};
-ghost use Rattle.elab_points.specs.Made.{IsWanted, IsPlan, wanted_in, planned, indexed, named_bin, value_bin, single, part_bins, bins_made};
+ghost use Rattle.elab_points.specs.Filter.{passes};
+ghost use Rattle.elab_points.specs.Made.{IsWanted, IsPlan, plan_bins, wanted_in, planned, indexed, named_bin, value_bin, single, part_bins, set_filtered, parts_kept, bins_made};
 
+use crate::filter::passing;
 use const_eval::{Bound, Scope};
 use cov_base::{Int, Memory, ValueSet};
 use cov_ground::limits::MOST_BINS;
@@ -56,6 +58,22 @@ pub enum Plan {
     Spread { bins: u32 },
 }
 
+impl Plan {
+    ghost use Rattle.std.specs.Prelude.{◌≡◌};
+    ghost use Rattle.elab_points.specs.Made.{plan_bins};
+
+    /// How many bins that is.
+    pub(crate) fn count(&self) -> usize
+        ensures { result ≡ plan_bins self.now }
+    {
+        match self {
+            Plan::One => 1,
+            Plan::Each { numbers } => numbers.as_slice().len(),
+            Plan::Spread { bins } => *bins as usize,
+        }
+    }
+}
+
 /// What a declaration asks for.
 #[tactic(auto, unfolding(crate::specs::Made::wanted_in))]
 pub(crate) fn size_of(
@@ -99,6 +117,7 @@ fn distinct(alloc: Global, elems: &Elems, at: u32) -> Result<Vec<Int>, ElabFault
 pub(crate) fn check_room(have: usize, more: u64, at: u32) -> Result<(), ElabFault>
     ensures gives { Gives result (needs (nat_le (have + more) most_bins) kinds.TooManyBins at) }
     ensures few { OnOk result (more ≤ most_bins) }
+    ensures room { OnOk result (have + more ≤ most_bins) }
 {
     if have > MOST_BINS || more > (MOST_BINS - have) as u64 {
         return Err(ElabKind::TooManyBins.at(at));
@@ -118,6 +137,7 @@ pub(crate) fn make_plan(
     requires { IsWanted wanted }
     ensures gives { Gives result (planned have wanted (written elems.now) at) }
     ensures plan { IfOk result IsPlan }
+    ensures room { IfOk result (λ plan. have + plan_bins plan ≤ most_bins) }
 {
     match wanted {
         Wanted::One => {
@@ -140,7 +160,7 @@ pub(crate) fn make_plan(
 
 /// `name[index]`
 #[tactic(auto, unfolding(crate::specs::Made::indexed))]
-fn indexed_name(alloc: Global, name: &Name, index: &[u8]) -> Result<Name, Memory>
+pub(crate) fn indexed_name(alloc: Global, name: &Name, index: &[u8]) -> Result<Name, Memory>
     ensures { IfOk result (λ text. text ≡ indexed name.now index.now) }
 {
     let mut text = Vec::from_slice(alloc, name.as_slice())?;
@@ -223,6 +243,69 @@ fn spread_over(alloc: Global, elems: &Elems, bins: u32) -> Result<Vec<ValueSet>,
     }
 }
 
+/// The numbers of a set that pass a filter.
+fn filtered_set(alloc: Global, term: &Bound, set: ValueSet) -> Result<ValueSet, Memory>
+    ensures { IfOk result (λ left. left ≡ set_filtered term.now set) }
+{
+    let elems = Elems::of(Vec::from_slice(alloc, set.intervals())?);
+    match passing(alloc, term, &elems) {
+        Ok(kept) => ValueSet::from_ranges(alloc, kept.as_slice()),
+        // a part lists no more than its declaration
+        Err(_) => Err(Memory),
+    }
+}
+
+/// Each of the sets, with the numbers that pass a filter.
+fn filtered_sets(alloc: Global, term: &Bound, sets: Vec<ValueSet>) -> Result<Vec<ValueSet>, Memory>
+    ensures { IfOk result (λ left. left.items ≡ map (set_filtered term.now) sets.items) }
+{
+    let mut left = Vec::new(alloc);
+    for set in sets {
+        left.push(filtered_set(alloc, term, set)?)?;
+    }
+    Ok(left)
+}
+
+/// The sets of so many bins, over which listed numbers are spread before a filter is applied to each.
+fn distributed_sets(
+    alloc: Global,
+    term: &Bound,
+    bins: u32,
+    numbers: &Elems,
+) -> Result<Vec<ValueSet>, Memory>
+    requires some { 1 ≤ bins }
+    requires most { bins ≤ most_bins }
+    ensures { IfOk result (λ sets. sets.items ≡ map set_of (map (filter (passes term.now)) (parts_of (written numbers.now) bins))) }
+{
+    let sets = spread_over(alloc, numbers, bins)?;
+    let left = filtered_sets(alloc, term, sets)?;
+    Ok(left)
+}
+
+/// The sets of so many bins, over which listed numbers are spread, of which a filter keeps some.
+fn kept_sets(
+    alloc: Global,
+    distribute: bool,
+    keep: &Option<Bound>,
+    bins: u32,
+    numbers: &Elems,
+    kept: &Elems,
+) -> Result<Vec<ValueSet>, Memory>
+    requires some { 1 ≤ bins }
+    requires most { bins ≤ most_bins }
+    ensures { IfOk result (λ sets. sets.items ≡ map set_of (parts_kept distribute keep.now bins (written numbers.now) (written kept.now))) }
+{
+    match keep {
+        None => spread_over(alloc, kept, bins),
+        Some(term) => {
+            if !distribute {
+                return spread_over(alloc, kept, bins);
+            }
+            distributed_sets(alloc, term, bins, numbers)
+        }
+    }
+}
+
 /// The bin of all listed numbers.
 fn whole_bin(alloc: Global, head: &Head, elems: &Elems) -> Result<List<Made>, Memory>
     ensures { IfOk result (λ bins. bins ≡ value_bin head.now head.now.name (set_of (written elems.now)) ∷ []) }
@@ -234,22 +317,25 @@ fn whole_bin(alloc: Global, head: &Head, elems: &Elems) -> Result<List<Made>, Me
     Ok(bins)
 }
 
-/// The bins of a declaration.
+/// The bins of a declaration that lists `numbers`, of which a filter keeps `kept`.
 #[tactic(auto, unfolding(crate::specs::Made::bins_made))]
 pub(crate) fn bins_of(
     alloc: Global,
+    distribute: bool,
+    keep: &Option<Bound>,
     plan: &Plan,
     head: &Head,
-    elems: &Elems,
+    numbers: &Elems,
+    kept: &Elems,
 ) -> Result<List<Made>, Memory>
     requires { IsPlan plan.now }
-    ensures { IfOk result (λ bins. bins ≡ bins_made plan.now head.now (written elems.now)) }
+    ensures { IfOk result (λ bins. bins ≡ bins_made distribute keep.now plan.now head.now (written numbers.now) (written kept.now)) }
 {
     match plan {
-        Plan::One => whole_bin(alloc, head, elems),
+        Plan::One => whole_bin(alloc, head, kept),
         Plan::Each { numbers } => single_bins(alloc, head, numbers.as_slice()),
         Plan::Spread { bins } => {
-            let sets = spread_over(alloc, elems, *bins)?;
+            let sets = kept_sets(alloc, distribute, keep, *bins, numbers, kept)?;
             parts(alloc, head, sets)
         }
     }
