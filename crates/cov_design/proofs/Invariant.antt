@@ -38,9 +38,9 @@ use Rattle.elab_decls.specs.Invariant.{IsOutside, AreArguments, CountsHits}
 use Rattle.elab_decls.proofs.Widths.{tested_width}
 use Rattle.elab_decls.proofs.Kept.{variable_keeps, enumeration_keeps, formals_are}
 use Rattle.elab_decls.proofs.Hits.{options_keep, group_keeps}
-use Rattle.elab_values.specs.declared.made.Made.{Made}
+use Rattle.elab_values.specs.declared.made.PointBins.{PointBins}
 use Rattle.elab_points.specs.Left.{bins_of_point}
-use Rattle.elab_points.proofs.Kept.{AreLeft, point_left}
+use Rattle.elab_points.proofs.Kept.{AreLeft, IsRemoving, few_left, few_removing}
 use Rattle.elab_order.proofs.Numbering.{total-append}
 use Rattle.cov_design.specs.declared.counts.Counts.{Counts}
 use Rattle.cov_design.specs.declared.known.Known.{Known}
@@ -50,7 +50,8 @@ use Rattle.cov_design.specs.declared.points.Head.{Head}
 use Rattle.cov_design.specs.declared.instances.Body.{Body}
 use Rattle.cov_design.specs.Counting.{bins_counted}
 use Rattle.cov_design.specs.Domains.{domain_of_point}
-use Rattle.cov_design.specs.Points.{point_name, point_item, with_point, head_of, headed_point, named_point, member, no_items, members_walked}
+use Rattle.cov_design.specs.Intersections.{intersected_in}
+use Rattle.cov_design.specs.Points.{point_name, point_item, settings_of, with_point, head_of, headed_point, named_point, member, no_items, members_walked}
 use Rattle.cov_design.specs.Groups.{group_info, named, groups_fit, group}
 use Rattle.cov_design.specs.Instances.{formals_at, samples_at, members_at, group_meant, entered, body_walked, inst_info, with_instance, instance_of, instance}
 use Rattle.cov_design.specs.Walk.{outside_step, declared, nothing, walked}
@@ -143,27 +144,27 @@ head_is outside inside name p head e hits =
     } in
     subst IsHead (ok_is _ head n.2) here
 
-alone : (head : Head) (bins : List Made) (s t : Counts) → IsHead head → AreLeft bins → Counted bins s t → IsAlone (point_item head bins)
-alone head bins s t is left count items =
+alone : (head : Head) (found : PointBins) (s t : Counts) → IsHead head → AreLeft found.bins → IsRemoving found → Counted found.bins s t → IsAlone (point_item head found)
+alone head found s t is left short count items =
     let few = left.few in
-    let same = length-infos bins in
+    let same = length-infos found.bins in
     record {
       at_least = is.hits;
       bins = omega (arith, few, same);
-      removing = omega arith;
-      shape = (tested_width (typ_of head.expr).width is.width, point_rules (point_item head bins) bins left.have count.short);
+      removing = short;
+      shape = (tested_width (typ_of head.expr).width is.width, point_rules (point_item head found) found.bins left.have count.short);
     }
 
-added_point : (head : Head) (bins : List Made) (counts start : Counts) (s : Items) → IsHead head → s.counts.items < most_items → AreLeft bins → Counted bins s.counts counts
-    → AreItems start s → AreItems start (with_point head bins counts s)
+added_point : (head : Head) (found : PointBins) (counts start : Counts) (s : Items) → IsHead head → s.counts.items < most_items → AreLeft found.bins → IsRemoving found → Counted found.bins s.counts counts
+    → AreItems start s → AreItems start (with_point head found counts s)
 unfolding with_point
-added_point head bins counts start s is room left count h =
-    let item = point_item head bins in
+added_point head found counts start s is room left short count h =
+    let item = point_item head found in
     let length' = length_push s.items item in
     let bins' = total-append (λ (x : ItemInfo). length x.bins) s.items (item ∷ []) in
     let ranges' = total-append (λ (x : ItemInfo). total (λ (bin : BinInfo). ranges_of bin.rule) x.bins) s.items (item ∷ []) in
-    let same = length-infos bins in
-    let same_ranges = ranges-infos bins in
+    let same = length-infos found.bins in
+    let same_ranges = ranges-infos found.bins in
     let i = h.items in
     let b = h.bins in
     let r = h.ranges in
@@ -176,16 +177,19 @@ added_point head bins counts start s is room left count h =
       few_bins = count.few_bins h.few_bins;
       ranges = omega (arith, r, cr, ranges', same_ranges);
       few_ranges = count.few_ranges h.few_ranges;
-      each = all_push IsAlone s.items item h.each (alone head bins s.counts counts is left count);
+      each = all_push IsAlone s.items item h.each (alone head found s.counts counts is left short count);
     }
 
 headed_keeps : (outside : Outside) (inside : Inside) (head : Head) (p : PointDecl) (start : Counts) (s t : Items) → headed_point outside inside head p s ≡ Ok t → IsHead head → s.counts.items < most_items → AreItems start s → AreItems start t
 unfolding headed_point
 headed_keeps outside inside head p start s t e is room h =
     let domain = domain_of_point outside inside.names p.expr (typ_of head.expr) in
-    let b = bind_ok (bins_of_point outside.scope domain p.bins) _ t e in
-    let c = bind_ok (bins_counted b.0 s.counts) _ t b.2 in
-    subst (AreItems start) (ok_is _ t c.2) (added_point head b.0 c.0 start s is room (point_left outside.scope domain p.bins b.0 b.1) (counted b.0 s.counts c.0 c.1) h)
+    let settings = settings_of inside head in
+    let b = bind_ok (bins_of_point outside.scope domain head.name settings p.bins p.at) _ t e in
+    let c = bind_ok (bins_counted b.0.bins s.counts) _ t b.2 in
+    let left = few_left outside.scope domain head.name settings p.bins p.at b.0 b.1 in
+    let short = few_removing outside.scope domain head.name settings p.bins p.at b.0 b.1 in
+    subst (AreItems start) (ok_is _ t c.2) (added_point head b.0 c.0 start s is room left short (counted b.0.bins s.counts c.0 c.1) h)
 
 named_keeps : (outside : Outside) (inside : Inside) (name : List ℕ) (p : PointDecl) (start : Counts) (s t : Items) → named_point outside inside name p s ≡ Ok t → CountsHits inside.options → AreItems start s → AreItems start t
 unfolding named_point
@@ -211,7 +215,7 @@ body_keeps : (outside : Outside) (names : Pairs What) (start : Counts) (ms : Lis
 unfolding body_walked
 body_keeps outside names start ms body items bins ranges e =
     let o = bind_ok (group_options outside.scope ms) _ body e in
-    let inside : Inside = record { names = names; options = o.0 } in
+    let inside : Inside = record { names = names; options = o.0; intersected = intersected_in ms } in
     let m = bind_ok (members_walked outside inside start ms) _ body o.2 in
     let all = members_keep outside inside start ms m.0 items bins ranges (group_keeps outside.scope ms o.0 o.1) m.1 in
     subst (λ (b : Body). AreItems start b.items) (ok_is _ body m.2) all

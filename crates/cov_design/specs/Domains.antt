@@ -1,7 +1,6 @@
 -- The numbers of a point: those of its type, or the constants where its expression is the name of something enumerated
 -- (IEEE 1800-2017, 19.5 and 6.19).
-use Rattle.std.specs.Prelude.{ℕ, ◌-◌, ℤ, List, length, map, slice_get, Option, Some, None}
-use Rattle.cov_base.specs.Sets.{written, set_of}
+use Rattle.std.specs.Prelude.{ℕ, List, map, slice_get, Option, Some, None}
 use Rattle.name_map.specs.Names.{Pairs, meaning_of}
 use Rattle.cov_tree.specs.declared.expr.Expr.{Expr}
 use Rattle.cov_tree.specs.declared.expr.Expr.TheViews.{out-Expr}
@@ -13,7 +12,8 @@ use Rattle.elab_decls.specs.declared.outside.Outside.{Outside}
 use Rattle.elab_decls.specs.declared.outside.Enumeration.{Enumeration}
 use Rattle.elab_decls.specs.Formals.{enumeration_of}
 use Rattle.elab_values.specs.declared.domain.Domain.{Domain}
-use Rattle.elab_values.specs.Domains.{domain_of_typ}
+use Rattle.elab_values.specs.declared.domain.Constant.{Constant}
+use Rattle.elab_values.specs.Domains.{domain_of_typ, domain_of_constants}
 
 -- the name that stands first counts
 abbrev pub first_what : Option What → Option What → Option What
@@ -35,26 +35,17 @@ named_enumeration outside formals (expr.Unary op arg at) = None
 named_enumeration outside formals (expr.Binary op left right at) = None
 named_enumeration outside formals (expr.Cond test yes' no' at) = None
 
--- the numbers of a set, with the least and the greatest
-abbrev pub domain_of_set : Typ → List (ℤ × ℤ) → Option (ℤ × ℤ) → Option (ℤ × ℤ) → Domain
-domain_of_set typ set (Some first) (Some last) = record { low = first.0; high = last.1; numbers = set }
-domain_of_set typ set (Some first) None = domain_of_typ typ
-domain_of_set typ set None last = domain_of_typ typ
+-- the constants of an enumeration, in order of declaration
+abbrev pub constants_in : Enumeration → List Constant
+constants_in e = map (λ constant. record { name = constant.0; value = constant.1 }) e.constants
 
-abbrev pub domain_of_numbers : Typ → List (ℤ × ℤ) → Domain
-domain_of_numbers typ set = domain_of_set typ set (slice_get set 0) (slice_get set (length set - 1))
-
--- each constant as a range of one number
-abbrev pub constant_ranges : Enumeration → List (ℤ × ℤ)
-constant_ranges e = map (λ constant. (constant.1, constant.1)) e.constants
-
-abbrev pub domain_of_constants : Typ → Option Enumeration → Domain
-domain_of_constants typ None = domain_of_typ typ
-domain_of_constants typ (Some e) = domain_of_numbers typ (set_of (written (constant_ranges e)))
+abbrev pub domain_of_enumeration : Typ → Option Enumeration → Domain
+domain_of_enumeration typ None = domain_of_typ typ
+domain_of_enumeration typ (Some e) = domain_of_constants typ (constants_in e)
 
 abbrev pub domain_by : Outside → Typ → Option ℕ → Domain
 domain_by outside typ None = domain_of_typ typ
-domain_by outside typ (Some place) = domain_of_constants typ (slice_get outside.enumerations place)
+domain_by outside typ (Some place) = domain_of_enumeration typ (slice_get outside.enumerations place)
 
 unfoldable pub domain_of_point : Outside → Pairs What → Expr → Typ → Domain
 domain_of_point outside formals e typ = domain_by outside typ (named_enumeration outside formals (out-Expr e))

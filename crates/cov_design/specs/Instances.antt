@@ -23,6 +23,7 @@ use Rattle.cov_design.specs.declared.counts.Counts.{Counts}
 use Rattle.cov_design.specs.declared.known.Known.{Known}
 use Rattle.cov_design.specs.declared.instances.Body.{Body}
 use Rattle.cov_design.specs.Groups.{group_info, named}
+use Rattle.cov_design.specs.Intersections.{intersected_in}
 use Rattle.cov_design.specs.Points.{members_walked}
 
 -- ---- the text of a group
@@ -72,7 +73,7 @@ entered outside inner = record outside { scope = record outside.scope { inner = 
 unfoldable pub body_walked : Outside → Pairs What → Counts → List Member → Result Body Refusal
 body_walked outside names counts ms = do
   options ← group_options outside.scope ms
-  items ← members_walked outside (record { names = names; options = options }) counts ms
+  items ← members_walked outside (record { names = names; options = options; intersected = intersected_in ms }) counts ms
   Ok (record { options = options; items = items })
 
 abbrev pub inst_info : List ℕ → ℕ → List Signal → Body → InstInfo

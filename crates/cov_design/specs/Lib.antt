@@ -1,6 +1,7 @@
 pub mod Built
 pub mod Counting
 pub mod Domains
+pub mod Intersections
 pub mod Points
 pub mod Groups
 pub mod Instances

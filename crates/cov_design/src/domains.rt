@@ -1,17 +1,15 @@
 //! The numbers of points.
-ghost use Rattle.std.specs.Prelude.{◌≡◌, length, map, slice_get, option_copied, IfOk};
+ghost use Rattle.std.specs.Prelude.{◌≡◌, map, slice_get, option_copied, IfOk};
 ghost use Rattle.name_map.specs.Names.{meaning_of};
 ghost use Rattle.const_eval.specs.Typs.{HasWidth};
-ghost use Rattle.cov_base.specs.Sets.{written, set_of};
-ghost use Rattle.cov_design.specs.Domains.{first_what, what_named, domain_of_numbers, constant_ranges, domain_of_constants, domain_by, domain_of_point};
+ghost use Rattle.cov_design.specs.Domains.{first_what, what_named, constants_in, domain_of_enumeration, domain_by, domain_of_point};
 
 use const_eval::Typ;
-use cov_base::{Int, ValueSet};
 use cov_ground::Memory;
 use cov_tree::{Expr, Name};
 use elab_base::What;
 use elab_decls::{Enumeration, Outside, enumeration_of};
-use elab_points::{Domain, domain_of};
+use elab_values::{Constant, Domain, domain_of, domain_of_constants};
 use name_map::NameMap;
 use std::alloc::Global;
 
@@ -39,51 +37,33 @@ fn what_is(outside: &Outside, formals: &NameMap<What>, name: &Name) -> Option<Wh
     first(found(formals, name), found(&outside.names, name))
 }
 
-/// Each constant as a range of one number.
-fn ranges_of(alloc: Global, enumeration: &Enumeration) -> Result<Vec<(Int, Int)>, Memory>
-    ensures { IfOk result (λ ranges. ranges.items ≡ constant_ranges enumeration.now) }
+/// The constants of an enumeration.
+fn constants_of(alloc: Global, enumeration: &Enumeration) -> Result<Vec<Constant>, Memory>
+    ensures { IfOk result (λ constants. constants.items ≡ constants_in enumeration.now) }
 {
-    let mut ranges = Vec::new(alloc);
+    let mut constants = Vec::new(alloc);
     for constant in enumeration.constants.as_slice() {
-        ranges.push((constant.1, constant.1))?;
+        constants.push(Constant {
+            name: constant.0.copy(alloc)?,
+            value: constant.1,
+        })?;
     }
-    Ok(ranges)
+    Ok(constants)
 }
 
-/// The numbers of a set, with the least and the greatest; those of the type where there are none.
-fn domain_in(alloc: Global, typ: Typ, numbers: ValueSet) -> Result<Domain, Memory>
-    requires { HasWidth typ }
-    ensures { IfOk result (λ domain. domain ≡ domain_of_numbers typ numbers) }
-{
-    let first = numbers.intervals().first().copied();
-    let last = numbers.intervals().last().copied();
-    match first {
-        Some(first) => match last {
-            Some(last) => Ok(Domain {
-                low: first.0,
-                high: last.1,
-                numbers,
-            }),
-            None => domain_of(alloc, typ),
-        },
-        None => domain_of(alloc, typ),
-    }
-}
-
-fn constants_of(
+fn enumerated(
     alloc: Global,
     typ: Typ,
     enumeration: Option<&Enumeration>,
 ) -> Result<Domain, Memory>
     requires { HasWidth typ }
-    ensures { IfOk result (λ domain. domain ≡ domain_of_constants typ (option_copied enumeration.entry)) }
+    ensures { IfOk result (λ domain. domain ≡ domain_of_enumeration typ (option_copied enumeration.entry)) }
 {
     match enumeration {
         None => domain_of(alloc, typ),
         Some(enumeration) => {
-            let ranges = ranges_of(alloc, enumeration)?;
-            let numbers = ValueSet::from_ranges(alloc, ranges.as_slice())?;
-            domain_in(alloc, typ, numbers)
+            let constants = constants_of(alloc, enumeration)?;
+            domain_of_constants(alloc, typ, constants.as_slice())
         }
     }
 }
@@ -101,7 +81,7 @@ fn domain_at(
         None => domain_of(alloc, typ),
         Some(place) => {
             let enumeration = outside.enumerations.as_slice().get(place as usize);
-            constants_of(alloc, typ, enumeration)
+            enumerated(alloc, typ, enumeration)
         }
     }
 }

@@ -8,6 +8,7 @@ ghost use Rattle.cov_design.specs.Instances.{formals_in, samples_in, members_in,
 
 use crate::counts::Counts;
 use crate::groups::with_options;
+use crate::intersections::intersected;
 use crate::known::Known;
 use crate::points::{Inside, Items, walk_members};
 use const_eval::Meaning;
@@ -143,9 +144,17 @@ fn walk_inside(
     ensures same { outside.new ≡ outside.old }
 {
     let options = read_options(alloc, &mut outside.scope, members)?;
-    let inside = Inside { names, options };
+    let inside = Inside {
+        names,
+        options,
+        intersected: intersected(alloc, members)?,
+    };
     let items = walk_members(alloc, outside, &inside, counts, members)?;
-    let Inside { names: _, options } = inside;
+    let Inside {
+        names: _,
+        options,
+        intersected: _,
+    } = inside;
     Ok(Body { options, items })
 }
 

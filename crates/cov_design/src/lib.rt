@@ -9,6 +9,7 @@ mod elaboration;
 mod events;
 mod groups;
 mod instances;
+mod intersections;
 mod known;
 pub mod laws;
 mod points;

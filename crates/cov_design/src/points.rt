@@ -107,6 +107,16 @@ fn infos(alloc: Global, bins: Vec<Made>) -> Result<List<BinInfo>, Memory>
     Ok(infos)
 }
 
+/// The number as one of 32 bits. So many items as it doesn't hold don't fit into memory.
+fn index_of(place: usize) -> Result<u32, Memory>
+    ensures { IfOk result (λ same. same ≡ place) }
+{
+    match u32::try_from(place) {
+        Ok(place) => Ok(place),
+        Err(_) => Err(Memory),
+    }
+}
+
 #[tactic(auto, unfolding(crate::specs::Points::with_point))]
 fn keep_point(
     alloc: Global,
