@@ -1,8 +1,6 @@
 -- Which declarations are built. What isn't is refused before the walk, at the first declaration that holds it.
 use Rattle.std.specs.Prelude.{ℕ, List, [], ◌∷◌, Bool, true, false, ◌&&◌, Result}
-use Rattle.std.specs.List.{list_all, list_any}
-use Rattle.cov_tree.specs.declared.bins.Word.{Word}
-use Rattle.cov_tree.specs.declared.bins.Word.TheVariants as words
+use Rattle.std.specs.List.{list_all}
 use Rattle.cov_tree.specs.declared.bins.BinsDecl.{BinsDecl}
 use Rattle.cov_tree.specs.declared.bins.OptDecl.{OptDecl}
 use Rattle.cov_tree.specs.declared.expr.Expr.{Expr}
@@ -27,14 +25,8 @@ is_built_typ (texts.Vector signed span at) = true
 is_built_typ (texts.Fixed width signed) = true
 is_built_typ (texts.Named name at) = false
 
-abbrev pub is_coverage_word : Word → Bool
-is_coverage_word words.Bins = true
-is_coverage_word words.Illegal = false
-is_coverage_word words.Ignore = false
-
--- a point that declares coverage bins: automatic bins aren't built
 abbrev pub is_built_point : PointDecl → Bool
-is_built_point p = is_empty p.options && (list_any (λ b. is_coverage_word b.word) p.bins && list_all is_built_decl p.bins)
+is_built_point p = is_empty p.options && list_all is_built_decl p.bins
 
 abbrev pub is_built_member : Member → Bool
 is_built_member (members.Opt option) = false
