@@ -24,7 +24,7 @@ IsShort (Values set) = length set ≤ most_ranges
 IsShort (Patterns patterns) = ⊥
 IsShort (Trans seqs) = ⊥
 IsShort Default = Unit {0}
-IsShort (DefaultValues set) = ⊥
+IsShort (DefaultValues set) = length set ≤ most_ranges
 IsShort DefaultSequence = Unit {0}
 IsShort (Picked select) = ⊥
 IsShort (Product members) = ⊥
@@ -38,7 +38,10 @@ rule_short (Values set) at n e =
 rule_short (Patterns patterns) at n e = absurd cc
 rule_short (Trans seqs) at n e = absurd cc
 rule_short Default at n e = (tt, ok_is _ n e)
-rule_short (DefaultValues set) at n e = absurd cc
+rule_short (DefaultValues set) at n e =
+    let a = bind_ok (needs (nat_le (length set) most_ranges) kind.TooManyRanges at) _ n e in
+    let few = needs_ok (nat_le (length set) most_ranges) kind.TooManyRanges at a.0 a.1 in
+    (grind (arith, few), ok_is _ n a.2)
 rule_short DefaultSequence at n e = (tt, ok_is _ n e)
 rule_short (Picked select) at n e = absurd cc
 rule_short (Product members) at n e = absurd cc
@@ -125,7 +128,7 @@ point_rule item kind (Values set) some short = let one : 1 ≤ length set = grin
 point_rule item kind (Patterns patterns) some short = absurd short
 point_rule item kind (Trans seqs) some short = absurd short
 point_rule item kind Default some short = tt
-point_rule item kind (DefaultValues set) some short = absurd short
+point_rule item kind (DefaultValues set) some short = let one : 1 ≤ length set = grind (arith, some) in (one, short)
 point_rule item kind DefaultSequence some short = tt
 point_rule item kind (Picked select) some short = absurd short
 point_rule item kind (Product members) some short = absurd short

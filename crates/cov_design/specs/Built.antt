@@ -1,8 +1,6 @@
 -- Which declarations are built. What isn't is refused before the walk, at the first declaration that holds it.
-use Rattle.std.specs.Prelude.{ℕ, List, Bool, true, false, ◌&&◌, Result}
-use Rattle.std.specs.List.{list_all, list_any}
-use Rattle.cov_tree.specs.declared.bins.Word.{Word}
-use Rattle.cov_tree.specs.declared.bins.Word.TheVariants as words
+use Rattle.std.specs.Prelude.{ℕ, List, Bool, true, false, Result}
+use Rattle.std.specs.List.{list_all}
 use Rattle.cov_tree.specs.declared.groups.Member.{Member}
 use Rattle.cov_tree.specs.declared.groups.Member.TheVariants as members
 use Rattle.cov_tree.specs.declared.groups.PointDecl.{PointDecl}
@@ -12,14 +10,8 @@ use Rattle.elab_base.specs.declared.fault.ElabKind.TheVariants as kind
 use Rattle.elab_base.specs.Gives.{Refusal, needs, each}
 use Rattle.elab_points.specs.Built.{is_built_decl}
 
-abbrev pub is_coverage_word : Word → Bool
-is_coverage_word words.Bins = true
-is_coverage_word words.Illegal = false
-is_coverage_word words.Ignore = false
-
--- a point that declares coverage bins: automatic bins aren't built
 abbrev pub is_built_point : PointDecl → Bool
-is_built_point p = list_any (λ b. is_coverage_word b.word) p.bins && list_all is_built_decl p.bins
+is_built_point p = list_all is_built_decl p.bins
 
 abbrev pub is_built_member : Member → Bool
 is_built_member (members.Opt option) = true

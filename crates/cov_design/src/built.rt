@@ -1,29 +1,13 @@
 //! Which declarations are built.
 ghost use Rattle.std.specs.Prelude.{◌≡◌};
-ghost use Rattle.std.specs.List.{list_all, list_any};
+ghost use Rattle.std.specs.List.{list_all};
 ghost use Rattle.elab_base.specs.Gives.{Gives, Makes};
 ghost use Rattle.elab_points.specs.Built.{is_built_decl};
-ghost use Rattle.cov_design.specs.Built.{is_coverage_word, is_built_point, is_built_member, is_built as is_built_at, place_in, built_at, all_built};
+ghost use Rattle.cov_design.specs.Built.{is_built_point, is_built_member, is_built as is_built_at, place_in, built_at, all_built};
 
-use cov_tree::{BinsDecl, Decl, Member, PointDecl, Word};
+use cov_tree::{BinsDecl, Decl, Member, PointDecl};
 use elab_base::{ElabFault, ElabKind};
 use elab_points::is_built as is_built_bins;
-
-fn is_coverage(word: &Word) -> bool
-    ensures { result ≡ is_coverage_word word.now }
-{
-    match word {
-        Word::Bins => true,
-        Word::Illegal => false,
-        Word::Ignore => false,
-    }
-}
-
-fn has_coverage(bins: &[BinsDecl]) -> bool
-    ensures { result ≡ list_any (λ b. is_coverage_word b.word) bins.now }
-{
-    bins.iter().any(|decl| is_coverage(&decl.word))
-}
 
 fn are_bins(bins: &[BinsDecl]) -> bool
     ensures { result ≡ list_all is_built_decl bins.now }
@@ -34,7 +18,7 @@ fn are_bins(bins: &[BinsDecl]) -> bool
 fn is_point(point: &PointDecl) -> bool
     ensures { result ≡ is_built_point point.now }
 {
-    has_coverage(point.bins.as_slice()) && are_bins(point.bins.as_slice())
+    are_bins(point.bins.as_slice())
 }
 
 fn is_member(member: &Member) -> bool

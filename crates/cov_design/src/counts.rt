@@ -40,7 +40,7 @@ fn rule_ranges(rule: &BinRule, at: u32) -> Result<u32, ElabFault>
         BinRule::Patterns(_) => Err(ElabKind::NotBuiltYet.at(at)),
         BinRule::Trans(_) => Err(ElabKind::NotBuiltYet.at(at)),
         BinRule::Default => Ok(0),
-        BinRule::DefaultValues(_) => Err(ElabKind::NotBuiltYet.at(at)),
+        BinRule::DefaultValues(set) => ranges_of(set, at),
         BinRule::DefaultSequence => Ok(0),
         BinRule::Picked(_) => Err(ElabKind::NotBuiltYet.at(at)),
         BinRule::Product(_) => Err(ElabKind::NotBuiltYet.at(at)),
