@@ -5,3 +5,4 @@ pub mod Filter
 pub mod Left
 pub mod Made
 pub mod Rest
+pub mod Transitions

@@ -9,6 +9,7 @@ mod filter;
 mod left;
 mod made;
 mod rest;
+mod transitions;
 
 pub use built::is_built;
 pub use declared::{Entry, Walked};
