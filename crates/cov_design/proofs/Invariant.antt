@@ -234,7 +234,7 @@ group_below groups (Some what.Constant) at place e = absurd cc
 group_below groups (Some (what.Variable enumeration)) at place e = absurd cc
 group_below groups (Some what.Instance) at place e = absurd cc
 group_below groups (Some (what.Formal by_ref enumeration)) at place e = absurd cc
-group_below groups (Some what.Item) at place e = absurd cc
+group_below groups (Some (what.Item index)) at place e = absurd cc
 group_below groups (Some what.Bin) at place e = absurd cc
 group_below groups None at place e = absurd cc
 
