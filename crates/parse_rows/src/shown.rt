@@ -1,7 +1,6 @@
 //! Trees as text: each place behind an `@`, operators by their names, names and numbers as they are.
 use cov_tree::*;
 use std::alloc::Global;
-use std::test::Fail;
 
 /// A text that grows.
 #[derive(Drop)]
@@ -18,22 +17,22 @@ impl Shown {
         }
     }
 
-    pub(super) fn into_bytes(self) -> Vec<u8> {
-        let Shown { alloc: _, out } = self;
-        out
+    /// What was shown; nothing where a name isn't UTF-8.
+    pub(super) fn as_str(&self) -> &str {
+        std::str::from_utf8(self.out.as_slice()).unwrap_or("")
     }
 
-    pub(super) fn put(&mut self, text: &[u8]) -> Result<(), Fail> {
+    fn put(&mut self, text: &[u8]) -> Result<(), Memory> {
         self.out.extend_from_slice(text)?;
         Ok(())
     }
 
-    fn put_at(&mut self, at: u32) -> Result<(), Fail> {
+    fn put_at(&mut self, at: u32) -> Result<(), Memory> {
         let told = format!(in self.alloc; "@{at}")?;
         self.put(told.as_bytes())
     }
 
-    pub(super) fn design(&mut self, design: &DesignText) -> Result<(), Fail> {
+    pub(super) fn design(&mut self, design: &DesignText) -> Result<(), Memory> {
         for decl in design.decls.as_slice() {
             self.decl(decl)?;
             self.put(b"\n")?;
@@ -41,7 +40,7 @@ impl Shown {
         Ok(())
     }
 
-    fn decl(&mut self, decl: &Decl) -> Result<(), Fail> {
+    fn decl(&mut self, decl: &Decl) -> Result<(), Memory> {
         match decl {
             Decl::Enum {
                 name,
@@ -114,7 +113,7 @@ impl Shown {
         }
     }
 
-    fn formal(&mut self, formal: &Formal) -> Result<(), Fail> {
+    fn formal(&mut self, formal: &Formal) -> Result<(), Memory> {
         self.put(if formal.by_ref { b"ref " } else { b"in " })?;
         self.type_text(&formal.typ)?;
         self.put(b" ")?;
@@ -124,14 +123,14 @@ impl Shown {
         self.put(b";")
     }
 
-    fn edge(&mut self, edge: &EdgeText) -> Result<(), Fail> {
+    fn edge(&mut self, edge: &EdgeText) -> Result<(), Memory> {
         let kind = format!(in self.alloc; " {:?} ", edge.kind)?;
         self.put(kind.as_bytes())?;
         self.put(edge.name.as_slice())?;
         self.optional(b" iff ", &edge.guard)
     }
 
-    fn member(&mut self, member: &Member) -> Result<(), Fail> {
+    fn member(&mut self, member: &Member) -> Result<(), Memory> {
         self.put(b"\n  ")?;
         match member {
             Member::Opt(option) => self.option(option),
@@ -173,7 +172,7 @@ impl Shown {
         }
     }
 
-    fn label(&mut self, label: &Option<Name>) -> Result<(), Fail> {
+    fn label(&mut self, label: &Option<Name>) -> Result<(), Memory> {
         if let Some(label) = label {
             self.put(label.as_slice())?;
             self.put(b":")?;
@@ -181,7 +180,7 @@ impl Shown {
         Ok(())
     }
 
-    fn option(&mut self, option: &OptDecl) -> Result<(), Fail> {
+    fn option(&mut self, option: &OptDecl) -> Result<(), Memory> {
         self.put(if option.on_type { b"type." } else { b"option." })?;
         self.put(option.name.as_slice())?;
         self.put(b"=")?;
@@ -196,12 +195,12 @@ impl Shown {
         self.put_at(option.at)
     }
 
-    fn word(&mut self, word: Word) -> Result<(), Fail> {
+    fn word(&mut self, word: Word) -> Result<(), Memory> {
         let word = format!(in self.alloc; "{word:?} ")?;
         self.put(word.as_bytes())
     }
 
-    fn bins(&mut self, bins: &BinsDecl) -> Result<(), Fail> {
+    fn bins(&mut self, bins: &BinsDecl) -> Result<(), Memory> {
         if bins.wildcard {
             self.put(b"wildcard ")?;
         }
@@ -222,7 +221,7 @@ impl Shown {
         self.put_at(bins.at)
     }
 
-    fn right(&mut self, right: &Right) -> Result<(), Fail> {
+    fn right(&mut self, right: &Right) -> Result<(), Memory> {
         match right {
             Right::Ranges { elems, keep } => {
                 self.put(b"{")?;
@@ -250,7 +249,7 @@ impl Shown {
         }
     }
 
-    fn step(&mut self, step: &Step) -> Result<(), Fail> {
+    fn step(&mut self, step: &Step) -> Result<(), Memory> {
         self.put(b"<")?;
         self.elems(&step.elems)?;
         match &step.times {
@@ -263,14 +262,14 @@ impl Shown {
         self.put_at(step.at)
     }
 
-    fn times(&mut self, way: &[u8], low: &Expr, high: &Expr) -> Result<(), Fail> {
+    fn times(&mut self, way: &[u8], low: &Expr, high: &Expr) -> Result<(), Memory> {
         self.put(way)?;
         self.expr(low)?;
         self.put(b":")?;
         self.expr(high)
     }
 
-    fn elems(&mut self, elems: &List<Elem>) -> Result<(), Fail> {
+    fn elems(&mut self, elems: &List<Elem>) -> Result<(), Memory> {
         let mut is_first = true;
         for elem in elems.as_slice() {
             if !is_first {
@@ -282,7 +281,7 @@ impl Shown {
         Ok(())
     }
 
-    fn elem(&mut self, elem: &Elem) -> Result<(), Fail> {
+    fn elem(&mut self, elem: &Elem) -> Result<(), Memory> {
         match elem {
             Elem::One(expr) => self.expr(expr),
             Elem::Span { low, high, at } => {
@@ -296,7 +295,7 @@ impl Shown {
         }
     }
 
-    fn end(&mut self, end: &End) -> Result<(), Fail> {
+    fn end(&mut self, end: &End) -> Result<(), Memory> {
         match end {
             End::Value(expr) => self.expr(expr),
             End::Dollar { at } => {
@@ -306,7 +305,7 @@ impl Shown {
         }
     }
 
-    fn cross_bins(&mut self, bins: &CrossBins) -> Result<(), Fail> {
+    fn cross_bins(&mut self, bins: &CrossBins) -> Result<(), Memory> {
         self.word(bins.word)?;
         self.put(bins.name.as_slice())?;
         self.put(b"=")?;
@@ -315,7 +314,7 @@ impl Shown {
         self.put_at(bins.at)
     }
 
-    fn sel(&mut self, sel: &Sel) -> Result<(), Fail> {
+    fn sel(&mut self, sel: &Sel) -> Result<(), Memory> {
         match sel {
             Sel::BinsOf {
                 point,
@@ -356,7 +355,7 @@ impl Shown {
         }
     }
 
-    fn type_text(&mut self, typ: &TypeText) -> Result<(), Fail> {
+    fn type_text(&mut self, typ: &TypeText) -> Result<(), Memory> {
         match typ {
             TypeText::Vector { signed, span, at } => {
                 self.put(if *signed { b"signed vector" } else { b"vector" })?;
@@ -381,7 +380,7 @@ impl Shown {
         }
     }
 
-    fn optional(&mut self, before: &[u8], expr: &Option<Expr>) -> Result<(), Fail> {
+    fn optional(&mut self, before: &[u8], expr: &Option<Expr>) -> Result<(), Memory> {
         match expr {
             Some(expr) => {
                 self.put(before)?;
@@ -392,7 +391,7 @@ impl Shown {
     }
 
     #[cycle(expr)]
-    fn exprs(&mut self, exprs: &[Expr]) -> Result<(), Fail> {
+    fn exprs(&mut self, exprs: &[Expr]) -> Result<(), Memory> {
         let mut is_first = true;
         for expr in exprs {
             if !is_first {
@@ -405,7 +404,7 @@ impl Shown {
     }
 
     #[cycle(expr)]
-    fn expr(&mut self, expr: &Expr) -> Result<(), Fail> {
+    fn expr(&mut self, expr: &Expr) -> Result<(), Memory> {
         match expr {
             Expr::Num { lit, at } => {
                 let bits = format!(in self.alloc; "{}", lit.bits)?;
