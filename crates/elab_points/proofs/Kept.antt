@@ -1,5 +1,5 @@
 -- What is known of the bins of a point: there are no more than an item may have, and each has something left.
-use Rattle.std.proofs.Common.{◌≡◌, ◌∙◌, ℕ, zero, suc, ◌+◌, ◌≤◌, ℤ, List, [], ◌∷◌, ◌++◌, length, map, filter, refl, sym, ap, subst, Bool, true, false, cond, arith, Option, Some, None, Result, Ok, Err}
+use Rattle.std.proofs.Common.{◌≡◌, ◌∙◌, ℕ, zero, suc, ◌+◌, ◌≤◌, ℤ, List, [], ◌∷◌, ◌++◌, length, map, filter, refl, ap, subst, Bool, true, false, arith, Option, Some, None, Ok}
 use Rattle.std.specs.Prelude.{nat_le, int_lt, if◌then◌else◌}
 use Rattle.std.specs.List.{AllByRecursion}
 use Rattle.std.proofs.lemmas.List.{length-append, length_push}
@@ -16,7 +16,7 @@ use Rattle.const_eval.specs.Scopes.{Levels}
 use Rattle.design_data.specs.declared.infos.BinRule.TheVariants.{Default}
 use Rattle.elab_base.specs.declared.fault.ElabKind.TheVariants as kind
 use Rattle.elab_base.specs.Gives.{needs, each_at}
-use Rattle.elab_base.specs.Steps.{unused, guard_in}
+use Rattle.elab_base.specs.Steps.{guard_in}
 use Rattle.elab_base.proofs.Keeps.{bind_ok, ok_is, each_keeps, needs_ok, all_append}
 use Rattle.elab_values.specs.declared.domain.Domain.{Domain}
 use Rattle.elab_values.specs.declared.elements.Listed.{Listed}
@@ -33,12 +33,11 @@ use Rattle.elab_points.specs.declared.made.Plan.TheVariants as plans
 use Rattle.elab_points.specs.declared.made.Wanted.{Wanted}
 use Rattle.elab_points.specs.declared.made.Wanted.TheVariants as wants
 use Rattle.elab_points.specs.Automatic.{automatic, declares_coverage, automatic_added, automatic_binned, with_automatic}
-use Rattle.elab_points.specs.Built.{is_built_decl}
 use Rattle.elab_points.specs.Declarations.{kind_of, default_kind, elements_in, entered, head_of, bins_added, values_binned, elements_binned, values_declared, one_added, rest_added, default_added, default_sized, default_declared, declared_by, bins_declared, no_bins, bins_walked}
 use Rattle.elab_points.specs.Filter.{passes, keep_of, filter_in, kept_numbers}
 use Rattle.elab_points.specs.Left.{bin_left, has_some, some_of, left_of, bins_left, left_by, point_left, walked_left, bins_of_point}
 use Rattle.elab_points.specs.Made.{wanted_in, bins_wanted, plan_of, planned, plan_bins, named_bin, single, part_bins, parts_kept, bins_made}
-use Rattle.elab_points.specs.Rest.{unlisted, rest_bin, entry_bins, all_bins, entry_counted, entries_counted, all_filled}
+use Rattle.elab_points.specs.Rest.{unlisted, rest_bin, all_bins, entry_counted, entries_counted, all_filled}
 
 -- ---- how many bins a declaration makes
 

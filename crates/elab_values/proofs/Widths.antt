@@ -1,6 +1,6 @@
 -- Patterns of elements have 1 to 64 bits, and their sets may have too many intervals.
-use Rattle.std.proofs.Common.{◌≡◌, ◌∙◌, ℕ, ◌<◌, ◌≤◌, ℤ, append-nil, List, [], ◌∷◌, ◌++◌, length, Bool, true, false, refl, sym, ap, subst, arith, Option, Some, None, Result, Ok, Err}
-use Rattle.std.specs.Prelude.{nat_le, nat_eq, ◌&&◌, if◌then◌else◌}
+use Rattle.std.proofs.Common.{◌≡◌, ℕ, ◌<◌, ◌≤◌, ℤ, append-nil, List, [], ◌∷◌, ◌++◌, length, Bool, true, false, refl, sym, ap, subst, arith, Option, Some, None, Ok, Err}
+use Rattle.std.specs.Prelude.{nat_le, nat_eq, if◌then◌else◌}
 use Rattle.std.specs.List.{AllByRecursion}
 use Rattle.cov_ground.specs.Limits.{most_ranges}
 use Rattle.cov_base.specs.Sets.{span, written, set_of}
@@ -18,7 +18,7 @@ use Rattle.wildcard_bins.specs.Patterns.{agreeing}
 use Rattle.design_data.specs.Limits.{HasWidth}
 use Rattle.elab_base.specs.declared.fault.ElabKind.{ElabKind}
 use Rattle.elab_base.specs.declared.fault.ElabKind.TheVariants.{TooManyRanges}
-use Rattle.elab_base.specs.Gives.{Refusal, ◌>>=◌, needs, each}
+use Rattle.elab_base.specs.Gives.{needs, each}
 use Rattle.elab_base.proofs.Folds.{Left, left_begins}
 use Rattle.elab_base.proofs.Keeps.{bind_ok, ok_is, each_keeps, all_push}
 use Rattle.elab_values.specs.declared.domain.Domain.{Domain}

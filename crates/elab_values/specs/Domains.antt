@@ -1,6 +1,6 @@
 -- The numbers of a point (IEEE 1800-2017, 19.5): all numbers of its expression's type, or the constants of an
 -- enumeration (6.19) where the expression is the name of something enumerated.
-use Rattle.std.specs.Prelude.{ℤ, pos, int_le, ℕ, ◌-◌, List, [], ◌∷◌, length, map, slice_get, Option, Some, None, if◌then◌else◌}
+use Rattle.std.specs.Prelude.{ℤ, pos, int_le, ◌-◌, List, [], ◌∷◌, length, map, slice_get, Option, Some, None, if◌then◌else◌}
 use Rattle.cov_base.specs.Sets.{written, set_of}
 use Rattle.bin_spec.specs.Types.{lowest, highest}
 use Rattle.const_eval.specs.declared.typs.Typ.{Typ}

@@ -1,5 +1,5 @@
 -- Range lists (IEEE 1800-2017, 19.5.1, 19.5.4 and 19.5.7): their elements, and the numbers that these stand for.
-use Rattle.std.specs.Prelude.{◌≡◌, ℕ, nat_eq, nat_le, ℤ, List, [], ◌∷◌, ◌++◌, length, filter, Bool, true, false, not, ◌&&◌, Option, Some, None, Result, Ok, Err, if◌then◌else◌}
+use Rattle.std.specs.Prelude.{ℕ, nat_eq, nat_le, ℤ, List, [], ◌∷◌, ◌++◌, length, filter, Bool, Option, Some, None, Result, Ok, Err, if◌then◌else◌}
 use Rattle.cov_ground.specs.Limits.{most_ranges}
 use Rattle.cov_base.specs.Sets.{span, written, set_of, is_in}
 use Rattle.cov_tree.specs.declared.literal.Literal.{Literal}

@@ -7,7 +7,7 @@ mod elements;
 mod made;
 mod ranges;
 
-pub use domain::{Constant, Domain, domain_of};
+pub use domain::{Constant, Domain, domain_of, domain_of_constants};
 pub use elements::{Listed, element_pattern, elements_of};
 pub use made::{ItemDecls, Made, PointBins, Settings};
 pub use ranges::{numbers, numbers_listed};
