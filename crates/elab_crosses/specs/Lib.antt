@@ -1,3 +1,5 @@
 pub mod Axes
 pub mod Declarations
+pub mod Free
+pub mod Removal
 pub mod Selections

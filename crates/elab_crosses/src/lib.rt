@@ -2,10 +2,13 @@
 //! 19.6).
 #![tactic(auto)]
 
+mod automatic;
 mod axes;
 mod declared;
+mod left;
 mod selections;
 
+pub use automatic::cross_bins;
 pub use axes::{Axis, Named, check_products, name_axes, own_names};
 pub use declared::Walked;
 pub use selections::{Crossed, selection};
