@@ -3,3 +3,4 @@ pub mod Declarations
 pub mod Free
 pub mod Removal
 pub mod Selections
+pub mod Promises

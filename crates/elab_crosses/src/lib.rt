@@ -5,6 +5,7 @@
 mod automatic;
 mod axes;
 mod declared;
+pub mod laws;
 mod left;
 mod selections;
 
