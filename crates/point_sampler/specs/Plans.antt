@@ -1,0 +1,87 @@
+-- What the plan of a point prepares.
+use Rattle.std.specs.Prelude.{◌≡◌, ℕ, ◌+◌, ◌≤◌, List, [], ◌∷◌, ◌++◌, length, filter, take, slice_get, Option, Some, None, Bool, true, false, if◌then◌else◌}
+use Rattle.std.specs.List.{AllByRecursion}
+use Rattle.cov_ground.specs.Limits.{most_bins, most_cells}
+use Rattle.const_eval.specs.Terms.{Term}
+use Rattle.trans_seq.specs.Cells.{cells_of_seqs}
+use Rattle.design_data.specs.declared.infos.ItemInfo.{ItemInfo}
+use Rattle.design_data.specs.declared.infos.BinInfo.{BinInfo}
+use Rattle.design_data.specs.declared.infos.BinKind.{BinKind}
+use Rattle.design_data.specs.declared.infos.BinRule.{BinRule}
+use Rattle.design_data.specs.declared.infos.BinRule.TheVariants.{Values, Patterns, Trans, Default, DefaultValues, DefaultSequence, Picked, Product}
+use Rattle.design_data.specs.Bins.{is_coverage}
+use Rattle.design_data.specs.Limits.{IsPointRule}
+use Rattle.point_sampler.specs.declared.plan.PointPlan.{PointPlan}
+use Rattle.point_sampler.specs.declared.plan.Entry.{Entry}
+use Rattle.point_sampler.specs.declared.plan.Machine.{Machine}
+
+-- The item is within the limits of a point of a design.
+pub record IsPoint (item : ItemInfo) : Type 0 where
+  pub few : length item.bins ≤ most_bins
+  pub removing : cells_of_seqs (item.ignored ++ item.illegal) ≤ most_cells
+  pub rules : AllByRecursion (λ bin. IsPointRule item bin.kind bin.rule) item.bins
+
+-- the places, from this one on, of the elements that pass the test
+abbrev pub places_from : {X : Type 0} → (X → Bool) → ℕ → List X → List ℕ
+places_from test place [] = []
+places_from test place (x ∷ xs) = if test x then place ∷ places_from test (place + 1) xs else places_from test (place + 1) xs
+
+-- ---- what is prepared of each bin
+
+-- the coverage bins among bins
+abbrev pub covering : List BinInfo → List BinInfo
+covering bins = filter (λ bin. is_coverage bin.kind) bins
+
+-- there is no guard, or the bin at this place has the same
+abbrev pub IsGuardAt : List BinInfo → Option ℕ → Option Term → Type 0
+IsGuardAt bins None guard = guard ≡ None
+IsGuardAt bins (Some place) guard = (bin : BinInfo) × (slice_get bins place ≡ Some bin) × (bin.guard ≡ guard)
+
+pub record IsEntry (bins : List BinInfo) (place : ℕ) (bin : BinInfo) (entry : Entry) : Type 0 where
+  pub covers : entry.covers ≡ is_coverage bin.kind
+  pub number : entry.number ≡ length (covering (take place bins))
+  pub guard : IsGuardAt bins entry.guard bin.guard
+
+pub record AreEntries (bins : List BinInfo) (entries : List Entry) : Type 0 where
+  pub same : length entries ≡ length bins
+  pub at : (place : ℕ) (bin : BinInfo) (entry : Entry) → slice_get bins place ≡ Some bin → slice_get entries place ≡ Some entry → IsEntry bins place bin entry
+
+-- ---- transitions
+
+-- the automaton of a transition bin; none of another
+abbrev pub machine_of : (place : ℕ) → BinKind → BinRule → List Machine
+machine_of place kind (Values set) = []
+machine_of place kind (Patterns patterns) = []
+machine_of place kind (Trans seqs) = record { place = place; kind = kind; watcher = seqs } ∷ []
+machine_of place kind Default = []
+machine_of place kind (DefaultValues set) = []
+machine_of place kind DefaultSequence = []
+machine_of place kind (Picked select) = []
+machine_of place kind (Product members) = []
+
+-- the automata of the transition bins among bins, the first of which stands at this place
+abbrev pub machines_from : ℕ → List BinInfo → List Machine
+machines_from place [] = []
+machines_from place (bin ∷ bins) = machine_of place bin.kind bin.rule ++ machines_from (place + 1) bins
+
+abbrev pub is_default_sequence : BinRule → Bool
+is_default_sequence (Values set) = false
+is_default_sequence (Patterns patterns) = false
+is_default_sequence (Trans seqs) = false
+is_default_sequence Default = false
+is_default_sequence (DefaultValues set) = false
+is_default_sequence DefaultSequence = true
+is_default_sequence (Picked select) = false
+is_default_sequence (Product members) = false
+
+-- ---- the plan
+
+-- The plan is that of the point.
+pub record IsPlanOf (item : ItemInfo) (plan : PointPlan) : Type 0 where
+  pub entries : AreEntries item.bins plan.entries.items
+  pub machines : plan.machines.items ≡ machines_from 0 item.bins
+  pub covering : plan.removers.covering ≡ item.ignored ++ item.illegal
+  pub ignoring : plan.removers.ignoring ≡ item.illegal
+  pub none : plan.removers.none ≡ []
+  pub others : plan.others ≡ item.ignored ++ item.illegal
+  pub sequences : plan.sequences.items ≡ places_from (λ bin. is_default_sequence bin.rule) 0 item.bins

@@ -1,0 +1,58 @@
+-- What a point has counted after some of the samples of its instance.
+use Rattle.std.specs.Prelude.{◌≡◌, ◌≢◌, ◌↔◌, ◌⊎◌, ℕ, ◌+◌, ◌-◌, ◌^◌, ◌<◌, ◌≤◌, List, [], ◌++◌, length, take, slice_get, slice_index, slice_index_or, Contains, AllPairs, Some, IsTrue}
+use Rattle.cov_spec.specs.Number.{Number}
+use Rattle.const_eval.specs.Terms.{Term}
+use Rattle.trans_auto.specs.State.{Stands}
+use Rattle.design_data.specs.declared.infos.ItemInfo.{ItemInfo}
+use Rattle.design_data.specs.declared.infos.BinInfo.{BinInfo}
+use Rattle.design_data.specs.Bins.{coverage_bins, removing_seqs}
+use Rattle.design_data.specs.Laws.{Value}
+use Rattle.record_codec.specs.Samples.{Env}
+use Rattle.cov_counting.specs.Hits.{trace, HitAt}
+use Rattle.cov_counting.specs.Crosses.{SomeHitAt}
+use Rattle.point_sampler.specs.declared.plan.PointPlan.{PointPlan}
+use Rattle.point_sampler.specs.declared.plan.Machine.{Machine}
+use Rattle.point_sampler.specs.declared.state.PointState.{PointState}
+
+-- the m-th of all samples has these values, and there are not more before it than a count can say
+pub record IsSample (all : List Env) (m : ℕ) (env : Env) : Type 0 where
+  pub within : m < length all
+  pub few : m < 2 ^ 64 - 1
+  pub is : slice_index_or all m [] ≡ env
+
+-- ---- what is remembered
+
+-- the state has a place for each automaton of the plan
+abbrev pub Fits : PointPlan → PointState → Type 0
+Fits plan state = length state.runs.items ≡ length plan.machines.items
+
+-- the state stands after these values of the point's trace
+pub record Remembers (item : ItemInfo) (plan : PointPlan) (state : PointState) (w : List Value) : Type 0 where
+  pub begun : IsTrue state.begun ↔ (0 < length w)
+  pub runs : (k : ℕ) (machine : Machine) (runs : List (ℕ × ℕ)) → slice_get plan.machines.items k ≡ Some machine → slice_get state.runs.items k ≡ Some runs
+      → Stands machine.watcher (removing_seqs item machine.kind) runs w
+  pub others : 0 < length plan.sequences.items → Stands (item.ignored ++ item.illegal) [] state.others w
+
+-- the state stands after the first m samples of the instance
+abbrev pub StateStands : ItemInfo → Term → PointPlan → List Env → ℕ → PointState → Type 0
+StateStands item expr plan all m state = Remembers item plan state (trace expr item.guard (take m all))
+
+-- ---- what is counted
+
+-- the counts of the point's bins, which stand at their numbers, are those of the first m samples
+abbrev pub CountsStand : ItemInfo → Term → List Env → ℕ → List ℕ → Type 0
+CountsStand item expr all m counts = (k : ℕ) (bin : BinInfo) → slice_get item.bins k ≡ Some bin → Number (HitAt item expr bin all) m (slice_index counts (item.first_bin + k))
+
+-- the number is that of no bin of the item
+abbrev pub IsOutside : ItemInfo → ℕ → Type 0
+IsOutside item number = (number < item.first_bin) ⊎ (item.first_bin + length item.bins ≤ number)
+
+-- what the point remembers and counts is that of the first m samples of its instance
+pub record PointStands (item : ItemInfo) (expr : Term) (plan : PointPlan) (all : List Env) (m : ℕ) (state : PointState) (counts : List ℕ) : Type 0 where
+  pub remembers : StateStands item expr plan all m state
+  pub counted : CountsStand item expr all m counts
+
+-- The row has the numbers, among the point's coverage bins, of those that are hit at the m-th sample, each once.
+pub record RowStands (item : ItemInfo) (expr : Term) (all : List Env) (m : ℕ) (row : List ℕ) : Type 0 where
+  pub is : (number : ℕ) → Contains row number ↔ SomeHitAt item expr (slice_get (coverage_bins item) number) all m
+  pub once : AllPairs (λ a b. a ≢ b) row

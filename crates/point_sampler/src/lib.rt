@@ -1,0 +1,13 @@
+//! Counting the bins of a point along the samples of its instance (IEEE 1800-2017, 19.5): each sample is taken once,
+//! and no trace is kept.
+#![tactic(auto)]
+
+mod counting;
+mod machines;
+mod plan;
+mod point;
+mod rules;
+mod state;
+
+pub use plan::{Entry, Machine, PointPlan, Removers};
+pub use state::{PointState, Steps};

@@ -1,0 +1,48 @@
+//! What is prepared of a point before its samples are counted. All records and threads share it.
+
+use design_data::BinKind;
+use trans_auto::{Removing, Watcher};
+
+/// What is prepared of a point: its tables are linear in its bins and their intervals.
+#[derive(Drop, Debug)]
+pub struct PointPlan {
+    /// One for each bin.
+    pub(crate) entries: Vec<Entry>,
+    /// The automata of the transition bins, in order.
+    pub(crate) machines: Vec<Machine>,
+    /// The sequences that take windows away.
+    pub(crate) removers: Removers,
+    /// The automaton of the ignored and illegal sequences, which a default sequence doesn't count either.
+    pub(crate) others: Watcher,
+    /// The places of the default sequences.
+    pub(crate) sequences: Vec<u32>,
+}
+
+/// What is asked of a bin that a sample meets.
+#[derive(Clone, Copy, Drop, Debug)]
+pub struct Entry {
+    /// Whether it counts for coverage.
+    pub(crate) covers: bool,
+    /// How many coverage bins come before it.
+    pub(crate) number: u32,
+    /// The place of a bin with the same guard, where it has one.
+    pub(crate) guard: Option<u32>,
+}
+
+/// The automaton of a transition bin.
+#[derive(Drop, Debug)]
+pub struct Machine {
+    /// The bin's place among those of its point.
+    pub(crate) place: u32,
+    /// The bin's kind.
+    pub(crate) kind: BinKind,
+    pub(crate) watcher: Watcher,
+}
+
+/// The sequences that take windows away from coverage bins, from ignore bins, and from no bin.
+#[derive(Drop, Debug)]
+pub struct Removers {
+    pub(crate) covering: Removing,
+    pub(crate) ignoring: Removing,
+    pub(crate) none: Removing,
+}

@@ -1,0 +1,2 @@
+//! An index from values to the sets that have them.
+#![tactic(auto)]
