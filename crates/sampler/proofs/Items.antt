@@ -56,12 +56,12 @@ stands_kept items item all m (Cross axes) p (kept.Cross s) old new same h = reco
   counted = λ b bin at. subst (Number (CrossHitAt items item axes bin all) m) (sym (same b (slice_get_within item.bins b bin at))) (h.counted b bin at);
 }
 
-numbered_ge : (first : ℕ) (items : List ItemInfo) (k : ℕ) (a : ItemInfo) → IsNumberedFrom first items → slice_get items k ≡ Some a → first ≤ a.first_bin
+pub numbered_ge : (first : ℕ) (items : List ItemInfo) (k : ℕ) (a : ItemInfo) → IsNumberedFrom first items → slice_get items k ≡ Some a → first ≤ a.first_bin
 numbered_ge first [] k a h e = (cc)
 numbered_ge first (x ∷ items) zero a h e = let same : x ≡ a = cc in omega (arith, h.0, ap (λ (i : ItemInfo). i.first_bin) same)
 numbered_ge first (x ∷ items) (suc k) a h e = let more = numbered_ge (first + length x.bins) items k a h.1 e in omega (arith, more)
 
-ordered : (first : ℕ) (items : List ItemInfo) (k t : ℕ) (a b : ItemInfo) → IsNumberedFrom first items → k < t → slice_get items k ≡ Some a → slice_get items t ≡ Some b → a.first_bin + length a.bins ≤ b.first_bin
+pub ordered : (first : ℕ) (items : List ItemInfo) (k t : ℕ) (a b : ItemInfo) → IsNumberedFrom first items → k < t → slice_get items k ≡ Some a → slice_get items t ≡ Some b → a.first_bin + length a.bins ≤ b.first_bin
 ordered first [] k t a b h lt e f = (cc)
 ordered first (x ∷ items) k zero a b h lt e f = absurd (omega (arith, lt))
 ordered first (x ∷ items) zero (suc t) a b h lt e f =
@@ -88,7 +88,7 @@ pub some_last : (items : List ItemInfo) (plans : List ItemPlan) (all : List Env)
     → AllTaken items plans all after old states counts
 some_last items plans all before after t old states counts le h = record { stand = λ k item p s e f. h.done k item p s (omega (arith, le, slice_get_within items k item e)) e f; outside = h.outside }
 
-one_of : {X : Type 0} (P : X → Type 0) (xs : List X) (k : ℕ) (x y : X) → slice_get xs k ≡ Some x → slice_get xs k ≡ Some y → P x → P y
+pub one_of : {X : Type 0} (P : X → Type 0) (xs : List X) (k : ℕ) (x y : X) → slice_get xs k ≡ Some x → slice_get xs k ≡ Some y → P x → P y
 one_of P xs k x y e f h = let same : Some x ≡ Some y = sym e ∙ f in let equal : x ≡ y = cc in subst P equal h
 
 pub some_more : (items : List ItemInfo) (plans : List ItemPlan) (all : List Env) (before after : ItemShape → ℕ) (t n : ℕ) (start : List ℕ) (states : List ItemState) (old new : List ℕ) (item : ItemInfo) (p : ItemPlan) (state : ItemState)

@@ -1,3 +1,5 @@
 pub mod Shape
 pub mod Values
 pub mod Standing
+pub mod Plans
+pub mod Starting

@@ -2,13 +2,16 @@
 //! the record.
 #![tactic(auto)]
 
-// mod binning;
+mod binning;
 mod instance;
 mod plan;
+mod planning;
 mod shape;
+mod starting;
 mod values;
 mod walking;
 
+pub use binning::{bin_record, bin_record_under, counts_under};
 pub use instance::ItemState;
 pub use plan::{InstPlan, ItemPlan, Plan};
 pub use shape::{WrongShape, shape_fits};
