@@ -3,3 +3,4 @@ pub mod Values
 pub mod Standing
 pub mod Plans
 pub mod Starting
+pub mod Preparing
