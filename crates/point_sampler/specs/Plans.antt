@@ -3,10 +3,12 @@ use Rattle.std.specs.Prelude.{◌≡◌, ℕ, ◌+◌, ◌≤◌, List, [], ◌�
 use Rattle.std.specs.List.{AllByRecursion}
 use Rattle.cov_ground.specs.Limits.{most_bins, most_cells}
 use Rattle.const_eval.specs.Terms.{Term}
+use Rattle.trans_seq.specs.declared.seq.Seq.{Seq}
 use Rattle.trans_seq.specs.Cells.{cells_of_seqs}
 use Rattle.design_data.specs.declared.infos.ItemInfo.{ItemInfo}
 use Rattle.design_data.specs.declared.infos.BinInfo.{BinInfo}
 use Rattle.design_data.specs.declared.infos.BinKind.{BinKind}
+use Rattle.design_data.specs.declared.infos.BinKind.TheVariants.{CvgBin, IllegalBin, IgnoreBin, DefaultBin}
 use Rattle.design_data.specs.declared.infos.BinRule.{BinRule}
 use Rattle.design_data.specs.declared.infos.BinRule.TheVariants.{Values, Patterns, Trans, Default, DefaultValues, DefaultSequence, Picked, Product}
 use Rattle.design_data.specs.Bins.{is_coverage}
@@ -14,6 +16,7 @@ use Rattle.design_data.specs.Limits.{IsPointRule}
 use Rattle.point_sampler.specs.declared.plan.PointPlan.{PointPlan}
 use Rattle.point_sampler.specs.declared.plan.Entry.{Entry}
 use Rattle.point_sampler.specs.declared.plan.Machine.{Machine}
+use Rattle.point_sampler.specs.declared.plan.Removers.{Removers}
 
 -- The item is within the limits of a point of a design.
 pub record IsPoint (item : ItemInfo) : Type 0 where
@@ -42,9 +45,13 @@ pub record IsEntry (bins : List BinInfo) (place : ℕ) (bin : BinInfo) (entry : 
   pub number : entry.number ≡ length (covering (take place bins))
   pub guard : IsGuardAt bins entry.guard bin.guard
 
-pub record AreEntries (bins : List BinInfo) (entries : List Entry) : Type 0 where
-  pub same : length entries ≡ length bins
+-- the entries are those of the first n bins
+pub record AreEntriesOf (bins : List BinInfo) (n : ℕ) (entries : List Entry) : Type 0 where
+  pub same : length entries ≡ n
   pub at : (place : ℕ) (bin : BinInfo) (entry : Entry) → slice_get bins place ≡ Some bin → slice_get entries place ≡ Some entry → IsEntry bins place bin entry
+
+abbrev pub AreEntries : List BinInfo → List Entry → Type 0
+AreEntries bins entries = AreEntriesOf bins (length bins) entries
 
 -- ---- transitions
 
@@ -64,6 +71,13 @@ abbrev pub machines_from : ℕ → List BinInfo → List Machine
 machines_from place [] = []
 machines_from place (bin ∷ bins) = machine_of place bin.kind bin.rule ++ machines_from (place + 1) bins
 
+-- the sequences whose windows a bin of this kind doesn't count
+abbrev pub removed_by : Removers → BinKind → List Seq
+removed_by removers CvgBin = removers.covering
+removed_by removers IllegalBin = removers.none
+removed_by removers IgnoreBin = removers.ignoring
+removed_by removers DefaultBin = removers.none
+
 abbrev pub is_default_sequence : BinRule → Bool
 is_default_sequence (Values set) = false
 is_default_sequence (Patterns patterns) = false
@@ -76,12 +90,16 @@ is_default_sequence (Product members) = false
 
 -- ---- the plan
 
+-- the sequences that take windows away are those of the point
+pub record AreRemovers (item : ItemInfo) (removers : Removers) : Type 0 where
+  pub covering : removers.covering ≡ item.ignored ++ item.illegal
+  pub ignoring : removers.ignoring ≡ item.illegal
+  pub none : removers.none ≡ []
+
 -- The plan is that of the point.
 pub record IsPlanOf (item : ItemInfo) (plan : PointPlan) : Type 0 where
   pub entries : AreEntries item.bins plan.entries.items
   pub machines : plan.machines.items ≡ machines_from 0 item.bins
-  pub covering : plan.removers.covering ≡ item.ignored ++ item.illegal
-  pub ignoring : plan.removers.ignoring ≡ item.illegal
-  pub none : plan.removers.none ≡ []
+  pub removers : AreRemovers item plan.removers
   pub others : plan.others ≡ item.ignored ++ item.illegal
   pub sequences : plan.sequences.items ≡ places_from (λ bin. is_default_sequence bin.rule) 0 item.bins

@@ -1,18 +1,20 @@
 -- What a point has counted after some of the samples of its instance.
-use Rattle.std.specs.Prelude.{◌≡◌, ◌≢◌, ◌↔◌, ◌⊎◌, ℕ, ◌+◌, ◌-◌, ◌^◌, ◌<◌, ◌≤◌, List, [], ◌++◌, length, take, slice_get, slice_index, slice_index_or, Contains, AllPairs, Some, IsTrue}
+use Rattle.std.specs.Prelude.{◌≡◌, ◌≢◌, ◌↔◌, ◌⊎◌, ℕ, ◌+◌, ◌-◌, ◌^◌, ◌<◌, ◌≤◌, List, [], length, take, slice_get, slice_index, slice_index_or, Contains, AllPairs, Some, IsTrue}
 use Rattle.cov_spec.specs.Number.{Number}
 use Rattle.const_eval.specs.Terms.{Term}
 use Rattle.trans_auto.specs.State.{Stands}
 use Rattle.design_data.specs.declared.infos.ItemInfo.{ItemInfo}
 use Rattle.design_data.specs.declared.infos.BinInfo.{BinInfo}
-use Rattle.design_data.specs.Bins.{coverage_bins, removing_seqs}
+use Rattle.design_data.specs.Bins.{coverage_bins}
 use Rattle.design_data.specs.Laws.{Value}
 use Rattle.record_codec.specs.Samples.{Env}
 use Rattle.cov_counting.specs.Hits.{trace, HitAt}
 use Rattle.cov_counting.specs.Crosses.{SomeHitAt}
 use Rattle.point_sampler.specs.declared.plan.PointPlan.{PointPlan}
+use Rattle.point_sampler.specs.declared.plan.Removers.{Removers}
 use Rattle.point_sampler.specs.declared.plan.Machine.{Machine}
 use Rattle.point_sampler.specs.declared.state.PointState.{PointState}
+use Rattle.point_sampler.specs.Plans.{removed_by}
 
 -- the m-th of all samples has these values, and there are not more before it than a count can say
 pub record IsSample (all : List Env) (m : ℕ) (env : Env) : Type 0 where
@@ -26,16 +28,24 @@ pub record IsSample (all : List Env) (m : ℕ) (env : Env) : Type 0 where
 abbrev pub Fits : PointPlan → PointState → Type 0
 Fits plan state = length state.runs.items ≡ length plan.machines.items
 
+-- the runs of each automaton stand after the values
+abbrev pub RunsStand : List Machine → Removers → (runs : List (List (ℕ × ℕ))) → List Value → Type 0
+RunsStand machines removers runs w = (k : ℕ) (machine : Machine) (run : List (ℕ × ℕ)) → k < length machines
+    → Stands (slice_index_or machines k machine).watcher (removed_by removers (slice_index_or machines k machine).kind) (slice_index_or runs k run) w
+
+-- the run of the automaton of ignored and illegal sequences stands after the values, where there is a default sequence
+abbrev pub OthersStand : PointPlan → List (ℕ × ℕ) → List Value → Type 0
+OthersStand plan others w = 0 < length plan.sequences.items → Stands plan.others plan.removers.none others w
+
 -- the state stands after these values of the point's trace
-pub record Remembers (item : ItemInfo) (plan : PointPlan) (state : PointState) (w : List Value) : Type 0 where
+pub record Remembers (plan : PointPlan) (state : PointState) (w : List Value) : Type 0 where
   pub begun : IsTrue state.begun ↔ (0 < length w)
-  pub runs : (k : ℕ) (machine : Machine) (runs : List (ℕ × ℕ)) → slice_get plan.machines.items k ≡ Some machine → slice_get state.runs.items k ≡ Some runs
-      → Stands machine.watcher (removing_seqs item machine.kind) runs w
-  pub others : 0 < length plan.sequences.items → Stands (item.ignored ++ item.illegal) [] state.others w
+  pub runs : RunsStand plan.machines.items plan.removers state.runs.items w
+  pub others : OthersStand plan state.others w
 
 -- the state stands after the first m samples of the instance
 abbrev pub StateStands : ItemInfo → Term → PointPlan → List Env → ℕ → PointState → Type 0
-StateStands item expr plan all m state = Remembers item plan state (trace expr item.guard (take m all))
+StateStands item expr plan all m state = Remembers plan state (trace expr item.guard (take m all))
 
 -- ---- what is counted
 

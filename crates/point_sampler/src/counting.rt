@@ -1,1 +1,80 @@
-//! todo
+//! The counts of the bins that a sample meets.
+ghost use Rattle.std.specs.Prelude.{◌≡◌, ◌≢◌, ℕ, ◌+◌, ◌<◌, ◌≤◌, ◌∷◌, ◌++◌, [], length, All, AllPairs, Option, OnOk, if◌then◌else◌};
+ghost use Rattle.const_eval.specs.Terms.{Term};
+ghost use Rattle.cov_counting.specs.Hits.{holds as holds_at};
+ghost use Rattle.point_sampler.specs.Plans.{AreEntries, IsGuardAt};
+ghost use Rattle.point_sampler.specs.Points.{IsOutside};
+ghost use Rattle.point_sampler.specs.Met.{PlaceTaken, AllTaken};
+
+use crate::plan::Entry;
+use crate::rules::holds;
+use cov_base::{Int, Memory};
+use design_data::{BinInfo, ItemInfo};
+
+/// Whether the guard of the bin at this place holds; None stands for no guard.
+fn holds_of(bins: &[BinInfo], place: &Option<u32>, env: &[Option<Int>]) -> bool
+    requires { (guard : Option Term) × IsGuardAt bins.now place.now guard }
+    ensures { (guard : Option Term) → IsGuardAt bins.now place.now guard → result ≡ holds_at guard env.now }
+{
+    match place {
+        None => true,
+        Some(place) => holds(&bins[*place as usize].guard, env),
+    }
+}
+
+/// Appends the number of a coverage bin.
+fn add_number(entry: &Entry, row: &mut Vec<u32>) -> Result<(), Memory>
+    ensures { OnOk result (row.new.items ≡ (if entry.now.covers then row.old.items ++ entry.now.number ∷ [] else row.old.items)) }
+{
+    if entry.covers {
+        row.push(entry.number)?;
+    }
+    Ok(())
+}
+
+/// Counts the bin at this place, whose rule is met, if its guard holds.
+fn count_one(
+    entries: &[Entry],
+    item: &ItemInfo,
+    env: &[Option<Int>],
+    place: u32,
+    counts: &mut [u64],
+    row: &mut Vec<u32>,
+) -> Result<(), Memory>
+    requires entries { AreEntries item.now.bins entries.now }
+    requires place { place < length item.now.bins }
+    requires counts { item.now.first_bin + length item.now.bins ≤ length counts.old }
+    ensures { OnOk result (PlaceTaken item.now env.now place counts.old row.old.items counts.new row.new.items) }
+{
+    let entry = entries[place as usize];
+    if !holds_of(item.bins.as_slice(), &entry.guard, env) {
+        return Ok(());
+    }
+    let number = item.first_bin as usize + place as usize;
+    counts[number] = counts[number].saturating_add(1);
+    add_number(&entry, row)?;
+    Ok(())
+}
+
+/// Counts the bins at these places, whose rules are met, where their guards hold, and puts the numbers of the coverage
+/// bins among them into the row.
+pub(crate) fn count_met(
+    entries: &[Entry],
+    item: &ItemInfo,
+    env: &[Option<Int>],
+    met: &[u32],
+    counts: &mut [u64],
+    row: &mut Vec<u32>,
+) -> Result<(), Memory>
+    requires entries { AreEntries item.now.bins entries.now }
+    requires within { All (λ place. place < length item.now.bins) met.now }
+    requires once { AllPairs (λ a b. a ≢ b) met.now }
+    requires counts { item.now.first_bin + length item.now.bins ≤ length counts.old }
+    requires none { row.old.items ≡ [] }
+    ensures { OnOk result (AllTaken item.now env.now met.now counts.old counts.new row.new.items) }
+{
+    for place in met {
+        count_one(entries, item, env, *place, counts, row)?;
+    }
+    Ok(())
+}

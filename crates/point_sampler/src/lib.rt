@@ -5,6 +5,7 @@
 mod counting;
 mod machines;
 mod plan;
+mod planning;
 mod point;
 mod rules;
 mod state;

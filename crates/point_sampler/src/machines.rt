@@ -1,1 +1,215 @@
-//! todo
+//! The transitions of a point along its trace.
+ghost use Rattle.std.specs.Prelude.{◌≡◌, ◌≢◌, ◌↔◌, ◌⊎◌, ◌∷◌, ◌++◌, [], ℕ, ◌<◌, List, length, All, AllPairs, Contains, IfOk, OnOk, IsTrue, if◌then◌else◌};
+ghost use Rattle.trans_seq.specs.Windows.{EndsKept, EndsWindow};
+ghost use Rattle.trans_auto.specs.State.{Stands, SaysKept, SaysWindow, TakesSample};
+ghost use Rattle.trans_auto.specs.Removing.{IsStep};
+ghost use Rattle.design_data.specs.Laws.{Value};
+ghost use Rattle.point_sampler.specs.Plans.{removed_by};
+ghost use Rattle.point_sampler.specs.Points.{Fits, RunsStand, OthersStand, Remembers};
+ghost use Rattle.point_sampler.specs.Met.{AreSteps, Answered, Ascend, IsPlaceOf, StandApart, IsTransPlace, AreTransMet};
+
+use crate::plan::{Machine, PointPlan, Removers};
+use crate::rules::note;
+use crate::state::{PointState, Steps};
+use cov_base::{Int, Memory};
+use design_data::BinKind;
+use trans_auto::{Answer, Step, TransState, Watcher};
+
+/// What the sample does to the sequences that take windows away.
+fn begin(removers: &Removers, steps: &mut Steps, value: &Option<Int>)
+    ensures { AreSteps removers.now value.now steps.new }
+{
+    removers.covering.begin(&mut steps.covering, *value);
+    removers.ignoring.begin(&mut steps.ignoring, *value);
+    removers.none.begin(&mut steps.none, *value);
+}
+
+/// Takes the automaton of a bin of a kind over the next value of the trace.
+fn push_one(
+    watcher: &Watcher,
+    kind: BinKind,
+    removers: &Removers,
+    steps: &mut Steps,
+    runs: &mut TransState,
+    value: &Option<Int>,
+) -> Result<Answer, Memory>
+    requires { AreSteps removers.now value.now steps.old }
+    ensures steps { AreSteps removers.now value.now steps.new }
+    ensures counts { IfOk result (λ answer.
+        SaysKept watcher.now (removed_by removers.now kind) runs.old value.now answer.counts) }
+    ensures ends { IfOk result (λ answer.
+        SaysWindow watcher.now (removed_by removers.now kind) runs.old value.now answer.ends) }
+    ensures stands { OnOk result
+        (TakesSample watcher.now (removed_by removers.now kind) runs.old value.now runs.new) }
+{
+    match kind {
+        BinKind::CvgBin => {
+            watcher.push(&removers.covering, &mut steps.covering, runs, *value)
+        }
+        BinKind::IgnoreBin => {
+            watcher.push(&removers.ignoring, &mut steps.ignoring, runs, *value)
+        }
+        BinKind::IllegalBin => {
+            watcher.push(&removers.none, &mut steps.none, runs, *value)
+        }
+        BinKind::DefaultBin => {
+            watcher.push(&removers.none, &mut steps.none, runs, *value)
+        }
+    }
+}
+
+/// Takes the automata of a point over the next value of the trace: puts the places of the bins that are met into `met`,
+/// and says whether a window of any ends there.
+fn push_machines(
+    machines: &[Machine],
+    removers: &Removers,
+    steps: &mut Steps,
+    runs: &mut [TransState],
+    value: &Option<Int>,
+    met: &mut Vec<u32>,
+) -> Result<bool, Memory>
+    requires fits { length runs.old ≡ length machines.now }
+    requires ascend { Ascend machines.now }
+    requires steps { AreSteps removers.now value.now steps.old }
+    requires none { met.old.items ≡ [] }
+    ensures steps { OnOk result (AreSteps removers.now value.now steps.new) }
+    ensures runs { OnOk result ((w : List Value) → RunsStand machines.now removers.now runs.old w
+        → RunsStand machines.now removers.now runs.new (w ++ value.now ∷ [])) }
+    ensures says { IfOk result (λ ended. (w : List Value) → RunsStand machines.now removers.now runs.old w
+        → Answered machines.now removers.now (w ++ value.now ∷ []) met.new.items ended) }
+    ensures among { OnOk result ((place : ℕ) → Contains met.new.items place → IsPlaceOf machines.now place) }
+    ensures once { OnOk result (AllPairs (λ a b. a ≢ b) met.new.items) }
+{
+    let mut ended = false;
+    for k in 0..machines.len() {
+        let machine = &machines[k];
+        let answer = push_one(
+            &machine.watcher,
+            machine.kind,
+            removers,
+            steps,
+            &mut runs[k],
+            value,
+        )?;
+        note(machine.place, answer.counts, met)?;
+        ended = either(ended, answer.ends);
+    }
+    Ok(ended)
+}
+
+/// Whether one of the two ended.
+fn either(ended: bool, ends: bool) -> bool
+    ensures { IsTrue result ↔ (IsTrue ended ⊎ IsTrue ends) }
+{
+    ended || ends
+}
+
+/// Whether a value came before and no window ends.
+fn is_alone(begun: bool, ended: bool, other_ended: bool) -> bool
+    ensures { IsTrue result ↔ (IsTrue begun × (IsTrue ended → ⊥) × (IsTrue other_ended → ⊥)) }
+{
+    begun && !either(ended, other_ended)
+}
+
+/// Takes the automaton of the ignored and illegal sequences over the next value of the trace, where there is a default
+/// sequence, and says whether that is met there.
+fn push_others(
+    plan: &PointPlan,
+    step: &mut Step,
+    others: &mut TransState,
+    begun: bool,
+    ended: bool,
+    value: &Option<Int>,
+) -> Result<bool, Memory>
+    requires { IsStep plan.now.removers.none value.now step.old }
+    ensures stands { OnOk result ((w : List Value) → OthersStand plan.now others.old w
+        → OthersStand plan.now others.new (w ++ value.now ∷ [])) }
+    ensures says { IfOk result (λ met. (w : List Value) → 0 < length plan.now.sequences.items → OthersStand plan.now others.old w
+        → IsTrue met ↔ (IsTrue begun × (IsTrue ended → ⊥) × (EndsWindow plan.now.others (w ++ value.now ∷ []) → ⊥))) }
+{
+    if plan.sequences.is_empty() {
+        return Ok(false);
+    }
+    let answer = plan
+        .others
+        .push(&plan.removers.none, step, others, *value)?;
+    Ok(is_alone(begun, ended, answer.ends))
+}
+
+/// Appends the places of the default sequences, if they are met.
+fn add_sequences(sequences: &[u32], is_met: bool, met: &mut Vec<u32>) -> Result<(), Memory>
+    ensures { OnOk result (met.new.items ≡ (if is_met then met.old.items ++ sequences.now else met.old.items)) }
+{
+    if is_met {
+        met.extend_from_slice(sequences)?;
+    }
+    Ok(())
+}
+
+/// Takes the automata of a point that has some over the next value of the trace.
+fn push_some(
+    plan: &PointPlan,
+    steps: &mut Steps,
+    runs: &mut [TransState],
+    others: &mut TransState,
+    begun: bool,
+    value: &Option<Int>,
+    met: &mut Vec<u32>,
+) -> Result<(), Memory>
+    requires fits { length runs.old ≡ length plan.now.machines.items }
+    requires apart { StandApart plan.now }
+    requires none { met.old.items ≡ [] }
+    ensures runs { OnOk result ((w : List Value) → RunsStand plan.now.machines.items plan.now.removers runs.old w
+        → RunsStand plan.now.machines.items plan.now.removers runs.new (w ++ value.now ∷ [])) }
+    ensures others { OnOk result ((w : List Value) → OthersStand plan.now others.old w
+        → OthersStand plan.now others.new (w ++ value.now ∷ [])) }
+    ensures met { OnOk result ((w : List Value) → IsTrue begun ↔ (0 < length w)
+        → RunsStand plan.now.machines.items plan.now.removers runs.old w → OthersStand plan.now others.old w
+        → AreTransMet plan.now w value.now met.new.items) }
+    ensures among { OnOk result ((place : ℕ) → Contains met.new.items place → IsTransPlace plan.now place) }
+    ensures once { OnOk result (AllPairs (λ a b. a ≢ b) met.new.items) }
+{
+    begin(&plan.removers, steps, value);
+    let ended = push_machines(
+        plan.machines.as_slice(),
+        &plan.removers,
+        steps,
+        runs,
+        value,
+        met,
+    )?;
+    let alone = push_others(plan, &mut steps.none, others, begun, ended, value)?;
+    add_sequences(plan.sequences.as_slice(), alone, met)?;
+    Ok(())
+}
+
+/// Takes the automata of a point over the next value of the trace, and puts the places of the transition bins and
+/// default sequences that are met into `met`.
+pub(crate) fn push_value(
+    plan: &PointPlan,
+    state: &mut PointState,
+    value: &Option<Int>,
+) -> Result<(), Memory>
+    requires fits { Fits plan.now state.old }
+    requires apart { StandApart plan.now }
+    ensures fits { OnOk result (Fits plan.now state.new) }
+    ensures remembers { OnOk result ((w : List Value) → Remembers plan.now state.old w
+        → Remembers plan.now state.new (w ++ value.now ∷ [])) }
+    ensures met { OnOk result ((w : List Value) → Remembers plan.now state.old w
+        → AreTransMet plan.now w value.now state.new.met.items) }
+    ensures among { OnOk result ((place : ℕ) → Contains state.new.met.items place → IsTransPlace plan.now place) }
+    ensures once { OnOk result (AllPairs (λ a b. a ≢ b) state.new.met.items) }
+{
+    state.met.clear();
+    push_some(
+        plan,
+        &mut state.steps,
+        state.runs.as_mut_slice(),
+        &mut state.others,
+        state.begun,
+        value,
+        &mut state.met,
+    )?;
+    state.begun = true;
+    Ok(())
+}

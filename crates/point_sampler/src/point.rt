@@ -1,32 +1,61 @@
 //! One sample of a point.
-ghost use Rattle.std.specs.Prelude.{◌≡◌, ℕ, ◌+◌, ◌≤◌, List, [], length, slice_index, IfOk, OnOk};
-ghost use Rattle.const_eval.specs.Terms.{Term};
-ghost use Rattle.design_data.specs.declared.infos.ItemInfo.{ItemInfo as Item};
+ghost use Rattle.std.specs.Prelude.{◌≡◌, ◌∷◌, ◌++◌, [], ℕ, ◌+◌, ◌≤◌, List, length, slice_index, OnOk};
+ghost use Rattle.design_data.specs.Laws.{Value};
 ghost use Rattle.record_codec.specs.Samples.{Env};
 ghost use Rattle.point_sampler.specs.Plans.{IsPoint, IsPlanOf};
-ghost use Rattle.point_sampler.specs.Points.{IsSample, Fits, StateStands, PointStands, RowStands, IsOutside};
+ghost use Rattle.point_sampler.specs.Points.{IsSample, Fits, Remembers, PointStands, RowStands, IsOutside};
+ghost use Rattle.point_sampler.specs.Met.{ValueTaken};
 
+use crate::counting::count_met;
+use crate::machines::push_value;
 use crate::plan::PointPlan;
+use crate::rules::{add_values, holds};
 use crate::state::PointState;
-use const_eval::Bound;
+use const_eval::{Bound, eval};
 use cov_base::{Int, Memory};
 use design_data::ItemInfo;
-use std::alloc::Global;
+
+/// Takes the point over the next value of its trace.
+fn sample_value(
+    plan: &PointPlan,
+    item: &ItemInfo,
+    state: &mut PointState,
+    env: &[Option<Int>],
+    value: &Option<Int>,
+    counts: &mut [u64],
+    row: &mut Vec<u32>,
+) -> Result<(), Memory>
+    requires point { IsPoint item.now }
+    requires plan { IsPlanOf item.now plan.now }
+    requires fits { Fits plan.now state.old }
+    requires counts { item.now.first_bin + length item.now.bins ≤ length counts.old }
+    requires none { row.old.items ≡ [] }
+    ensures fits { OnOk result (Fits plan.now state.new) }
+    ensures remembers { OnOk result ((w : List Value) → Remembers plan.now state.old w
+        → Remembers plan.now state.new (w ++ value.now ∷ [])) }
+    ensures taken { OnOk result ((w : List Value) → Remembers plan.now state.old w
+        → ValueTaken item.now env.now w value.now counts.old counts.new row.new.items) }
+    ensures others { OnOk result ((number : ℕ) → IsOutside item.now number
+        → slice_index counts.new number ≡ slice_index counts.old number) }
+{
+    push_value(plan, state, value)?;
+    add_values(item, value, &mut state.met)?;
+    count_met(
+        plan.entries.as_slice(),
+        item,
+        env,
+        state.met.as_slice(),
+        counts,
+        row,
+    )?;
+    Ok(())
+}
 
 impl PointPlan {
-    /// What is prepared of a point.
-    pub fn new(alloc: Global, item: &ItemInfo) -> Result<PointPlan, Memory>
-        requires { IsPoint item.now }
-        ensures { IfOk result (λ plan. IsPlanOf item.now plan) }
-    {
-        Err(Memory)
-    }
-
     /// Takes the point with the value `expr` over a sample of its instance, whose values are `env`: raises the counts of
     /// the bins that are hit, and puts into `row` the numbers of those among its coverage bins. `counts` are those of the
-    /// whole design. Each guard is asked at most once for a run of bins that share it. A sample takes memory only where
-    /// more bins are met, or more windows are open, than at each sample before. After want of memory the state and the
-    /// counts are of no use.
+    /// whole design. A sample takes memory only where more bins are met, or more windows are open, than at each sample
+    /// before. After want of memory the state and the counts are of no use.
     pub fn sample(
         &self,
         item: &ItemInfo,
@@ -40,27 +69,22 @@ impl PointPlan {
         requires plan { IsPlanOf item.now self.now }
         requires fits { Fits self.now state.old }
         requires counts { item.now.first_bin + length item.now.bins ≤ length counts.old }
-        ensures fits { Fits self.now state.new }
+        ensures fits { OnOk result (Fits self.now state.new) }
         ensures stands { OnOk result ((all : List Env) (m : ℕ) → IsSample all m env.now
             → PointStands item.now expr.now self.now all m state.old counts.old
             → PointStands item.now expr.now self.now all (m + 1) state.new counts.new) }
         ensures row { OnOk result ((all : List Env) (m : ℕ) → IsSample all m env.now
             → PointStands item.now expr.now self.now all m state.old counts.old
             → RowStands item.now expr.now all m row.new.items) }
-        ensures others { (number : ℕ) → IsOutside item.now number
-            → slice_index counts.new number ≡ slice_index counts.old number }
+        ensures others { OnOk result ((number : ℕ) → IsOutside item.now number
+            → slice_index counts.new number ≡ slice_index counts.old number) }
     {
-        Err(Memory)
-    }
-}
-
-impl PointState {
-    /// What a point remembers before the first sample of a record.
-    pub fn start(alloc: Global, plan: &PointPlan) -> Result<PointState, Memory>
-        ensures fits { IfOk result (λ state. Fits plan.now state) }
-        ensures stands { IfOk result (λ state. (item : Item) (expr : Term) (all : List Env)
-            → IsPlanOf item plan.now → StateStands item expr plan.now all 0 state) }
-    {
-        Err(Memory)
+        row.clear();
+        if !holds(&item.guard, env) {
+            return Ok(());
+        }
+        let value = eval(expr, env, None);
+        sample_value(self, item, state, env, &value, counts, row)?;
+        Ok(())
     }
 }

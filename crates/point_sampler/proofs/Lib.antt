@@ -1,0 +1,6 @@
+pub mod Places
+pub mod Automata
+pub mod Answering
+pub mod Taking
+pub mod Meeting
+pub mod Standing

@@ -1,0 +1,9 @@
+use Rattle.std.proofs.Common.{◌≡◌, List, length, take}
+use Rattle.point_sampler.specs.Met.{AllTaken}
+use Rattle.point_sampler.proofs.counting.count_met.Given as goal
+
+abbrev pub invariant-loop-place : goal.invariant-loop-place
+invariant-loop-place l = record {
+  same : length l.counts ≡ length l.initial.counts;
+  taken : AllTaken l.item l.env (take l.place-index l.met) l.initial.counts l.counts l.row.items;
+}

@@ -1,0 +1,10 @@
+use Rattle.std.proofs.Common.{◌≡◌, ◌≤◌, length, take}
+use Rattle.point_sampler.specs.Plans.{covering, AreEntriesOf}
+use Rattle.point_sampler.proofs.planning.entries_of.Given as goal
+
+abbrev pub invariant-loop-place : goal.invariant-loop-place
+invariant-loop-place l = record {
+  number : l.number ≡ length (covering (take l.place l.bins));
+  few : l.number ≤ l.place;
+  entries : AreEntriesOf l.bins l.place l.entries.items;
+}

@@ -1,0 +1,234 @@
+//! How a point is prepared.
+ghost use Rattle.std.specs.Prelude.{◌≡◌, ◌++◌, ◌≤◌, ◌<◌, ◌^◌, ℕ, ◌+◌, [], length, List, slice_get, Some, IfOk, OnOk, if◌then◌else◌};
+ghost use Rattle.const_eval.specs.Terms.{Term};
+ghost use Rattle.cov_ground.specs.Limits.{most_bins, most_cells};
+ghost use Rattle.trans_seq.specs.Cells.{cells_of_seqs};
+ghost use Rattle.design_data.specs.declared.infos.ItemInfo.{ItemInfo as Item};
+ghost use Rattle.design_data.specs.declared.infos.BinInfo.{BinInfo as Bin};
+ghost use Rattle.design_data.specs.Limits.{IsPointRule};
+ghost use Rattle.record_codec.specs.Samples.{Env};
+ghost use Rattle.point_sampler.specs.Plans.{IsPoint, IsPlanOf, IsGuardAt, AreEntries, AreRemovers, machine_of, machines_from, places_from, is_default_sequence as is_default_sequence_of};
+ghost use Rattle.point_sampler.specs.Points.{Fits, StateStands, RunsStand};
+
+use crate::plan::{Entry, Machine, PointPlan, Removers};
+use crate::rules::note;
+use crate::state::{PointState, Steps};
+use cov_base::Memory;
+use design_data::{BinInfo, BinRule, ItemInfo};
+use std::alloc::Global;
+use trans_auto::{Removing, Step, TransState, Watcher};
+use trans_seq::Seq;
+use trans_seq::laws::cells_of_joined_lists;
+
+/// The place, if the bin there has a guard.
+fn guard_place(bin: &BinInfo, place: u32) -> Option<u32>
+    ensures { (bins : List Bin) → slice_get bins place ≡ Some bin.now → IsGuardAt bins result bin.now.guard }
+{
+    match bin.guard {
+        None => None,
+        Some(_) => Some(place),
+    }
+}
+
+/// How many coverage bins there are with one more bin.
+fn counted(number: u32, covers: bool) -> u32
+    requires { number < most_bins }
+    ensures { result ≡ (if covers then number + 1 else number) }
+{
+    if covers { number + 1 } else { number }
+}
+
+/// What is asked of each bin.
+fn entries_of(alloc: Global, bins: &[BinInfo]) -> Result<Vec<Entry>, Memory>
+    requires { length bins.now ≤ most_bins }
+    ensures { IfOk result (λ entries. AreEntries bins.now entries.items) }
+{
+    let mut entries = Vec::new(alloc);
+    let mut number = 0;
+    for (place, bin) in bins.iter().enumerate() {
+        let covers = bin.kind.is_coverage();
+        let guard = guard_place(bin, place as u32);
+        entries.push(Entry {
+            covers,
+            number,
+            guard,
+        })?;
+        number = counted(number, covers);
+    }
+    Ok(entries)
+}
+
+/// Appends the automaton of a transition bin.
+fn add_machine(
+    alloc: Global,
+    item: &ItemInfo,
+    place: u32,
+    bin: &BinInfo,
+    machines: &mut Vec<Machine>,
+) -> Result<(), Memory>
+    requires { IsPointRule item.now bin.now.kind bin.now.rule }
+    ensures { OnOk result (machines.new.items ≡ machines.old.items ++ machine_of place bin.now.kind bin.now.rule) }
+{
+    if let BinRule::Trans(seqs) = &bin.rule {
+        let watcher = Watcher::new(alloc, seqs.as_slice()).map_err(|_| Memory)?;
+        machines.push(Machine {
+            place,
+            kind: bin.kind,
+            watcher,
+        })?;
+    }
+    Ok(())
+}
+
+/// The automata of the transition bins.
+fn machines_of(alloc: Global, item: &ItemInfo) -> Result<Vec<Machine>, Memory>
+    requires { IsPoint item.now }
+    ensures { IfOk result (λ machines. machines.items ≡ machines_from 0 item.now.bins) }
+{
+    let mut machines = Vec::new(alloc);
+    for (place, bin) in item.bins.as_slice().iter().enumerate() {
+        add_machine(alloc, item, place as u32, bin, &mut machines)?;
+    }
+    Ok(machines)
+}
+
+fn is_default_sequence(rule: &BinRule) -> bool
+    ensures { result ≡ is_default_sequence_of rule.now }
+{
+    match rule {
+        BinRule::DefaultSequence => true,
+        _ => false,
+    }
+}
+
+/// The places of the default sequences.
+fn sequences_of(alloc: Global, bins: &[BinInfo]) -> Result<Vec<u32>, Memory>
+    requires { length bins.now ≤ most_bins }
+    ensures { IfOk result (λ places. places.items ≡ places_from (λ bin. is_default_sequence_of bin.rule) 0 bins.now) }
+{
+    let mut places = Vec::new(alloc);
+    for (place, bin) in bins.iter().enumerate() {
+        note(place as u32, is_default_sequence(&bin.rule), &mut places)?;
+    }
+    Ok(places)
+}
+
+/// Appends copies of sequences.
+fn add_copies(alloc: Global, seqs: &[Seq], copies: &mut Vec<Seq>) -> Result<(), Memory>
+    ensures { OnOk result (copies.new.items ≡ copies.old.items ++ seqs.now) }
+{
+    for seq in seqs {
+        copies.push(seq.copy(alloc)?)?;
+    }
+    Ok(())
+}
+
+/// The ignored and the illegal sequences.
+fn removing_of(alloc: Global, item: &ItemInfo) -> Result<Vec<Seq>, Memory>
+    ensures { IfOk result (λ seqs. seqs.items ≡ item.now.ignored ++ item.now.illegal) }
+{
+    let mut seqs = Vec::new(alloc);
+    add_copies(alloc, item.ignored.as_slice(), &mut seqs)?;
+    add_copies(alloc, item.illegal.as_slice(), &mut seqs)?;
+    Ok(seqs)
+}
+
+/// An automaton of sequences that take windows away.
+fn removing(alloc: Global, seqs: &[Seq]) -> Result<Removing, Memory>
+    requires { cells_of_seqs seqs.now ≤ most_cells }
+    ensures { IfOk result (λ removing. removing ≡ seqs.now) }
+{
+    Removing::new(alloc, seqs).map_err(|_| Memory)
+}
+
+/// An automaton of sequences.
+fn watcher(alloc: Global, seqs: &[Seq]) -> Result<Watcher, Memory>
+    requires { cells_of_seqs seqs.now ≤ most_cells }
+    ensures { IfOk result (λ watcher. watcher ≡ seqs.now) }
+{
+    Watcher::new(alloc, seqs).map_err(|_| Memory)
+}
+
+fn removers_of(alloc: Global, item: &ItemInfo, removing_seqs: &[Seq]) -> Result<Removers, Memory>
+    requires point { IsPoint item.now }
+    requires seqs { removing_seqs.now ≡ item.now.ignored ++ item.now.illegal }
+    ensures { IfOk result (λ removers. AreRemovers item.now removers) }
+{
+    cells_of_joined_lists();
+    Ok(Removers {
+        covering: removing(alloc, removing_seqs)?,
+        ignoring: removing(alloc, item.illegal.as_slice())?,
+        none: removing(alloc, &[])?,
+    })
+}
+
+/// The automata of a point's transitions, the bins standing prepared.
+fn plan_with(
+    alloc: Global,
+    item: &ItemInfo,
+    removing_seqs: &[Seq],
+    entries: Vec<Entry>,
+) -> Result<PointPlan, Memory>
+    requires point { IsPoint item.now }
+    requires seqs { removing_seqs.now ≡ item.now.ignored ++ item.now.illegal }
+    requires entries { AreEntries item.now.bins entries.items }
+    ensures { IfOk result (λ plan. IsPlanOf item.now plan) }
+{
+    let machines = machines_of(alloc, item)?;
+    let sequences = sequences_of(alloc, item.bins.as_slice())?;
+    let removers = removers_of(alloc, item, removing_seqs)?;
+    let others = watcher(alloc, removing_seqs)?;
+    Ok(PointPlan {
+        entries,
+        machines,
+        removers,
+        others,
+        sequences,
+    })
+}
+
+impl PointPlan {
+    /// What is prepared of a point. It takes time and memory linear in its bins and their sequences.
+    pub fn new(alloc: Global, item: &ItemInfo) -> Result<PointPlan, Memory>
+        requires { IsPoint item.now }
+        ensures { IfOk result (λ plan. IsPlanOf item.now plan) }
+    {
+        let removing_seqs = removing_of(alloc, item)?;
+        let entries = entries_of(alloc, item.bins.as_slice())?;
+        plan_with(alloc, item, removing_seqs.as_slice(), entries)
+    }
+}
+
+/// A run for each automaton, before the first value.
+fn first_runs(alloc: Global, plan: &PointPlan) -> Result<Vec<TransState>, Memory>
+    ensures same { IfOk result (λ runs. length runs.items ≡ length plan.now.machines.items) }
+    ensures stand { IfOk result (λ runs. RunsStand plan.now.machines.items plan.now.removers runs.items []) }
+{
+    let mut runs = Vec::new(alloc);
+    for machine in plan.machines.as_slice() {
+        runs.push(machine.watcher.start())?;
+    }
+    Ok(runs)
+}
+
+impl PointState {
+    /// What a point remembers before the first sample of a record.
+    pub fn start(alloc: Global, plan: &PointPlan) -> Result<PointState, Memory>
+        ensures fits { IfOk result (λ state. Fits plan.now state) }
+        ensures stands { IfOk result (λ state. (item : Item) (expr : Term) (all : List Env)
+            → StateStands item expr plan.now all 0 state) }
+    {
+        let runs = first_runs(alloc, plan)?;
+        Ok(PointState {
+            begun: false,
+            runs,
+            others: plan.others.start(),
+            steps: Steps {
+                covering: Step::new(alloc),
+                ignoring: Step::new(alloc),
+                none: Step::new(alloc),
+            },
+            met: Vec::new(alloc),
+        })
+    }
+}
