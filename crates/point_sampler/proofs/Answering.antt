@@ -1,8 +1,8 @@
 -- What the automata of a point say of the next value.
-use Rattle.std.proofs.Common.{◌≡◌, ◌≢◌, ◌⊎◌, ◌↔◌, ℕ, zero, suc, ◌+◌, ◌<◌, ◌≤◌, List, [], ◌∷◌, ◌++◌, length, get_or, take, Bool, true, false, cond, refl, ap, sym, subst, ◌∙◌, inl, inr, arith, IsTrue}
+use Rattle.std.proofs.Common.{◌≡◌, ◌≢◌, ◌⊎◌, ◌↔◌, ℕ, ◌+◌, ◌<◌, ◌≤◌, List, [], ◌∷◌, ◌++◌, length, get_or, take, Bool, true, false, cond, refl, ap, sym, subst, ◌∙◌, inl, inr, arith, IsTrue}
 use Rattle.std.specs.Prelude.{Contains, AllPairs, slice_set}
 use Rattle.std.proofs.lemmas.Bool.{false≢true, cases_lt}
-use Rattle.std.proofs.lemmas.List.{get_or-set_same, get_or-set_other, get_or_default, get_or-take, length-take-le, length-set, get_or_append_left}
+use Rattle.std.proofs.lemmas.List.{get_or-set_same, get_or-set_other, get_or_default, get_or-take, length-take-le, get_or_append_left}
 use Rattle.std.proofs.Math.Seq.{get_or-append_seam}
 use Rattle.std.proofs.lemmas.List.Elements.{Contains-append_left, Contains-append_right, Contains-append_cases, Contains-push, Contains-push_cases, Contains-get_or}
 use Rattle.std.proofs.lemmas.List.Quantifiers.{all_pairs_push}
@@ -14,7 +14,7 @@ use Rattle.point_sampler.specs.declared.plan.Removers.{Removers}
 use Rattle.point_sampler.specs.declared.plan.PointPlan.{PointPlan}
 use Rattle.point_sampler.specs.Plans.{removed_by}
 use Rattle.point_sampler.specs.Points.{RunsStand}
-use Rattle.point_sampler.specs.Met.{IsPlaceOf, MetBy, EndedBy, Answered, SomeTaken, Ascend, StandApart, IsTransPlace, EndsNowhere, AreTransMet}
+use Rattle.point_sampler.specs.Met.{IsPlaceOf, MetBy, EndedBy, Answered, SomeTaken, Ascend, StandApart, IsTransPlace, AreTransMet}
 use Rattle.point_sampler.proofs.Places.{in_none, once_append}
 
 -- ---- what they say

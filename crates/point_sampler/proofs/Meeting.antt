@@ -1,11 +1,11 @@
 -- Which bins of a point are met at a value of its trace.
-use Rattle.std.proofs.Common.{◌≡◌, ◌≢◌, ◌⊎◌, ◌↔◌, ℕ, zero, suc, ◌+◌, ◌<◌, ◌≤◌, List, [], ◌∷◌, ◌++◌, length, get_or, drop, Bool, true, false, Option, Some, None, refl, ap, sym, subst, ◌∙◌, inl, inr, arith}
-use Rattle.std.specs.Prelude.{Contains, AllPairs, All, slice_get, not, slice_index_or}
+use Rattle.std.proofs.Common.{◌≡◌, ◌≢◌, ◌⊎◌, ℕ, ◌+◌, ◌<◌, List, [], ◌∷◌, ◌++◌, length, get_or, drop, Bool, true, false, Option, Some, None, refl, ap, sym, subst, ◌∙◌, inl, inr, arith}
+use Rattle.std.specs.Prelude.{Contains, AllPairs, All, slice_get, not}
 use Rattle.std.proofs.lemmas.Bool.{false≢true, true≢false}
 use Rattle.std.proofs.lemmas.List.Elements.{Contains-append_left, Contains-append_right, Contains-append_cases, Contains-get_or}
-use Rattle.std.proofs.lemmas.Option.{cond_some, slice_get_within, slice_get-get_or, get_or_from_slice_get}
+use Rattle.std.proofs.lemmas.Option.{slice_get_within, slice_get-get_or, get_or_from_slice_get}
 use Rattle.trans_seq.specs.declared.seq.Seq.{Seq}
-use Rattle.trans_seq.specs.Windows.{InSome, EndsKept, EndsWindow}
+use Rattle.trans_seq.specs.Windows.{InSome, EndsKept}
 use Rattle.design_data.specs.declared.infos.ItemInfo.{ItemInfo}
 use Rattle.design_data.specs.declared.infos.BinInfo.{BinInfo}
 use Rattle.design_data.specs.declared.infos.BinKind.{BinKind}
@@ -17,14 +17,13 @@ use Rattle.design_data.specs.Laws.{Value, is_listed}
 use Rattle.cov_counting.specs.Hits.{Meets, EndsNone, IsDefaultSequence}
 use Rattle.point_sampler.specs.declared.plan.PointPlan.{PointPlan}
 use Rattle.point_sampler.specs.declared.plan.Machine.{Machine}
-use Rattle.point_sampler.specs.Plans.{IsPlanOf, removed_by, machines_from, is_default_sequence, places_from}
-use Rattle.point_sampler.specs.Met.{IsPlaceOf, MetBy, EndedBy, StandApart, IsTransPlace, EndsNowhere, AreTransMet, has_value, SomeMeets, AreMet}
+use Rattle.point_sampler.specs.Plans.{IsPlanOf, removed_by, is_default_sequence, places_from}
+use Rattle.point_sampler.specs.Met.{MetBy, StandApart, IsTransPlace, EndsNowhere, AreTransMet, has_value, SomeMeets, AreMet}
 use Rattle.point_sampler.proofs.Places.{once_append, from_places, to_places, places_once}
 use Rattle.point_sampler.proofs.Automata.{from_machines, to_machines, ascends}
 use Rattle.point_sampler.proofs.Taking.{same_bin}
 
 -- ---- rules
-
 
 sequence_rule : (rule : BinRule) → is_default_sequence rule ≡ true → rule ≡ DefaultSequence
 sequence_rule (Values set) e = absurd (false≢true e)
@@ -195,7 +194,9 @@ module _ (item : ItemInfo) (plan : PointPlan) (is_plan : IsPlanOf item plan) whe
         | inl value ↦ Contains-append_right trans (places_from value_test 0 item.bins) place (in_places value_test place bin is value)
         | inr (inl t) ↦ Contains-append_left trans (places_from value_test 0 item.bins) place ((is_trans place).1 (inl (to_trans place bin t.0 is t.1 t.2)))
         | inr (inr d) ↦ Contains-append_left trans (places_from value_test 0 item.bins) place ((is_trans place).1 (inr (
-            subst (λ (ps : List ℕ). Contains ps place) (sym is_plan.sequences) (in_places sequence_test place bin is (ap is_default_sequence d.0)), from_sequence d.1)))
+          subst (λ (ps : List ℕ). Contains ps place) (sym is_plan.sequences) (in_places sequence_test place bin is (ap is_default_sequence d.0)),
+          from_sequence d.1,
+        )))
       ])
 
       to_met : (place : ℕ) (o : Option BinInfo) → slice_get item.bins place ≡ o → SomeMeets item o w v → Contains met place

@@ -1,8 +1,7 @@
 -- One more sample of a point.
-use Rattle.std.proofs.Common.{◌≡◌, ◌≢◌, ◌⊎◌, ◌↔◌, ℕ, zero, suc, ◌+◌, ◌-◌, ◌^◌, ◌<◌, ◌≤◌, List, [], ◌∷◌, ◌++◌, length, take, Bool, true, false, Option, Some, None, refl, ap, sym, subst, ◌∙◌, inl, inr, arith, add-one}
-use Rattle.std.specs.Prelude.{Contains, AllPairs, slice_get, slice_index, slice_index_or}
-use Rattle.std.proofs.lemmas.Bool.{false≢true, true≢false, cases_lt}
-use Rattle.std.proofs.lemmas.Option.{cond_some, slice_get_within}
+use Rattle.std.proofs.Common.{◌≡◌, ◌⊎◌, ℕ, suc, ◌+◌, ◌≤◌, List, [], ◌∷◌, ◌++◌, length, take, Bool, true, false, Option, Some, None, refl, ap, sym, subst, ◌∙◌, inl, inr, arith, add-one}
+use Rattle.std.specs.Prelude.{Contains, slice_get, slice_index, slice_index_or}
+use Rattle.std.proofs.lemmas.Bool.{true≢false, cases_lt}
 use Rattle.cov_spec.specs.Number.{Number}
 use Rattle.cov_spec.specs.Number.Number.{none, yes, no}
 use Rattle.const_eval.specs.Terms.{Term}
@@ -17,9 +16,8 @@ use Rattle.cov_counting.specs.Crosses.{SomeHitAt}
 use Rattle.cov_counting.proofs.Hits.{trace_more, trace_same}
 use Rattle.point_sampler.specs.declared.plan.PointPlan.{PointPlan}
 use Rattle.point_sampler.specs.declared.state.PointState.{PointState}
-use Rattle.point_sampler.specs.Plans.{covering}
 use Rattle.point_sampler.specs.Points.{IsSample, Remembers, CountsStand, PointStands, RowStands}
-use Rattle.point_sampler.specs.Met.{raised, IsOn, IsNoted, AllTaken, SomeMeets, AreMet, ValueTaken}
+use Rattle.point_sampler.specs.Met.{raised, IsOn, SomeMeets, ValueTaken}
 use Rattle.point_sampler.proofs.Places.{in_none, in_cons, in_first, in_later}
 use Rattle.point_sampler.proofs.Taking.{same_bin, at_number, from_number}
 
@@ -81,7 +79,7 @@ module _ (item : ItemInfo) (expr : Term) (plan : PointPlan) (all : List Env) (m 
     pub remembered : (old new : PointState) → Remembers plan old before → ((w : List Value) → Remembers plan old w → Remembers plan new (w ++ v ∷ [])) → Remembers plan new (trace expr item.guard (take (m + 1) all))
     remembered old new h step =
         let e : before ++ v ∷ [] ≡ trace expr item.guard (take (m + 1) all) =
-            ap (λ (x : Value). before ++ x ∷ []) (is_value ∙ ap (λ (s : Env). value expr s None) (sym sample.is)) ∙ sym (trace_more expr item.guard all m sample.within (ap (holds item.guard) sample.is ∙ guarded)) in
+        ap (λ (x : Value). before ++ x ∷ []) (is_value ∙ ap (λ (s : Env). value expr s None) (sym sample.is)) ∙ sym (trace_more expr item.guard all m sample.within (ap (holds item.guard) sample.is ∙ guarded)) in
         subst (λ (w : List Value). Remembers plan new w) e (step before h)
 
     module _ (old new row : List ℕ) (t : ValueTaken item env before v old new row) where

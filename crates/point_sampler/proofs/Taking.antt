@@ -1,5 +1,5 @@
 -- The places of bins that are met, counted one by one.
-use Rattle.std.proofs.Common.{◌≡◌, ◌≢◌, ◌⊎◌, ◌↔◌, ℕ, zero, suc, ◌+◌, ◌<◌, ◌≤◌, List, [], ◌∷◌, ◌++◌, length, get_or, take, Bool, true, false, cond, Option, Some, None, refl, ap, sym, subst, ◌∙◌, inl, inr, arith, length-append}
+use Rattle.std.proofs.Common.{◌≡◌, ◌≢◌, ◌⊎◌, ℕ, zero, suc, ◌+◌, ◌<◌, ◌≤◌, List, [], ◌∷◌, ◌++◌, length, get_or, take, Bool, true, false, cond, Some, refl, ap, sym, subst, ◌∙◌, inl, inr, arith, length-append}
 use Rattle.std.specs.Prelude.{filter, Contains, AllPairs, slice_get, slice_index, slice_set}
 use Rattle.std.proofs.lemmas.Bool.{false≢true, true≢false, cases_lt}
 use Rattle.std.proofs.lemmas.List.{get_or-set_same, get_or-set_other}
@@ -7,7 +7,6 @@ use Rattle.std.proofs.lemmas.List.Elements.{Contains-append_left, Contains-push,
 use Rattle.std.proofs.lemmas.List.Filters.{length-filter_more}
 use Rattle.std.proofs.lemmas.List.Quantifiers.{all_pairs_push}
 use Rattle.std.proofs.lemmas.Option.{cond_some, slice_get_within, slice_get-get_or, get_or_from_slice_get}
-use Rattle.const_eval.specs.Terms.{Term}
 use Rattle.design_data.specs.declared.infos.ItemInfo.{ItemInfo}
 use Rattle.design_data.specs.declared.infos.BinInfo.{BinInfo}
 use Rattle.design_data.specs.Bins.{is_coverage}
@@ -16,7 +15,6 @@ use Rattle.cov_counting.specs.Hits.{holds}
 use Rattle.point_sampler.specs.declared.plan.Entry.{Entry}
 use Rattle.point_sampler.specs.Plans.{covering, IsEntry, AreEntries, AreEntriesOf}
 use Rattle.point_sampler.specs.Met.{raised, IsOn, PlaceTaken, IsNoted, AllTaken}
-use Rattle.point_sampler.proofs.Places.{in_none}
 
 pub same_bin : (bins : List BinInfo) (place : ℕ) (a b : BinInfo) → slice_get bins place ≡ Some a → slice_get bins place ≡ Some b → a ≡ b
 same_bin bins place a b e f = (cond_some true a b (sym e ∙ f)).1
@@ -126,8 +124,12 @@ module _ {X : Type 0} (test : X → Bool) where
     where
       number_true : test y ≡ true → less ≡ length (filter test (take n.place xs)) → number ≡ less + 1 → number ≡ length (cond (test y) (y ∷ filter test (take n.place xs)) (filter test (take n.place xs)))
       number_true e l m = m ∙ (let o : less + 1 ≡ length (y ∷ filter test (take n.place xs)) = omega (arith, l) in o) ∙ ap (λ (b : Bool). length (cond b (y ∷ filter test (take n.place xs)) (filter test (take n.place xs)))) (sym e)
-  later_by false y xs number x e less is n = record { place = suc n.place; is_element = n.is_element; passes = n.passes;
-    is_number = is ∙ n.is_number ∙ ap (λ (b : Bool). length (cond b (y ∷ filter test (take n.place xs)) (filter test (take n.place xs)))) (sym e) }
+  later_by false y xs number x e less is n = record {
+    place = suc n.place;
+    is_element = n.is_element;
+    passes = n.passes;
+    is_number = is ∙ n.is_number ∙ ap (λ (b : Bool). length (cond b (y ∷ filter test (take n.place xs)) (filter test (take n.place xs)))) (sym e);
+  }
 
   from_by : (b : Bool) (y : X) (xs : List X) (number : ℕ) (x : X) → test y ≡ b → ((n : ℕ) → slice_get (filter test xs) n ≡ Some x → IsNumbered xs n x)
       → slice_get (cond b (y ∷ filter test xs) (filter test xs)) number ≡ Some x → IsNumbered (y ∷ xs) number x
@@ -151,8 +153,11 @@ pub on_taken : (item : ItemInfo) (env : Env) (place : ℕ) (old new old_row row 
     → new ≡ slice_set old (item.first_bin + place) (raised (slice_index old (item.first_bin + place))) → row ≡ cond entry.covers (old_row ++ entry.number ∷ []) old_row
     → PlaceTaken item env place old old_row new row
 on_taken item env place old new old_row row bin entry is g e is_new is_row = record {
-  on = λ b on. (is_new, is_row ∙ ap (λ (n : ℕ). cond entry.covers (old_row ++ n ∷ []) old_row) e.number
-      ∙ ap (λ (c : Bool). cond c (old_row ++ length (covering (take place item.bins)) ∷ []) old_row) (e.covers ∙ ap (λ (x : BinInfo). is_coverage x.kind) (same_bin item.bins place bin b is on.is_bin)));
+  on = λ b on. (
+    is_new,
+    is_row ∙ ap (λ (n : ℕ). cond entry.covers (old_row ++ n ∷ []) old_row) e.number
+        ∙ ap (λ (c : Bool). cond c (old_row ++ length (covering (take place item.bins)) ∷ []) old_row) (e.covers ∙ ap (λ (x : BinInfo). is_coverage x.kind) (same_bin item.bins place bin b is on.is_bin)),
+  );
   off = λ b at off. absurd (true≢false (sym g ∙ ap (λ (x : BinInfo). holds x.guard env) (same_bin item.bins place bin b is at) ∙ off));
 }
 

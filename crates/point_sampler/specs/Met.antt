@@ -119,7 +119,7 @@ pub record IsOn (bins : List BinInfo) (env : Env) (place : ℕ) (bin : BinInfo) 
 pub record PlaceTaken (item : ItemInfo) (env : Env) (place : ℕ) (old : List ℕ) (old_row : List ℕ) (new : List ℕ) (row : List ℕ) : Type 0 where
   pub on : (bin : BinInfo) → IsOn item.bins env place bin
       → (new ≡ slice_set old (item.first_bin + place) (raised (slice_index old (item.first_bin + place))))
-        × (row ≡ (if is_coverage bin.kind then old_row ++ length (covering (take place item.bins)) ∷ [] else old_row))
+      × (row ≡ (if is_coverage bin.kind then old_row ++ length (covering (take place item.bins)) ∷ [] else old_row))
   pub off : (bin : BinInfo) → slice_get item.bins place ≡ Some bin → holds bin.guard env ≡ false → (new ≡ old) × (row ≡ old_row)
 
 -- a place among these has a bin whose guard holds and whose number is this

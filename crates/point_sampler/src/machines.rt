@@ -43,18 +43,12 @@ fn push_one(
         (TakesSample watcher.now (removed_by removers.now kind) runs.old value.now runs.new) }
 {
     match kind {
-        BinKind::CvgBin => {
-            watcher.push(&removers.covering, &mut steps.covering, runs, *value)
-        }
+        BinKind::CvgBin => { watcher.push(&removers.covering, &mut steps.covering, runs, *value) }
         BinKind::IgnoreBin => {
             watcher.push(&removers.ignoring, &mut steps.ignoring, runs, *value)
         }
-        BinKind::IllegalBin => {
-            watcher.push(&removers.none, &mut steps.none, runs, *value)
-        }
-        BinKind::DefaultBin => {
-            watcher.push(&removers.none, &mut steps.none, runs, *value)
-        }
+        BinKind::IllegalBin => { watcher.push(&removers.none, &mut steps.none, runs, *value) }
+        BinKind::DefaultBin => { watcher.push(&removers.none, &mut steps.none, runs, *value) }
     }
 }
 
@@ -130,9 +124,7 @@ fn push_others(
     if plan.sequences.is_empty() {
         return Ok(false);
     }
-    let answer = plan
-        .others
-        .push(&plan.removers.none, step, others, *value)?;
+    let answer = plan.others.push(&plan.removers.none, step, others, *value)?;
     Ok(is_alone(begun, ended, answer.ends))
 }
 

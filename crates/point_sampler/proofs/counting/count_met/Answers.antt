@@ -1,4 +1,4 @@
-use Rattle.std.proofs.Common.{◌≡◌, ◌<◌, ◌≤◌, ◌+◌, ap, sym, subst, ◌∙◌, List, ℕ, get_or, take, length, ◌++◌, ◌∷◌, [], arith}
+use Rattle.std.proofs.Common.{◌≡◌, ◌<◌, ◌+◌, sym, subst, ◌∙◌, List, ℕ, get_or, take, length, ◌++◌, ◌∷◌, [], arith}
 use Rattle.std.specs.Prelude.{Contains}
 use Rattle.std.proofs.lemmas.List.{take_more, get_or-take, length-take-le, get_or_default}
 use Rattle.point_sampler.specs.Met.{AllTaken}
@@ -14,8 +14,8 @@ loop-place-preserved c =
     let place : ℕ = get_or met i 0 in
     let more : take (i + 1) met ≡ take i met ++ place ∷ [] = take_more met i 0 lt in
     let fresh : Contains (take i met) place → ⊥ = λ h.
-        let less : h.0 < i = omega (arith, h.1, length-take-le i met (omega (arith, lt))) in
-        c.requires.once h.0 i place less lt (sym (get_or-take i met h.0 place less) ∙ h.2 ∙ get_or_default met i 0 place lt) in
+    let less : h.0 < i = omega (arith, h.1, length-take-le i met (omega (arith, lt))) in
+    c.requires.once h.0 i place less lt (sym (get_or-take i met h.0 place less) ∙ h.2 ∙ get_or_default met i 0 place lt) in
     record {
       same = c.count_one.auto.counts ∙ inv.same;
       taken = subst (λ (ps : List ℕ). AllTaken c.args.item.now c.args.env.now ps c.args.counts.now c.count_one.new.counts c.count_one.new.row.items) (sym more)

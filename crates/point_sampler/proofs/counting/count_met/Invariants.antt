@@ -1,4 +1,4 @@
-use Rattle.std.proofs.Common.{◌≡◌, List, length, take}
+use Rattle.std.proofs.Common.{◌≡◌, length, take}
 use Rattle.point_sampler.specs.Met.{AllTaken}
 use Rattle.point_sampler.proofs.counting.count_met.Given as goal
 

@@ -1,6 +1,5 @@
-use Rattle.std.proofs.Common.{◌≡◌, ap, sym, subst, ◌∙◌, List, ℕ, get_or, set, ◌+◌, None, true, false, Bool}
+use Rattle.std.proofs.Common.{ap, sym, subst, ◌∙◌, List, ℕ, get_or, set, ◌+◌, None, false}
 use Rattle.design_data.specs.declared.infos.BinInfo.{BinInfo}
-use Rattle.cov_counting.specs.Hits.{holds}
 use Rattle.point_sampler.specs.declared.plan.Entry.{Entry}
 use Rattle.point_sampler.specs.Plans.{IsGuardAt}
 use Rattle.point_sampler.proofs.Taking.{entry_at, off_taken, on_taken}

@@ -1,4 +1,4 @@
-use Rattle.std.proofs.Common.{◌≡◌, ◌<◌, ◌+◌, ◌≤◌, ap, sym, subst, ◌∙◌, List, ◌++◌, ◌∷◌, [], length, get_or, take, ℕ, arith, refl}
+use Rattle.std.proofs.Common.{◌≡◌, ◌<◌, ◌+◌, ap, sym, subst, ◌∙◌, List, ◌++◌, ◌∷◌, [], length, get_or, take, ℕ, arith, refl}
 use Rattle.std.specs.Prelude.{Contains}
 use Rattle.std.proofs.lemmas.List.{take_more, take_all, length-set}
 use Rattle.design_data.specs.Laws.{Value}
@@ -33,7 +33,7 @@ loop-k-preserved c =
     let more : take (k + 1) machines ≡ take k machines ++ machine ∷ [] = take_more machines k machine lt ∙ ap (λ (m : Machine). take k machines ++ m ∷ []) (sym is) in
     let old = get_or c.loop-k.runs k c.index-runs-k.result in
     let here : (w : List Value) → SomeTaken machines removers w v k c.loop-k.runs → Stands machine.watcher (removed_by removers machine.kind) old w =
-        λ w some. subst (λ (m : Machine). Stands m.watcher (removed_by removers m.kind) old w) (sym is) (some.left k machine c.index-runs-k.result (omega arith) lt) in
+    λ w some. subst (λ (m : Machine). Stands m.watcher (removed_by removers m.kind) old w) (sym is) (some.left k machine c.index-runs-k.result (omega arith) lt) in
     record {
       same = length-set c.loop-k.runs k c.push_one.new.runs ∙ inv.same;
       steps = c.push_one.ensures.steps;

@@ -1,4 +1,4 @@
-use Rattle.std.proofs.Common.{◌≡◌, ◌≢◌, ◌<◌, ◌∷◌, ◌++◌, [], ℕ, List, length, take}
+use Rattle.std.proofs.Common.{◌≡◌, ◌≢◌, ◌∷◌, ◌++◌, [], ℕ, List, length, take}
 use Rattle.std.specs.Prelude.{Contains, AllPairs}
 use Rattle.design_data.specs.Laws.{Value}
 use Rattle.point_sampler.specs.Points.{RunsStand}

@@ -1,4 +1,4 @@
-use Rattle.std.proofs.Common.{◌≡◌, ap, sym, subst, ◌∙◌, List, ℕ, cond, ◌++◌, ◌∷◌, []}
+use Rattle.std.proofs.Common.{ap, sym, subst, ◌∙◌, List, ℕ, cond, ◌++◌, ◌∷◌, []}
 use Rattle.point_sampler.specs.declared.plan.Machine.{Machine}
 use Rattle.point_sampler.specs.Points.{RunsStand}
 use Rattle.point_sampler.specs.Met.{IsPlaceOf, Answered}
@@ -14,7 +14,7 @@ pub returns-clause-met : goal.returns-clause-met
 returns-clause-met c = λ w later runs others.
     trans_met c.args.plan.now w c.args.value.now c.push_machines.new.met.items c.add_sequences.new.met.items c.args.begun c.in_ok-ended.ended c.in_ok-alone.alone
     (subst (λ (ms : List Machine). Answered ms c.args.plan.now.removers (w ++ c.args.value.now ∷ []) c.push_machines.new.met.items c.in_ok-ended.ended) c.as_slice.ensures.value
-      (c.in_ok-ended.ensures.says w (subst (λ (ms : List Machine). RunsStand ms c.args.plan.now.removers c.args.runs.now w) (sym c.as_slice.ensures.value) runs)))
+    (c.in_ok-ended.ensures.says w (subst (λ (ms : List Machine). RunsStand ms c.args.plan.now.removers c.args.runs.now w) (sym c.as_slice.ensures.value) runs)))
     later (λ some. c.in_ok-alone.ensures.says w some others)
     (c.in_ok-add_sequences.ensures ∙ ap (λ (s : List ℕ). cond c.in_ok-alone.alone (c.push_machines.new.met.items ++ s) c.push_machines.new.met.items) c.as_slice-2.ensures.value)
 

@@ -1,4 +1,4 @@
-use Rattle.std.proofs.Common.{◌≡◌, ap, ◌<◌, ℕ, List, length, ◌++◌, ◌∷◌, [], refl, arith, length-append, subst, sym}
+use Rattle.std.proofs.Common.{◌≡◌, ap, ℕ, List, length, ◌++◌, ◌∷◌, [], refl, arith, length-append, subst, sym}
 use Rattle.std.proofs.lemmas.List.{with_items_is}
 use Rattle.point_sampler.specs.Points.{RunsStand}
 use Rattle.point_sampler.proofs.machines.push_value.Goals as goal

@@ -1,4 +1,4 @@
-use Rattle.std.proofs.Common.{◌≡◌, ◌<◌, refl, sym, subst, List, ◌++◌, ◌∷◌, [], ℕ, get_or, length, ◌+◌}
+use Rattle.std.proofs.Common.{◌≡◌, refl, sym, subst, List, length, ◌+◌}
 use Rattle.std.specs.Prelude.{slice_get, Some}
 use Rattle.std.proofs.lemmas.Option.{slice_get_read}
 use Rattle.point_sampler.specs.declared.plan.Entry.{Entry}

@@ -1,4 +1,4 @@
-use Rattle.std.proofs.Common.{◌≡◌, ◌<◌, ap, sym, subst, ◌∙◌, List, ◌++◌, ◌∷◌, [], ℕ, length, get_or, arith, length-append, ◌+◌}
+use Rattle.std.proofs.Common.{◌≡◌, ◌<◌, ap, sym, subst, ◌∙◌, List, ◌∷◌, [], ℕ, length, get_or, arith, length-append}
 use Rattle.trans_auto.specs.State.{Stands}
 use Rattle.point_sampler.specs.declared.plan.Machine.{Machine}
 use Rattle.point_sampler.specs.Plans.{removed_by}

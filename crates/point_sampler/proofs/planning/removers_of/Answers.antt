@@ -1,4 +1,4 @@
-use Rattle.std.proofs.Common.{◌≡◌, ◌≤◌, ap, List, arith}
+use Rattle.std.proofs.Common.{ap, List, arith}
 use Rattle.trans_seq.specs.declared.seq.Seq.{Seq}
 use Rattle.trans_seq.specs.Cells.{cells_of_seqs}
 use Rattle.point_sampler.proofs.planning.removers_of.Goals as goal

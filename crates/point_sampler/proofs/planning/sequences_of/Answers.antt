@@ -1,4 +1,4 @@
-use Rattle.std.proofs.Common.{◌≡◌, ap, sym, ◌∙◌, List, ◌++◌, ◌∷◌, [], Bool, cond, take, ℕ}
+use Rattle.std.proofs.Common.{ap, sym, ◌∙◌, ◌++◌, ◌∷◌, [], Bool, cond, take}
 use Rattle.design_data.specs.declared.infos.BinInfo.{BinInfo}
 use Rattle.point_sampler.specs.Plans.{places_from, is_default_sequence}
 use Rattle.point_sampler.proofs.Places.{places_more, noted_more}

@@ -1,4 +1,4 @@
-use Rattle.std.proofs.Common.{◌≡◌, ◌<◌, ◌≤◌, ◌+◌, ◌∷◌, [], ap, sym, subst, ◌∙◌, List, ℕ, length, arith, inl, inr}
+use Rattle.std.proofs.Common.{◌<◌, ◌∙◌, length, arith, inl, inr}
 use Rattle.std.proofs.lemmas.Option.{slice_get_within}
 use Rattle.point_sampler.proofs.Meeting.{apart_of, are_met, met_within, met_once}
 use Rattle.point_sampler.proofs.point.sample_value.Goals as goal
