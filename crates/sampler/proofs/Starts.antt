@@ -32,7 +32,6 @@ use Rattle.sampler.specs.Plans.{ItemsCounted}
 use Rattle.sampler.specs.Standing.{IsPlanOf, Stands, AreNumbered, AllStand, AllTaken, KeepsOutside, InstAt}
 use Rattle.sampler.proofs.Items.{numbered_ge, one_of}
 use Rattle.std.proofs.lemmas.Bool.{cases_lt}
-use Rattle.point_sampler.specs.Plans as points
 use Rattle.point_sampler.specs.Points.{StateStands}
 use Rattle.point_sampler.specs.declared.plan.PointPlan.{PointPlan}
 use Rattle.point_sampler.specs.declared.state.PointState.{PointState}
@@ -88,8 +87,8 @@ pub cross_counted : (items : List ItemInfo) (item : ItemInfo) (all : List Env) (
 cross_counted items item all axes counts zeros k bin e = cross_first items item all axes bin (get_or counts (item.first_bin + k) 0) (zeros k (slice_get_within item.bins k bin e))
 
 pub start_point : (items : List ItemInfo) (item : ItemInfo) (all : List Env) (counts : List ℕ) (shape : ItemShape) (p : PointPlan) (s : PointState) → IsPlanOf items item shape (plan.Point p)
-    → ((item : ItemInfo) (expr : Term) (all : List Env) → points.IsPlanOf item p → StateStands item expr p all 0 s) → IsZeroAt item counts → Stands items item all 0 shape (plan.Point p) (kept.Point s) counts
-start_point items item all counts (Point expr) p s h start zeros = record { remembers = start item expr all h.1; counted = point_counted items item all expr counts zeros }
+    → ((item : ItemInfo) (expr : Term) (all : List Env) → StateStands item expr p all 0 s) → IsZeroAt item counts → Stands items item all 0 shape (plan.Point p) (kept.Point s) counts
+start_point items item all counts (Point expr) p s h start zeros = record { remembers = start item expr all; counted = point_counted items item all expr counts zeros }
 start_point items item all counts (Cross axes) p s h start zeros = absurd h
 
 pub start_cross : (items : List ItemInfo) (item : ItemInfo) (all : List Env) (counts : List ℕ) (shape : ItemShape) (p : CrossPlan) (s : CrossState) → IsPlanOf items item shape (plan.Cross p) → s.samples ≡ 0 → All (λ stamp. stamp ≤ 0) s.stamps.items → IsZeroAt item counts

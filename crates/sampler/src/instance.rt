@@ -37,7 +37,7 @@ fn point_taken(
         → PointStands item.now expr.now all m plan.now state.old counts.old → PointStands item.now expr.now all (m + 1) plan.now state.new counts.new) }
     ensures row { OnOk result ((all : List Env) (m : ℕ) → IsSample all m env.now
         → PointStands item.now expr.now all m plan.now state.old counts.old → PointRowStands item.now expr.now all m row.new.items) }
-    ensures others { KeepsOthers item.now counts.old counts.new }
+    ensures others { OnOk result (KeepsOthers item.now counts.old counts.new) }
 {
     match plan {
         ItemPlan::Point(plan) => match state {
@@ -67,7 +67,7 @@ fn take_point(
         → Stands items.now item.now all (point_first item.now.shape m) item.now.shape plan.now state.new counts.new) }
     ensures row { OnOk result ((all : List Env) (m : ℕ) → IsSample all m env.now
         → Stands items.now item.now all m item.now.shape plan.now state.old counts.old → RowStands item.now all m item.now.shape row.new.items) }
-    ensures others { KeepsOthers item.now counts.old counts.new }
+    ensures others { OnOk result (KeepsOthers item.now counts.old counts.new) }
 {
     let _ = items;
     match &item.shape {
@@ -99,7 +99,7 @@ fn take_point_at(
     ensures row { OnOk result ((all : List Env) (m : ℕ) → IsSample all m env.now
         → Stands items.now item.now all m item.now.shape plan.now state.old counts.old → RowStands item.now all m item.now.shape (row_at rows.new.items index)) }
     ensures other_rows { OnOk result ((k : ℕ) → k ≢ index → row_at rows.new.items k ≡ row_at rows.old.items k) }
-    ensures others { KeepsOthers item.now counts.old counts.new }
+    ensures others { OnOk result (KeepsOthers item.now counts.old counts.new) }
 {
     take_point(items, item, plan, state, &mut rows[index], env, counts)?;
     Ok(())
