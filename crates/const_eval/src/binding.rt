@@ -140,12 +140,7 @@ fn bind_literal(lit: &Literal, at: u32) -> Result<Bound, BindFault>
 }
 
 /// What a name stands for.
-fn find(
-    scope: &Scope,
-    item: Option<Typ>,
-    name: &Name,
-    at: u32,
-) -> Result<Meaning, BindFault>
+fn find(scope: &Scope, item: Option<Typ>, name: &Name, at: u32) -> Result<Meaning, BindFault>
     ensures value { result ≡ found_of (names_with item scope.now) name.now at }
     ensures width { IfOk result (λ meaning. HasWidth (typ_in meaning)) }
 {

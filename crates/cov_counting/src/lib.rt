@@ -9,4 +9,4 @@ mod tally;
 mod values;
 
 pub use tally::tally_by_definition;
-pub use values::samples;
+pub use values::{arg_value, samples, signal_value};

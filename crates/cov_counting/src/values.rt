@@ -81,8 +81,8 @@ fn after(signal: usize, event: &Event, known: Option<u64>) -> Option<u64>
     }
 }
 
-/// The value of the signal at this index.
-fn signal_value(rows: &[SignalRow], index: usize, bits: Option<u64>) -> Option<Int>
+/// The value of the signal at this index that bits stand for.
+pub fn signal_value(rows: &[SignalRow], index: usize, bits: Option<u64>) -> Option<Int>
     ensures { result ≡ value_of_signal (slice_get rows.now index) bits }
 {
     match (rows.get(index), bits) {
@@ -92,7 +92,7 @@ fn signal_value(rows: &[SignalRow], index: usize, bits: Option<u64>) -> Option<I
 }
 
 /// The value of the argument at this index.
-fn arg_value(rows: &[ArgRow], args: &[Option<u64>], index: usize) -> Option<Int>
+pub fn arg_value(rows: &[ArgRow], args: &[Option<u64>], index: usize) -> Option<Int>
     ensures { result ≡ arg_at rows.now args.now index }
 {
     let Some(row) = rows.get(index) else {

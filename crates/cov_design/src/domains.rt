@@ -51,11 +51,7 @@ fn constants_of(alloc: Global, enumeration: &Enumeration) -> Result<Vec<Constant
     Ok(constants)
 }
 
-fn enumerated(
-    alloc: Global,
-    typ: Typ,
-    enumeration: Option<&Enumeration>,
-) -> Result<Domain, Memory>
+fn enumerated(alloc: Global, typ: Typ, enumeration: Option<&Enumeration>) -> Result<Domain, Memory>
     requires { HasWidth typ }
     ensures { IfOk result (λ domain. domain ≡ domain_of_enumeration typ (option_copied enumeration.entry)) }
 {

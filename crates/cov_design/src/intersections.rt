@@ -40,11 +40,7 @@ fn add_sel(alloc: Global, sel: &Sel, names: &mut NameMap<u32>) -> Result<(), Mem
     }
 }
 
-fn add_cross_bins(
-    alloc: Global,
-    bins: &[CrossBins],
-    names: &mut NameMap<u32>,
-) -> Result<(), Memory>
+fn add_cross_bins(alloc: Global, bins: &[CrossBins], names: &mut NameMap<u32>) -> Result<(), Memory>
     ensures { OnOk result (names.new ≡ with_cross_bins bins.now names.old) }
 {
     for decl in bins {
@@ -62,11 +58,7 @@ fn add_member(alloc: Global, member: &Member, names: &mut NameMap<u32>) -> Resul
     }
 }
 
-fn add_members(
-    alloc: Global,
-    members: &[Member],
-    names: &mut NameMap<u32>,
-) -> Result<(), Memory>
+fn add_members(alloc: Global, members: &[Member], names: &mut NameMap<u32>) -> Result<(), Memory>
     ensures { OnOk result (names.new ≡ with_members members.now names.old) }
 {
     for member in members {

@@ -1,14 +1,14 @@
 -- The sets of the rules of declarations and of a whole design text, and that each keeps its facts.
-use Rattle.std.proofs.Common.{ℕ, List, [], ◌∷◌, ◌++◌, true, false, refl}
+use Rattle.std.proofs.Common.{ℕ, List, [], ◌∷◌, ◌++◌, true, false, codes, refl}
 use Rattle.cov_grammar.specs.declared.kind.Kind.{Kind}
-use Rattle.cov_grammar.specs.declared.kind.Kind.TheVariants.{Ident, TypedefWord, EnumWord, SignedWord, UnsignedWord, CovergroupWord, EndgroupWord, IffWord, InputWord, RefWord, NewWord, PosedgeWord, NegedgeWord, EdgeWord, OrWord, OpenParen, CloseParen, CloseSquare, OpenBrace, CloseBrace, Comma, Semi, Colon, AtSign, Assign}
+use Rattle.cov_grammar.specs.declared.kind.Kind.TheVariants.{Ident, TypedefWord, EnumWord, SignedWord, UnsignedWord, CovergroupWord, EndgroupWord, IffWord, WithWord, OtherWord, InputWord, RefWord, NewWord, PosedgeWord, NegedgeWord, EdgeWord, OrWord, OpenParen, CloseParen, CloseSquare, OpenBrace, CloseBrace, Comma, Semi, Colon, AtSign, Assign}
 use Rattle.cov_grammar.specs.declared.kind.Marked.{Marked}
 use Rattle.cov_grammar.specs.declared.place.Room.{Room}
 use Rattle.cov_grammar.specs.declared.place.Standing.TheVariants.{Plain}
-use Rattle.cov_grammar.specs.Rule.{one, word, ahead, behind, both, either, map_to, maybe}
+use Rattle.cov_grammar.specs.Rule.{one, word, same_word, ahead, behind, both, either, map_to, maybe}
 use Rattle.cov_grammar.specs.Expressions.{pair, snoc, expr, list_in}
 use Rattle.cov_grammar.specs.Bins.{squares, ident}
-use Rattle.cov_grammar.specs.Designs.{vector_words, fixed_words, vector_of, fixed_of, named_type, variables, enum_of, list_or, written, with_formal, edge_of, group_of, sign, vector_span, vector, fixed, built_in, type_text, enum_name, enum_names, enum_decl, built_in_decl, arguments, instance_rest, variables_rest, named_decl, formal, formal_list, formals, edge, event, members, group_end, group, decl, design}
+use Rattle.cov_grammar.specs.Designs.{vector_words, fixed_words, vector_of, fixed_of, named_type, variables, enum_of, list_or, written, with_formal, edge_of, argument_of, by_event, by_function, sampling_or, group_of, sign, vector_span, vector, fixed, built_in, type_text, enum_name, enum_names, enum_decl, built_in_decl, arguments, instance_rest, variables_rest, named_decl, formal, formal_list, formals, edge, event, argument, argument_list, argument_parens, sampled, sampling, members, group_end, group, decl, design}
 use Rattle.cov_grammar.proofs.Sound.{Under, Sound}
 use Rattle.cov_grammar.proofs.Lawful.{Lawful, lawful_in, lawful_word, lawful_one, lawful_here, lawful_same_word, lawful_map, lawful_maybe, lawful_many, lawful_both, lawful_bind, lawful_either, lawful_fold}
 use Rattle.cov_grammar.proofs.ExprLaws.{expr_firsts, on_expr, expr_lawful}
@@ -219,6 +219,59 @@ module _ (text : List ℕ) (ts : List Marked) where
   abbrev pub event_lawful : Lawful ts (event text ts)
   event_lawful = record { first = AtSign ∷ []; cont = []; null = false; sound = event_sound }
 
+  -- an argument of a sample function behind its beginning
+  abbrev pub argument_type_lawful : Lawful ts (λ e. ahead (maybe (word ts InputWord)) (type_text text ts e))
+  argument_type_lawful = lawful_both _ (lawful_maybe (w InputWord) refl) type_text_lawful refl
+
+  abbrev pub argument_rest_lawful : (start : ℕ) → Lawful ts (λ e. both (argument_of start) (ahead (maybe (word ts InputWord)) (type_text text ts e)) (ident text ts))
+  argument_rest_lawful start = lawful_both (argument_of start) argument_type_lawful (ident_lawful text ts) refl
+
+  pub argument_sound : (d e : Room) → Under d e → Sound ts (argument text ts d) (argument text ts e) (InputWord ∷ type_firsts) [] false
+  unfolding argument
+  argument_sound d e h = (lawful_bind (lawful_here ts) (record { first = InputWord ∷ type_firsts; cont = []; null = false; sound = λ start. (argument_rest_lawful start).sound }) refl).sound d e h
+
+  abbrev pub argument_lawful : Lawful ts (argument text ts)
+  argument_lawful = record { first = InputWord ∷ type_firsts; cont = []; null = false; sound = argument_sound }
+
+  pub argument_list_sound : (d e : Room) → Under d e → Sound ts (argument_list text ts d) (argument_list text ts e) (InputWord ∷ type_firsts) (Comma ∷ []) false
+  unfolding argument_list
+  argument_list_sound = (lawful_fold snoc (lawful_map argument_lawful _) (lawful_both _ (w Comma) argument_lawful refl) refl refl refl).sound
+
+  abbrev pub argument_list_lawful : Lawful ts (argument_list text ts)
+  argument_list_lawful = record { first = InputWord ∷ type_firsts; cont = Comma ∷ []; null = false; sound = argument_list_sound }
+
+  pub argument_parens_sound : (d e : Room) → Under d e → Sound ts (argument_parens text ts d) (argument_parens text ts e) (OpenParen ∷ []) [] false
+  unfolding argument_parens
+  argument_parens_sound = (lawful_map (lawful_both _ (w OpenParen) (lawful_both _ (lawful_maybe argument_list_lawful refl) (w CloseParen) refl) refl) list_or).sound
+
+  abbrev pub argument_parens_lawful : Lawful ts (argument_parens text ts)
+  argument_parens_lawful = record { first = OpenParen ∷ []; cont = []; null = false; sound = argument_parens_sound }
+
+  -- behind "with" and behind "function"
+  abbrev pub sample_lawful : Lawful ts (λ e. ahead (same_word text ts Ident (codes "sample")) (argument_parens text ts e))
+  sample_lawful = lawful_both _ (lawful_same_word text ts Ident (codes "sample")) argument_parens_lawful refl
+
+  abbrev pub function_lawful : Lawful ts (λ e. ahead (same_word text ts OtherWord (codes "function")) (ahead (same_word text ts Ident (codes "sample")) (argument_parens text ts e)))
+  function_lawful = lawful_both _ (lawful_same_word text ts OtherWord (codes "function")) sample_lawful refl
+
+  pub sampled_sound : (d e : Room) → Under d e → Sound ts (sampled text ts d) (sampled text ts e) (WithWord ∷ []) [] false
+  unfolding sampled
+  sampled_sound = (lawful_both _ (w WithWord) function_lawful refl).sound
+
+  abbrev pub sampled_lawful : Lawful ts (sampled text ts)
+  sampled_lawful = record { first = WithWord ∷ []; cont = []; null = false; sound = sampled_sound }
+
+  -- event | sampled
+  abbrev pub event_or_sampled_lawful : Lawful ts (λ e. either (map_to by_event (event text ts e)) (map_to by_function (sampled text ts e)))
+  event_or_sampled_lawful = lawful_either (lawful_map event_lawful by_event) (lawful_map sampled_lawful by_function) refl refl
+
+  pub sampling_sound : (d e : Room) → Under d e → Sound ts (sampling text ts d) (sampling text ts e) (AtSign ∷ WithWord ∷ []) (AtSign ∷ WithWord ∷ []) true
+  unfolding sampling
+  sampling_sound = (lawful_map (lawful_maybe event_or_sampled_lawful refl) sampling_or).sound
+
+  abbrev pub sampling_lawful : Lawful ts (sampling text ts)
+  sampling_lawful = record { first = AtSign ∷ WithWord ∷ []; cont = AtSign ∷ WithWord ∷ []; null = true; sound = sampling_sound }
+
   pub members_sound : (d e : Room) → Under d e → Sound ts (members text ts d) (members text ts e) member_firsts member_firsts true
   unfolding members
   members_sound = (lawful_many (member_lawful text ts) append refl refl []).sound
@@ -237,16 +290,16 @@ module _ (text : List ℕ) (ts : List Marked) where
   abbrev pub group_head_lawful : Lawful ts (λ _. both pair (word ts CovergroupWord) (ident text ts))
   group_head_lawful = lawful_both pair (w CovergroupWord) (ident_lawful text ts) refl
 
-  abbrev pub group_body_lawful : Lawful ts (λ e. both pair (both pair (formals text ts e) (map_to list_or (maybe (event text ts e)))) (ahead (word ts Semi) (members text ts e)))
-  group_body_lawful = lawful_both pair (lawful_both pair formals_lawful (lawful_map (lawful_maybe event_lawful refl) list_or) refl) (lawful_both _ (w Semi) members_lawful refl) refl
+  abbrev pub group_body_lawful : Lawful ts (λ e. both pair (both pair (formals text ts e) (sampling text ts e)) (ahead (word ts Semi) (members text ts e)))
+  group_body_lawful = lawful_both pair (lawful_both pair formals_lawful sampling_lawful refl) (lawful_both _ (w Semi) members_lawful refl) refl
 
   abbrev pub group_rest_lawful : (h : Marked × List ℕ) → Lawful ts (λ e. both (group_of h)
-      (both pair (both pair (formals text ts e) (map_to list_or (maybe (event text ts e)))) (ahead (word ts Semi) (members text ts e))) (group_end text ts h.1))
+      (both pair (both pair (formals text ts e) (sampling text ts e)) (ahead (word ts Semi) (members text ts e))) (group_end text ts h.1))
   group_rest_lawful h = lawful_both (group_of h) group_body_lawful (group_end_lawful h.1) refl
 
   pub group_sound : (d e : Room) → Under d e → Sound ts (group text ts d) (group text ts e) (CovergroupWord ∷ []) (Colon ∷ []) false
   unfolding group
-  group_sound d e h = (lawful_bind group_head_lawful (record { first = OpenParen ∷ AtSign ∷ Semi ∷ []; cont = Colon ∷ []; null = false; sound = λ x. (group_rest_lawful x).sound }) refl).sound d e h
+  group_sound d e h = (lawful_bind group_head_lawful (record { first = OpenParen ∷ AtSign ∷ WithWord ∷ Semi ∷ []; cont = Colon ∷ []; null = false; sound = λ x. (group_rest_lawful x).sound }) refl).sound d e h
 
   abbrev pub group_lawful : Lawful ts (group text ts)
   group_lawful = record { first = CovergroupWord ∷ []; cont = Colon ∷ []; null = false; sound = group_sound }

@@ -1,5 +1,5 @@
--- The grammar of declarations, and of a whole design text (IEEE 1800-2017, 6.8, 6.19 and 19.3).
-use Rattle.std.specs.Prelude.{ℕ, List, [], ◌∷◌, ◌++◌, Option, Some, None, Bool, true, false, map}
+-- The grammar of declarations, and of a whole design text (IEEE 1800-2017, 6.8, 6.19, 19.3 and 19.8.1).
+use Rattle.std.specs.Prelude.{ℕ, List, [], ◌∷◌, ◌++◌, Option, Some, None, Bool, true, false, map, codes}
 use Rattle.cov_tree.specs.declared.expr.Expr.{Expr}
 use Rattle.cov_tree.specs.declared.groups.Member.{Member}
 use Rattle.cov_tree.specs.declared.groups.Formal.{Formal}
@@ -11,7 +11,7 @@ use Rattle.cov_tree.specs.declared.declarations.TypeText.TheVariants.{Vector, Fi
 use Rattle.cov_tree.specs.declared.declarations.Decl.{Decl}
 use Rattle.cov_tree.specs.declared.declarations.Decl.TheVariants.{Enum, Var, Group, Instance}
 use Rattle.cov_grammar.specs.declared.kind.Kind.{Kind}
-use Rattle.cov_grammar.specs.declared.kind.Kind.TheVariants.{Ident, TypedefWord, EnumWord, BitWord, LogicWord, RegWord, ByteWord, ShortintWord, IntWord, LongintWord, IntegerWord, SignedWord, UnsignedWord, CovergroupWord, EndgroupWord, IffWord, InputWord, RefWord, NewWord, PosedgeWord, NegedgeWord, EdgeWord, OrWord, OpenParen, CloseParen, CloseSquare, OpenBrace, CloseBrace, Comma, Semi, Colon, AtSign, Assign}
+use Rattle.cov_grammar.specs.declared.kind.Kind.TheVariants.{Ident, TypedefWord, EnumWord, BitWord, LogicWord, RegWord, ByteWord, ShortintWord, IntWord, LongintWord, IntegerWord, SignedWord, UnsignedWord, CovergroupWord, EndgroupWord, IffWord, WithWord, OtherWord, InputWord, RefWord, NewWord, PosedgeWord, NegedgeWord, EdgeWord, OrWord, OpenParen, CloseParen, CloseSquare, OpenBrace, CloseBrace, Comma, Semi, Colon, AtSign, Assign}
 use Rattle.cov_grammar.specs.declared.kind.Marked.{Marked}
 use Rattle.cov_grammar.specs.declared.place.Room.{Room}
 use Rattle.cov_grammar.specs.Kinds.{has}
@@ -101,8 +101,23 @@ edge_or_any (Some t) = edge_kind t.kind
 abbrev pub edge_of : Option Marked → List ℕ × Option Expr → EdgeText
 edge_of k p = record { kind = edge_or_any k; name = p.0; guard = p.1 }
 
-abbrev pub group_of : Marked × List ℕ → (List Formal × List EdgeText) × List Member → Option Marked → List Decl
-group_of h p e = Group h.1 p.0.0 p.0.1 [] p.1 h.0.at ∷ []
+-- an argument of a sample function is `input`, with no default
+abbrev pub argument_of : ℕ → TypeText → List ℕ → Formal
+argument_of start type name = record { by_ref = false; typ = type; name = name; default = None; at = start }
+
+-- what samples a group: the parts of its event, and the arguments of its sample function
+abbrev pub by_event : List EdgeText → List EdgeText × List Formal
+by_event edges = (edges, [])
+
+abbrev pub by_function : List Formal → List EdgeText × List Formal
+by_function args = ([], args)
+
+abbrev pub sampling_or : Option (List EdgeText × List Formal) → List EdgeText × List Formal
+sampling_or None = ([], [])
+sampling_or (Some p) = p
+
+abbrev pub group_of : Marked × List ℕ → (List Formal × (List EdgeText × List Formal)) × List Member → Option Marked → List Decl
+group_of h p e = Group h.1 p.0.0 p.0.1.0 p.0.1.1 p.1 h.0.at ∷ []
 
 module _ (text : List ℕ) (ts : List Marked) where
   -- [ sign ], sign = "signed" | "unsigned"
@@ -184,6 +199,26 @@ module _ (text : List ℕ) (ts : List Marked) where
   unfoldable pub event : Room → Rule (List EdgeText)
   event r = word ts AtSign ▸ word ts OpenParen ▸ fold snoc (map_to (λ x. x ∷ []) (edge r)) (one ts (OrWord ∷ Comma ∷ []) ▸ edge r) ◂ word ts CloseParen
 
+  -- sarg = [ "input" ] type ident
+  unfoldable pub argument : Room → Rule Formal
+  argument r = bind (here ts) (λ start. both (argument_of start) (maybe (word ts InputWord) ▸ type_text r) (ident text ts))
+
+  -- sarg { "," sarg }
+  unfoldable pub argument_list : Room → Rule (List Formal)
+  argument_list r = fold snoc (map_to (λ x. x ∷ []) (argument r)) (word ts Comma ▸ argument r)
+
+  -- "(" [ sarg { "," sarg } ] ")"
+  unfoldable pub argument_parens : Room → Rule (List Formal)
+  argument_parens r = map_to list_or (word ts OpenParen ▸ maybe (argument_list r) ◂ word ts CloseParen)
+
+  -- sampled = "with" "function" "sample" "(" [ sarg { "," sarg } ] ")"
+  unfoldable pub sampled : Room → Rule (List Formal)
+  sampled r = word ts WithWord ▸ same_word text ts OtherWord (codes "function") ▸ same_word text ts Ident (codes "sample") ▸ argument_parens r
+
+  -- [ event | sampled ]
+  unfoldable pub sampling : Room → Rule (List EdgeText × List Formal)
+  sampling r = map_to sampling_or (maybe (either (map_to by_event (event r)) (map_to by_function (sampled r))))
+
   -- { member }
   unfoldable pub members : Room → Rule (List Member)
   members r = many (λ xs x. xs ++ x) (member text ts r) []
@@ -192,10 +227,10 @@ module _ (text : List ℕ) (ts : List Marked) where
   unfoldable pub group_end : List ℕ → Rule (Option Marked)
   group_end name = word ts EndgroupWord ▸ maybe (word ts Colon ▸ same_word text ts Ident name)
 
-  -- group = "covergroup" ident [ "(" [ formal { "," formal } ] ")" ] [ event ] ";" { member } "endgroup" [ ":" ident ]
+  -- group = "covergroup" ident [ "(" [ formal { "," formal } ] ")" ] [ event | sampled ] ";" { member } "endgroup" [ ":" ident ]
   unfoldable pub group : Room → Rule (List Decl)
   group r = bind (both pair (word ts CovergroupWord) (ident text ts)) (λ h.
-      both (group_of h) (both pair (both pair (formals r) (map_to list_or (maybe (event r)))) (word ts Semi ▸ members r)) (group_end h.1))
+      both (group_of h) (both pair (both pair (formals r) (sampling r)) (word ts Semi ▸ members r)) (group_end h.1))
 
   -- enumdecl | vardecl | group | instance
   unfoldable pub decl : Room → Rule (List Decl)

@@ -1,12 +1,12 @@
 -- Where a reader of covergroups stands, from one part of a rule to the next.
-use Rattle.std.proofs.Common.{◌≡◌, ℕ, ◌+◌, List, [], ◌∷◌, ◌++◌, Option, Some, None, Bool, true, false, not, ◌&&◌, ◌||◌, ◌⊎◌, eqb, append-nil, Result, Ok, Err, inl, inr, refl, sym, ◌∙◌, ap, subst, arith}
+use Rattle.std.proofs.Common.{◌≡◌, ℕ, ◌+◌, List, [], ◌∷◌, ◌++◌, codes, Option, Some, None, Bool, true, false, not, ◌&&◌, ◌||◌, ◌⊎◌, eqb, append-nil, Result, Ok, Err, inl, inr, refl, sym, ◌∙◌, ap, subst, arith}
 use Rattle.cov_tree.specs.declared.expr.Expr.{Expr}
 use Rattle.cov_tree.specs.declared.groups.Member.{Member}
 use Rattle.cov_tree.specs.declared.groups.Formal.{Formal}
 use Rattle.cov_tree.specs.declared.groups.EdgeText.{EdgeText}
 use Rattle.cov_tree.specs.declared.declarations.TypeText.{TypeText}
 use Rattle.cov_grammar.specs.declared.kind.Kind.{Kind}
-use Rattle.cov_grammar.specs.declared.kind.Kind.TheVariants.{Ident, CovergroupWord, EndgroupWord, CoverpointWord, CrossWord, OrWord, OpenParen, CloseParen, Comma, Semi, Colon, AtSign, Assign}
+use Rattle.cov_grammar.specs.declared.kind.Kind.TheVariants.{Ident, CovergroupWord, EndgroupWord, CoverpointWord, CrossWord, WithWord, OtherWord, InputWord, OrWord, OpenParen, CloseParen, Comma, Semi, Colon, AtSign, Assign}
 use Rattle.cov_grammar.specs.declared.kind.Marked.{Marked}
 use Rattle.cov_grammar.specs.declared.place.Place.{Place}
 use Rattle.cov_grammar.specs.declared.place.Room.{Room}
@@ -24,15 +24,16 @@ use Rattle.std.proofs.lemmas.Result.{err_from_is_err_and}
 use Rattle.cov_grammar.specs.Expressions.{pair, snoc, expr}
 use Rattle.cov_grammar.specs.Bins.{ident, optset}
 use Rattle.cov_grammar.specs.Groups.{point, cross, label, item, member}
-use Rattle.cov_grammar.specs.Designs.{list_or, Written, written, with_formal, last_is_ref, is_ref_or, group_of, type_text, formal, formal_list, formals, edge, event, members, group_end, group}
+use Rattle.cov_grammar.specs.Designs.{list_or, Written, written, with_formal, last_is_ref, is_ref_or, argument_of, by_event, by_function, sampling_or, group_of, type_text, formal, formal_list, formals, edge, event, argument, argument_list, argument_parens, sampled, sampling, members, group_end, group}
 use Rattle.cov_grammar.proofs.Sets.{disjoint, and_true, split, In_apart}
 use Rattle.cov_grammar.proofs.Lawful.{Lawful, Lawfuls, facts_of, lawful_word, lawful_one, lawful_here, lawful_same_word, lawful_map, lawful_maybe, lawful_both, lawful_fold}
 use Rattle.cov_grammar.proofs.Compose.{Past, map_reads, map_fails, both_reads, both_fails, both_then_fails, maybe_none, maybe_some, maybe_fails}
-use Rattle.cov_grammar.proofs.Steps.{Leads, leads_self, here_reads, one_fails, one_next, both_opens, step, ends, bind_step, bind_ends, map_leads, without, maybe_step, many_breaks, fold_starts, fold_fails, item_read, item_fails, no_item}
+use Rattle.cov_grammar.proofs.Steps.{Leads, leads_self, here_reads, one_fails, one_next, both_opens, step, ends, bind_step, bind_ends, left, right, map_leads, without, maybe_step, many_breaks, fold_starts, fold_fails, item_read, item_fails, no_item}
 use Rattle.cov_grammar.proofs.BinsLaws.{ident_lawful}
 use Rattle.cov_grammar.proofs.GroupLaws.{option_words, item_firsts, label_lawful, member_lawful}
-use Rattle.cov_grammar.proofs.DesignLaws.{append, directions, type_text_lawful, value_lawful, formal_rest_lawful, formal_lawful, formal_list_lawful, formal_parens_lawful, formals_lawful, edge_lawful, event_lawful, members_lawful, group_end_lawful, group_head_lawful, group_body_lawful, group_rest_lawful}
+use Rattle.cov_grammar.proofs.DesignLaws.{append, directions, type_text_lawful, value_lawful, formal_rest_lawful, formal_lawful, formal_list_lawful, formal_parens_lawful, formals_lawful, edge_lawful, event_lawful, argument_type_lawful, argument_rest_lawful, argument_lawful, argument_list_lawful, argument_parens_lawful, sample_lawful, function_lawful, sampled_lawful, event_or_sampled_lawful, sampling_lawful, members_lawful, group_end_lawful, group_head_lawful, group_body_lawful, group_rest_lawful}
 use Rattle.cov_parser.proofs.DesignWalks.{Members}
+use Rattle.cov_parser.proofs.Chains.{Chain, chain_first, chain_fails, chain_next, chain_breaks, chain_ends}
 
 -- a list of kinds without its first
 or_rest : (a b : Bool) → (a || b) ≡ true → ((a || false) ≡ true → ⊥) → b ≡ true
@@ -185,11 +186,15 @@ module _ (text : List ℕ) (ts : List Marked) where
   pub unnamed_end : (name : List ℕ) {d : Room} {p : Place} {t : Marked} {q : Place} → Reads (λ _. word ts EndgroupWord) d p t q → (In ts q.at (Colon ∷ []) → ⊥) → Reads (λ _. group_end text ts name) d p None q
   unnamed_end name r n = without (same_lawful name) refl (end_rest name r) n
 
-  pub named_end : (name : List ℕ) {d : Room} {p : Place} {t : Marked} {q : Place} {c : Marked} {m : Place} → Reads (λ _. word ts EndgroupWord) d p t q → Reads (λ _. word ts Colon) d q c m →
+  end_named : (name : List ℕ) {d : Room} {p : Place} {t : Marked} {q : Place} {c : Marked} {m : Place} → Reads (λ _. word ts EndgroupWord) d p t q → Reads (λ _. word ts Colon) d q c m →
       Leads (λ _. same_word text ts Ident name) d m (λ _. group_end text ts name) d p (λ x. Some x)
-  named_end name {d = d} {q = q} r s = maybe_step (same_lawful name) refl (lawful_same_word text ts Ident name) (end_rest name r)
+  end_named name {d = d} {q = q} r s = maybe_step (same_lawful name) refl (lawful_same_word text ts Ident name) (end_rest name r)
       (step _ (w Colon) (lawful_same_word text ts Ident name) refl (leads_self (λ _. ahead (word ts Colon) (same_word text ts Ident name)) d q) s)
       (let n = (one_next ts (Colon ∷ []) s).0 in omega arith)
+
+  pub named_end : (name : List ℕ) {other : List ℕ} → other ≡ name → {d : Room} {p : Place} {t : Marked} {q : Place} {c : Marked} {m : Place} → Reads (λ _. word ts EndgroupWord) d p t q → Reads (λ _. word ts Colon) d q c m →
+      Leads (λ _. same_word text ts Ident other) d m (λ _. group_end text ts name) d p (λ x. Some x)
+  named_end name e {d = d} {p = p} {m = m} r s = subst (λ z. Leads (λ _. same_word text ts Ident z) d m (λ _. group_end text ts name) d p (λ x. Some x)) (sym e) (end_named name r s)
 
   -- a formal
   abbrev typed_lawful : Lawful ts (λ e. both pair (type_text text ts e) (ident text ts))
@@ -328,45 +333,155 @@ module _ (text : List ℕ) (ts : List Marked) where
   pub edges_end : {d : Room} {o : Place} (es : List EdgeText) {p : Place} → Edges d o es p → (In ts p.at between → ⊥) → Reads edge_list d o es p
   edges_end es l n = no_item snoc (λ _ b. b) (lawful_one ts between) (edge_lawful text ts) refl refl refl es l n
 
-  -- [ event ]
-  abbrev pub event_or : Room → Rule (List EdgeText)
-  event_or e = map_to list_or (maybe (event text ts e))
-
-  abbrev event_or_lawful : Lawful ts event_or
-  event_or_lawful = lawful_map (lawful_maybe (event_lawful text ts) refl) list_or
-
+  -- "(" edge { ( "or" | "," ) edge } ")"
   abbrev closed_lawful : Lawful ts (λ e. behind (edge_list e) (word ts CloseParen))
   closed_lawful = lawful_both _ edge_list_lawful (w CloseParen) refl
 
-  abbrev in_parens_lawful : Lawful ts (λ e. ahead (word ts OpenParen) (behind (edge_list e) (word ts CloseParen)))
+  abbrev pub edge_parens : Room → Rule (List EdgeText)
+  edge_parens e = ahead (word ts OpenParen) (behind (edge_list e) (word ts CloseParen))
+
+  abbrev in_parens_lawful : Lawful ts edge_parens
   in_parens_lawful = lawful_both _ (w OpenParen) closed_lawful refl
 
-  pub no_event : {d : Room} {p : Place} → (In ts p.at (AtSign ∷ []) → ⊥) → Reads event_or d p [] p
-  no_event n = map_reads list_or (lawful_maybe (event_lawful text ts) refl) (maybe_none (event_lawful text ts) refl n)
+  pub event_unopened : {d : Room} {p : Place} {e : Stop} → Fails (λ _. word ts OpenParen) d p e → Fails edge_parens d p e
+  event_unopened f = both_fails _ (w OpenParen) closed_lawful refl f
 
-  at_sign : {d : Room} {p : Place} {t : Marked} {q : Place} → Reads (λ _. word ts AtSign) d p t q → Leads (λ e. ahead (word ts OpenParen) (behind (edge_list e) (word ts CloseParen))) d q (event text ts) d p (λ x. x)
+  event_edges : {d : Room} {p : Place} {u : Marked} {m : Place} → Reads (λ _. word ts OpenParen) d p u m → Leads (λ e. behind (edge_list e) (word ts CloseParen)) d m edge_parens d p (λ x. x)
+  event_edges {d = d} {p = p} s = step _ (w OpenParen) closed_lawful refl (leads_self edge_parens d p) s
+
+  pub event_stops : {d : Room} {p : Place} {u : Marked} {m : Place} {e : Stop} → Reads (λ _. word ts OpenParen) d p u m → Fails edge_list d m e → Fails edge_parens d p e
+  event_stops s f = ends _ edge_list_lawful (w CloseParen) refl (event_edges s) f
+
+  pub event_closes : {d : Room} {p : Place} {u : Marked} {m : Place} {es : List EdgeText} {k : Place} → Reads (λ _. word ts OpenParen) d p u m → Reads edge_list d m es k → Leads (λ _. word ts CloseParen) d k edge_parens d p (λ _. es)
+  event_closes s x = step _ edge_list_lawful (w CloseParen) refl (event_edges s) x
+
+  -- sarg
+  abbrev input : Rule (Option Marked)
+  input = maybe (word ts InputWord)
+
+  abbrev argument_lawfuls : Lawfuls ts (λ e (start : ℕ). both (argument_of start) (ahead input (type_text text ts e)) (ident text ts))
+  argument_lawfuls = record { first = (argument_rest_lawful text ts 0).first; cont = []; null = false; sound = λ start. (argument_rest_lawful text ts start).sound }
+
+  argument_starts : {d : Room} {p : Place} → Leads (λ e. both (argument_of (offset ts p.at)) (ahead input (type_text text ts e)) (ident text ts)) d p (argument text ts) d p (λ x. x)
+  unfolding argument
+  argument_starts {d = d} {p = p} = bind_step (lawful_here ts) argument_lawfuls refl (leads_self (argument text ts) d p) (here_reads ts d p)
+
+  pub input_read : {d : Room} {p : Place} {t : Marked} {q : Place} → Reads (λ _. word ts InputWord) d p t q → Reads (λ _. input) d p (Some t) q
+  input_read r = maybe_some (w InputWord) refl r
+
+  pub no_input : {d : Room} {p : Place} → (In ts p.at (InputWord ∷ []) → ⊥) → Reads (λ _. input) d p None p
+  no_input n = maybe_none (w InputWord) refl n
+
+  pub argument_untyped : {d : Room} {p : Place} {t : Option Marked} {q : Place} {e : Stop} → Reads (λ _. input) d p t q → Fails (type_text text ts) d q e → Fails (argument text ts) d p e
+  argument_untyped {p = p} r f = ends (argument_of (offset ts p.at)) (argument_type_lawful text ts) (ident_lawful text ts) refl argument_starts
+      (both_then_fails _ (lawful_maybe (w InputWord) refl) (type_text_lawful text ts) refl r f)
+
+  pub argument_typed : {d : Room} {p : Place} {t : Option Marked} {q : Place} {x : TypeText} {m : Place} → Reads (λ _. input) d p t q → Reads (type_text text ts) d q x m →
+      Leads (λ _. ident text ts) d m (argument text ts) d p (argument_of (offset ts p.at) x)
+  argument_typed {p = p} r s = step (argument_of (offset ts p.at)) (argument_type_lawful text ts) (ident_lawful text ts) refl argument_starts
+      (both_reads _ (lawful_maybe (w InputWord) refl) (type_text_lawful text ts) refl r s)
+
+  -- sarg { "," sarg }
+  abbrev pub Arguments : Room → Place → List Formal → Place → Type 0
+  Arguments d o xs p = Chain (argument_lawful text ts) (Comma ∷ []) refl d o xs p
+
+  pub no_argument : {d : Room} {p : Place} {e : Stop} → Fails (argument text ts) d p e → Fails (argument_list text ts) d p e
+  unfolding argument_list
+  no_argument f = chain_fails (argument_lawful text ts) (Comma ∷ []) refl f
+
+  pub argument_fails : {d : Room} {o : Place} (xs : List Formal) {p : Place} {t : Marked} {q : Place} {e : Stop} → Arguments d o xs p → Reads (λ _. word ts Comma) d p t q → Fails (argument text ts) d q e → Fails (argument_list text ts) d o e
+  unfolding argument_list
+  argument_fails xs l r f = chain_breaks (argument_lawful text ts) (Comma ∷ []) refl xs l r f
+
+  pub arguments_end : {d : Room} {o : Place} (xs : List Formal) {p : Place} → Arguments d o xs p → (In ts p.at (Comma ∷ []) → ⊥) → Reads (argument_list text ts) d o xs p
+  unfolding argument_list
+  arguments_end xs l n = chain_ends (argument_lawful text ts) (Comma ∷ []) refl xs l n
+
+  -- "(" [ sarg { "," sarg } ] ")"
+  abbrev pub argument_end : Room → Rule (Option (List Formal))
+  argument_end e = behind (maybe (argument_list text ts e)) (word ts CloseParen)
+
+  abbrev maybe_arguments_lawful : Lawful ts (λ e. maybe (argument_list text ts e))
+  maybe_arguments_lawful = lawful_maybe (argument_list_lawful text ts) refl
+
+  abbrev argument_end_lawful : Lawful ts argument_end
+  argument_end_lawful = lawful_both _ maybe_arguments_lawful (w CloseParen) refl
+
+  abbrev arguments_lawful : Lawful ts (λ e. ahead (word ts OpenParen) (argument_end e))
+  arguments_lawful = lawful_both _ (w OpenParen) argument_end_lawful refl
+
+  arguments_start : {d : Room} {p : Place} → Leads (λ e. ahead (word ts OpenParen) (argument_end e)) d p (argument_parens text ts) d p list_or
+  unfolding argument_parens
+  arguments_start {d = d} {p = p} = map_leads list_or arguments_lawful (leads_self (argument_parens text ts) d p)
+
+  pub arguments_unopened : {d : Room} {p : Place} {e : Stop} → Fails (λ _. word ts OpenParen) d p e → Fails (argument_parens text ts) d p e
+  arguments_unopened f = ends _ (w OpenParen) argument_end_lawful refl arguments_start f
+
+  pub arguments_open : {d : Room} {p : Place} {t : Marked} {q : Place} → Reads (λ _. word ts OpenParen) d p t q → Leads argument_end d q (argument_parens text ts) d p list_or
+  arguments_open r = step _ (w OpenParen) argument_end_lawful refl arguments_start r
+
+  pub no_arguments : {d : Room} {p : Place} {t : Marked} {q : Place} → In ts p.at (CloseParen ∷ []) → Reads (λ _. word ts CloseParen) d p t q → Reads argument_end d p None q
+  no_arguments {p = p} h r = both_reads _ maybe_arguments_lawful (w CloseParen) refl (maybe_none (argument_list_lawful text ts) refl (λ v. In_apart ts p.at (argument_list_lawful text ts).first (CloseParen ∷ []) refl v h)) r
+
+  pub arguments_fail : {d : Room} {p : Place} {e : Stop} → (In ts p.at (CloseParen ∷ []) → ⊥) → Fails (argument_list text ts) d p e → Fails argument_end d p e
+  arguments_fail {e = e} n f = unclosed (argument_list_lawful text ts) refl CloseParen refl e n f
+
+  pub arguments_close : {d : Room} {p : Place} {fs : List Formal} {q : Place} → Reads (argument_list text ts) d p fs q → Leads (λ _. word ts CloseParen) d q argument_end d p (λ _. Some fs)
+  arguments_close {d = d} {p = p} r = step _ maybe_arguments_lawful (w CloseParen) refl (leads_self argument_end d p) (maybe_some (argument_list_lawful text ts) refl r)
+
+  -- "function" "sample" and the arguments
+  abbrev pub named_function : Room → Rule (List Formal)
+  named_function e = ahead (same_word text ts Ident (codes "sample")) (argument_parens text ts e)
+
+  abbrev pub sample_function : Room → Rule (List Formal)
+  sample_function e = ahead (same_word text ts OtherWord (codes "function")) (named_function e)
+
+  pub no_function : {d : Room} {p : Place} {e : Stop} → Fails (λ _. same_word text ts OtherWord (codes "function")) d p e → Fails sample_function d p e
+  no_function f = both_fails _ (lawful_same_word text ts OtherWord (codes "function")) (sample_lawful text ts) refl f
+
+  behind_function : {d : Room} {p : Place} {t : Marked} {q : Place} → Reads (λ _. same_word text ts OtherWord (codes "function")) d p t q → Leads named_function d q sample_function d p (λ x. x)
+  behind_function {d = d} {p = p} r = step _ (lawful_same_word text ts OtherWord (codes "function")) (sample_lawful text ts) refl (leads_self sample_function d p) r
+
+  pub no_sample : {d : Room} {p : Place} {t : Marked} {q : Place} {e : Stop} → Reads (λ _. same_word text ts OtherWord (codes "function")) d p t q → Fails (λ _. same_word text ts Ident (codes "sample")) d q e → Fails sample_function d p e
+  no_sample r f = ends _ (lawful_same_word text ts Ident (codes "sample")) (argument_parens_lawful text ts) refl (behind_function r) f
+
+  pub behind_sample : {d : Room} {p : Place} {t : Marked} {q : Place} {u : Marked} {m : Place} → Reads (λ _. same_word text ts OtherWord (codes "function")) d p t q → Reads (λ _. same_word text ts Ident (codes "sample")) d q u m →
+      Leads (argument_parens text ts) d m sample_function d p (λ x. x)
+  behind_sample r s = step _ (lawful_same_word text ts Ident (codes "sample")) (argument_parens_lawful text ts) refl (behind_function r) s
+
+  -- [ event | sampled ]
+  abbrev sampled_by_lawful : Lawful ts (λ e. maybe (either (map_to by_event (event text ts e)) (map_to by_function (sampled text ts e))))
+  sampled_by_lawful = lawful_maybe (event_or_sampled_lawful text ts) refl
+
+  samplings : {d : Room} {p : Place} → Leads (λ e. maybe (either (map_to by_event (event text ts e)) (map_to by_function (sampled text ts e)))) d p (sampling text ts) d p sampling_or
+  unfolding sampling
+  samplings {d = d} {p = p} = map_leads sampling_or sampled_by_lawful (leads_self (sampling text ts) d p)
+
+  pub unsampled : {d : Room} {p : Place} → (In ts p.at (AtSign ∷ []) → ⊥) → (In ts p.at (WithWord ∷ []) → ⊥) → Reads (sampling text ts) d p ([], []) p
+  unsampled {p = p} n m = without (event_or_sampled_lawful text ts) refl samplings (λ h. elim (In_split ts p.at (AtSign ∷ []) (WithWord ∷ []) h) [ inl a ↦ n a | inr b ↦ m b ])
+
+  -- behind "@", and behind "with"
+  by_events : {d : Room} {p : Place} → In ts p.at (AtSign ∷ []) → Leads (event text ts) d p (λ e. either (map_to by_event (event text ts e)) (map_to by_function (sampled text ts e))) d p by_event
+  by_events {d = d} {p = p} h = map_leads by_event (event_lawful text ts) (left (lawful_map (event_lawful text ts) by_event) (lawful_map (sampled_lawful text ts) by_function) refl refl
+      (leads_self (λ e. either (map_to by_event (event text ts e)) (map_to by_function (sampled text ts e))) d p) h)
+
+  by_functions : {d : Room} {p : Place} → In ts p.at (WithWord ∷ []) → Leads (sampled text ts) d p (λ e. either (map_to by_event (event text ts e)) (map_to by_function (sampled text ts e))) d p by_function
+  by_functions {d = d} {p = p} h = map_leads by_function (sampled_lawful text ts) (right (lawful_map (event_lawful text ts) by_event) (lawful_map (sampled_lawful text ts) by_function) refl refl
+      (leads_self (λ e. either (map_to by_event (event text ts e)) (map_to by_function (sampled text ts e))) d p) refl (λ v. In_apart ts p.at (AtSign ∷ []) (WithWord ∷ []) refl v h))
+
+  at_sign : {d : Room} {p : Place} {t : Marked} {q : Place} → In ts p.at (AtSign ∷ []) → Reads (λ _. word ts AtSign) d p t q → Leads edge_parens d q (λ e. either (map_to by_event (event text ts e)) (map_to by_function (sampled text ts e))) d p by_event
   unfolding event
-  at_sign {d = d} {p = p} r = step _ (w AtSign) in_parens_lawful refl (leads_self (event text ts) d p) r
+  at_sign h r = step _ (w AtSign) in_parens_lawful refl (by_events h) r
 
-  pub event_begins : {d : Room} {p : Place} {t : Marked} {q : Place} → Reads (λ _. word ts AtSign) d p t q →
-      Leads (λ e. ahead (word ts OpenParen) (behind (edge_list e) (word ts CloseParen))) d q event_or d p (λ x. x)
-  event_begins {d = d} {p = p} r = maybe_step (event_lawful text ts) refl in_parens_lawful
-      (map_leads list_or (lawful_maybe (event_lawful text ts) refl) (leads_self event_or d p)) (at_sign r)
-      (let n = (one_next ts (AtSign ∷ []) r).0 in omega arith)
+  with_word : {d : Room} {p : Place} {t : Marked} {q : Place} → In ts p.at (WithWord ∷ []) → Reads (λ _. word ts WithWord) d p t q → Leads sample_function d q (λ e. either (map_to by_event (event text ts e)) (map_to by_function (sampled text ts e))) d p by_function
+  unfolding sampled
+  with_word h r = step _ (w WithWord) (function_lawful text ts) refl (by_functions h) r
 
-  pub event_unopened : {d : Room} {p : Place} {t : Marked} {q : Place} {e : Stop} → Reads (λ _. word ts AtSign) d p t q → Fails (λ _. word ts OpenParen) d q e → Fails event_or d p e
-  event_unopened r f = ends _ (w OpenParen) closed_lawful refl (event_begins r) f
+  pub sampled_by_event : {d : Room} {p : Place} {t : Marked} {q : Place} → In ts p.at (AtSign ∷ []) → Reads (λ _. word ts AtSign) d p t q → Leads edge_parens d q (sampling text ts) d p (λ es. (es, []))
+  sampled_by_event h r = maybe_step (event_or_sampled_lawful text ts) refl in_parens_lawful samplings (at_sign h r) (let n = (one_next ts (AtSign ∷ []) r).0 in omega arith)
 
-  pub event_edges : {d : Room} {p : Place} {t : Marked} {q : Place} {u : Marked} {m : Place} → Reads (λ _. word ts AtSign) d p t q → Reads (λ _. word ts OpenParen) d q u m →
-      Leads (λ e. behind (edge_list e) (word ts CloseParen)) d m event_or d p (λ x. x)
-  event_edges r s = step _ (w OpenParen) closed_lawful refl (event_begins r) s
-
-  pub event_stops : {d : Room} {p : Place} {t : Marked} {q : Place} {u : Marked} {m : Place} {e : Stop} → Reads (λ _. word ts AtSign) d p t q → Reads (λ _. word ts OpenParen) d q u m → Fails edge_list d m e → Fails event_or d p e
-  event_stops r s f = ends _ edge_list_lawful (w CloseParen) refl (event_edges r s) f
-
-  pub event_closes : {d : Room} {p : Place} {t : Marked} {q : Place} {u : Marked} {m : Place} {es : List EdgeText} {k : Place} → Reads (λ _. word ts AtSign) d p t q → Reads (λ _. word ts OpenParen) d q u m → Reads edge_list d m es k →
-      Leads (λ _. word ts CloseParen) d k event_or d p (λ _. es)
-  event_closes r s x = step _ edge_list_lawful (w CloseParen) refl (event_edges r s) x
+  pub sampled_by_function : {d : Room} {p : Place} {t : Marked} {q : Place} → In ts p.at (WithWord ∷ []) → Reads (λ _. word ts WithWord) d p t q → Leads sample_function d q (sampling text ts) d p (λ args. ([], args))
+  sampled_by_function h r = maybe_step (event_or_sampled_lawful text ts) refl (function_lawful text ts) samplings (with_word h r) (let n = (one_next ts (WithWord ∷ []) r).0 in omega arith)
 
   -- a member whose first token stands there fails behind it
   ident_begins : (p : Place) → In ts p.at (Ident ∷ []) → (ident text ts).begins p (p.at + 1)
@@ -442,17 +557,17 @@ module _ (text : List ℕ) (ts : List Marked) where
   item_fails_as (Err e) l h = l.fails h
 
   -- group
-  abbrev pub signed_head : Room → Rule (List Formal × List EdgeText)
-  signed_head e = both pair (formals text ts e) (event_or e)
+  abbrev pub signed_head : Room → Rule (List Formal × (List EdgeText × List Formal))
+  signed_head e = both pair (formals text ts e) (sampling text ts e)
 
   abbrev signed_lawful : Lawful ts signed_head
-  signed_lawful = lawful_both pair (formals_lawful text ts) event_or_lawful refl
+  signed_lawful = lawful_both pair (formals_lawful text ts) (sampling_lawful text ts) refl
 
   abbrev inside_lawful : Lawful ts (λ e. ahead (word ts Semi) (members text ts e))
   inside_lawful = lawful_both _ (w Semi) (members_lawful text ts) refl
 
   abbrev group_lawfuls : Lawfuls ts (λ e (h : Marked × List ℕ). both (group_of h) (both pair (signed_head e) (ahead (word ts Semi) (members text ts e))) (group_end text ts h.1))
-  group_lawfuls = record { first = OpenParen ∷ AtSign ∷ Semi ∷ []; cont = Colon ∷ []; null = false; sound = λ h. (group_rest_lawful text ts h).sound }
+  group_lawfuls = record { first = OpenParen ∷ AtSign ∷ WithWord ∷ Semi ∷ []; cont = Colon ∷ []; null = false; sound = λ h. (group_rest_lawful text ts h).sound }
 
   pub no_group : {d : Room} {p : Place} {e : Stop} → Fails (λ _. word ts CovergroupWord) d p e → Fails (group text ts) d p e
   unfolding group
@@ -474,23 +589,23 @@ module _ (text : List ℕ) (ts : List Marked) where
   body_fails {t = t} {x = x} l f = ends (group_of (t, x)) (group_body_lawful text ts) (group_end_lawful text ts x) refl l.rest f
 
   pub group_unformal : {d : Room} {o : Place} {t : Marked} {x : List ℕ} {p : Place} {e : Stop} → Named d o t x p → Fails (formals text ts) d p e → Fails (group text ts) d o e
-  group_unformal l f = body_fails l (both_fails pair signed_lawful inside_lawful refl (both_fails pair (formals_lawful text ts) event_or_lawful refl f))
+  group_unformal l f = body_fails l (both_fails pair signed_lawful inside_lawful refl (both_fails pair (formals_lawful text ts) (sampling_lawful text ts) refl f))
 
-  pub group_eventless : {d : Room} {o : Place} {t : Marked} {x : List ℕ} {p : Place} {fs : List Formal} {q : Place} {e : Stop} → Named d o t x p → Reads (formals text ts) d p fs q → Fails event_or d q e → Fails (group text ts) d o e
-  group_eventless l r f = body_fails l (both_fails pair signed_lawful inside_lawful refl (both_then_fails pair (formals_lawful text ts) event_or_lawful refl r f))
+  pub group_eventless : {d : Room} {o : Place} {t : Marked} {x : List ℕ} {p : Place} {fs : List Formal} {q : Place} {e : Stop} → Named d o t x p → Reads (formals text ts) d p fs q → Fails (sampling text ts) d q e → Fails (group text ts) d o e
+  group_eventless l r f = body_fails l (both_fails pair signed_lawful inside_lawful refl (both_then_fails pair (formals_lawful text ts) (sampling_lawful text ts) refl r f))
 
   -- behind the formals and the event
-  pub head_read : {d : Room} {p : Place} {fs : List Formal} {q : Place} {es : List EdgeText} {m : Place} → Reads (formals text ts) d p fs q → Reads event_or d q es m → Reads signed_head d p (fs, es) m
-  head_read r s = both_reads pair (formals_lawful text ts) event_or_lawful refl r s
+  pub head_read : {d : Room} {p : Place} {fs : List Formal} {q : Place} {es : List EdgeText × List Formal} {m : Place} → Reads (formals text ts) d p fs q → Reads (sampling text ts) d q es m → Reads signed_head d p (fs, es) m
+  head_read r s = both_reads pair (formals_lawful text ts) (sampling_lawful text ts) refl r s
 
-  pub group_open : {d : Room} {o : Place} {t : Marked} {x : List ℕ} {p : Place} {h : List Formal × List EdgeText} {q : Place} {e : Stop} → Named d o t x p → Reads signed_head d p h q → Fails (λ _. word ts Semi) d q e → Fails (group text ts) d o e
+  pub group_open : {d : Room} {o : Place} {t : Marked} {x : List ℕ} {p : Place} {h : List Formal × (List EdgeText × List Formal)} {q : Place} {e : Stop} → Named d o t x p → Reads signed_head d p h q → Fails (λ _. word ts Semi) d q e → Fails (group text ts) d o e
   group_open l r f = body_fails l (both_then_fails pair signed_lawful inside_lawful refl r (both_fails _ (w Semi) (members_lawful text ts) refl f))
 
-  pub group_stops : {d : Room} {o : Place} {t : Marked} {x : List ℕ} {p : Place} {h : List Formal × List EdgeText} {q : Place} {u : Marked} {m : Place} {e : Stop} → Named d o t x p → Reads signed_head d p h q → Reads (λ _. word ts Semi) d q u m →
+  pub group_stops : {d : Room} {o : Place} {t : Marked} {x : List ℕ} {p : Place} {h : List Formal × (List EdgeText × List Formal)} {q : Place} {u : Marked} {m : Place} {e : Stop} → Named d o t x p → Reads signed_head d p h q → Reads (λ _. word ts Semi) d q u m →
       Fails (members text ts) d m e → Fails (group text ts) d o e
   group_stops l r s f = body_fails l (both_then_fails pair signed_lawful inside_lawful refl r (both_then_fails _ (w Semi) (members_lawful text ts) refl s f))
 
-  pub group_ends : {d : Room} {o : Place} {t : Marked} {x : List ℕ} {p : Place} {h : List Formal × List EdgeText} {q : Place} {u : Marked} {m : Place} {ms : List Member} {k : Place} → Named d o t x p → Reads signed_head d p h q →
+  pub group_ends : {d : Room} {o : Place} {t : Marked} {x : List ℕ} {p : Place} {h : List Formal × (List EdgeText × List Formal)} {q : Place} {u : Marked} {m : Place} {ms : List Member} {k : Place} → Named d o t x p → Reads signed_head d p h q →
       Reads (λ _. word ts Semi) d q u m → Reads (members text ts) d m ms k → Leads (λ _. group_end text ts x) d k (group text ts) d o (λ e. group_of (t, x) (h, ms) e)
   group_ends {t = t} {x = x} l r s y = step (group_of (t, x)) (group_body_lawful text ts) (group_end_lawful text ts x) refl l.rest
       (both_reads pair signed_lawful inside_lawful refl r (both_reads _ (w Semi) (members_lawful text ts) refl s y))

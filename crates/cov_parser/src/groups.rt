@@ -1,11 +1,11 @@
-//! Covergroups (IEEE 1800-2017, 19.3).
-ghost use Rattle.std.specs.Prelude.{◌≡◌, List, [], ◌∷◌, ◌++◌, Option, IfOk, IfErr};
-ghost use Rattle.cov_grammar.specs.declared.kind.Kind.TheVariants.{Ident, CoverpointWord, CrossWord, OptionWord, TypeOptionWord, InputWord, RefWord, OrWord, Comma, IffWord, PosedgeWord, NegedgeWord, EdgeWord};
-ghost use Rattle.cov_grammar.specs.Rule.{In, one, maybe, map_to, fold, word, ◌▸◌};
+//! Covergroups (IEEE 1800-2017, 19.3 and 19.8.1).
+ghost use Rattle.std.specs.Prelude.{◌≡◌, List, [], ◌∷◌, ◌++◌, Option, IfOk, IfErr, codes};
+ghost use Rattle.cov_grammar.specs.declared.kind.Kind.TheVariants.{Ident, CoverpointWord, CrossWord, OptionWord, TypeOptionWord, OtherWord, InputWord, RefWord, OrWord, OpenParen, CloseParen, Comma, IffWord, PosedgeWord, NegedgeWord, EdgeWord};
+ghost use Rattle.cov_grammar.specs.Rule.{In, one, same_word, maybe, map_to, fold, word, ◌▸◌, ◌◂◌};
 ghost use Rattle.cov_grammar.specs.Parses.{Reads, Fails, Parses};
 ghost use Rattle.cov_grammar.specs.Expressions.{snoc, spelled, expr};
 ghost use Rattle.cov_grammar.specs.Groups.{label, item, member};
-ghost use Rattle.cov_grammar.specs.Designs.{list_or, Written, with_formal, last_is_ref, is_ref_or, formal, formal_list, formals, edge, edge_kind, edge_or_any, event, members, group_end, group};
+ghost use Rattle.cov_grammar.specs.Designs.{Written, with_formal, last_is_ref, is_ref_or, formal, formal_list, formals, edge, edge_kind, edge_or_any, argument, argument_list, argument_parens, sampling, members, group_end, group};
 
 use crate::crosses::cross;
 use crate::declarations::maybe_value;
@@ -31,7 +31,7 @@ pub(crate) fn group(
     let (covergroup, at) = word(tokens, place, Kind::CovergroupWord)?;
     let (token, at) = word(tokens, at, Kind::Ident)?;
     let (formals, at) = formals(alloc, text, tokens, at, room)?;
-    let (event, at) = event(alloc, text, tokens, at, room)?;
+    let ((event, args), at) = sampling(alloc, text, tokens, at, room)?;
     let (_, at) = word(tokens, at, Kind::Semi)?;
     let (members, at) = members(alloc, text, tokens, at, room)?;
     let (_, after) = group_end(text, tokens, token, at)?;
@@ -41,7 +41,7 @@ pub(crate) fn group(
         name,
         formals,
         event,
-        args: List::new(alloc),
+        args,
         members,
         at: covergroup.at,
     })?;
@@ -61,13 +61,27 @@ fn group_end(
     let Some((_, next)) = take(tokens, at, &[Kind::Colon]) else {
         return Ok((None, at));
     };
-    let Some((label, after)) = take(tokens, next, &[Kind::Ident]) else {
-        return Err(Stop::Syntax(next.at));
-    };
-    if spelled(text, label) != spelled(text, name) {
-        return Err(Stop::Syntax(next.at));
-    }
+    let (label, after) = same_word(text, tokens, next, Kind::Ident, spelled(text, name))?;
     Ok((Some(label), after))
+}
+
+/// The token of this kind at this place, which has this text.
+fn same_word(
+    text: &[u8],
+    tokens: &[Marked],
+    place: Place,
+    kind: Kind,
+    spelling: &[u8],
+) -> Result<(Marked, Place), Stop>
+    ensures { (r : Room) → Parses (λ _. same_word text.now tokens.now kind spelling.now) r place result }
+{
+    let Some((token, after)) = take(tokens, place, &[kind]) else {
+        return Err(Stop::Syntax(place.at));
+    };
+    if spelled(text, token) != spelling {
+        return Err(Stop::Syntax(place.at));
+    }
+    Ok((token, after))
 }
 
 /// Formals in parentheses, or nothing.
@@ -151,7 +165,117 @@ fn direction(tokens: &[Marked], place: Place, by_ref: bool) -> (bool, Place)
     }
 }
 
-/// A coverage event, or nothing.
+/// The parts of a coverage event, or the arguments of a sample function (19.8.1), or nothing.
+fn sampling(
+    alloc: Global,
+    text: &[u8],
+    tokens: &[Marked],
+    place: Place,
+    room: Room,
+) -> Result<((List<EdgeText>, List<Formal>), Place), Stop>
+    ensures { Parses (sampling text.now tokens.now) room place result }
+{
+    if let Some((_, next)) = take(tokens, place, &[Kind::AtSign]) {
+        let (edges, after) = event(alloc, text, tokens, next, room)?;
+        return Ok(((edges, List::of(Vec::new(alloc))), after));
+    }
+    if let Some((_, next)) = take(tokens, place, &[Kind::WithWord]) {
+        let (args, after) = sample_function(alloc, text, tokens, next, room)?;
+        return Ok(((List::of(Vec::new(alloc)), args), after));
+    }
+    let nothing = (List::of(Vec::new(alloc)), List::of(Vec::new(alloc)));
+    Ok((nothing, place))
+}
+
+/// The arguments of a sample function, behind its `with`.
+fn sample_function(
+    alloc: Global,
+    text: &[u8],
+    tokens: &[Marked],
+    place: Place,
+    room: Room,
+) -> Result<(List<Formal>, Place), Stop>
+    ensures { Parses (λ r. same_word text.now tokens.now OtherWord (codes "function") ▸ same_word text.now tokens.now Ident (codes "sample") ▸ argument_parens text.now tokens.now r) room place result }
+{
+    let (_, named) = same_word(text, tokens, place, Kind::OtherWord, b"function")?;
+    let (_, opened) = same_word(text, tokens, named, Kind::Ident, b"sample")?;
+    argument_parens(alloc, text, tokens, opened, room)
+}
+
+/// Arguments of a sample function in parentheses.
+fn argument_parens(
+    alloc: Global,
+    text: &[u8],
+    tokens: &[Marked],
+    place: Place,
+    room: Room,
+) -> Result<(List<Formal>, Place), Stop>
+    ensures { Parses (argument_parens text.now tokens.now) room place result }
+{
+    let (_, next) = word(tokens, place, Kind::OpenParen)?;
+    if let Some((_, after)) = take(tokens, next, &[Kind::CloseParen]) {
+        return Ok((List::of(Vec::new(alloc)), after));
+    }
+    let (args, at) = arguments(alloc, text, tokens, next, room)?;
+    let (_, after) = word(tokens, at, Kind::CloseParen)?;
+    Ok((args, after))
+}
+
+/// Arguments of a sample function with commas between them.
+fn arguments(
+    alloc: Global,
+    text: &[u8],
+    tokens: &[Marked],
+    place: Place,
+    room: Room,
+) -> Result<(List<Formal>, Place), Stop>
+    ensures { Parses (argument_list text.now tokens.now) room place result }
+{
+    let mut args = Vec::new(alloc);
+    let (first, mut at) = argument(alloc, text, tokens, place, room)?;
+    args.push(first)?;
+    while let Some((_, next)) = take(tokens, at, &[Kind::Comma]) {
+        let (arg, after) = argument(alloc, text, tokens, next, room)?;
+        args.push(arg)?;
+        at = after;
+    }
+    Ok((List::of(args), at))
+}
+
+/// An argument of a sample function. It is `input`, whether it says so or not.
+fn argument(
+    alloc: Global,
+    text: &[u8],
+    tokens: &[Marked],
+    place: Place,
+    room: Room,
+) -> Result<(Formal, Place), Stop>
+    ensures { Parses (argument text.now tokens.now) room place result }
+{
+    let start = start_at(tokens, place.at);
+    let (typ, at) = type_text(alloc, text, tokens, behind_input(tokens, place), room)?;
+    let (name, after) = ident(alloc, text, tokens, at)?;
+    let arg = Formal {
+        by_ref: false,
+        typ,
+        name,
+        default: None,
+        at: start,
+    };
+    Ok((arg, after))
+}
+
+/// The place behind `input`, where it stands.
+fn behind_input(tokens: &[Marked], place: Place) -> Place
+    ensures { (r : Room) → (t : Option Marked) × Reads (λ _. maybe (word tokens.now InputWord)) r place t result }
+{
+    match take(tokens, place, &[Kind::InputWord]) {
+        Some((_, next)) => next,
+        None => place,
+    }
+}
+
+/// The parts of a coverage event in parentheses, behind its `@`.
 fn event(
     alloc: Global,
     text: &[u8],
@@ -159,12 +283,9 @@ fn event(
     place: Place,
     room: Room,
 ) -> Result<(List<EdgeText>, Place), Stop>
-    ensures { Parses (λ r. map_to list_or (maybe (event text.now tokens.now r))) room place result }
+    ensures { Parses (λ r. word tokens.now OpenParen ▸ fold snoc (map_to (λ x. x ∷ []) (edge text.now tokens.now r)) (one tokens.now (OrWord ∷ Comma ∷ []) ▸ edge text.now tokens.now r) ◂ word tokens.now CloseParen) room place result }
 {
-    let Some((_, next)) = take(tokens, place, &[Kind::AtSign]) else {
-        return Ok((List::of(Vec::new(alloc)), place));
-    };
-    let (_, at) = word(tokens, next, Kind::OpenParen)?;
+    let (_, at) = word(tokens, place, Kind::OpenParen)?;
     let (edges, at) = edges(alloc, text, tokens, at, room)?;
     let (_, after) = word(tokens, at, Kind::CloseParen)?;
     Ok((edges, after))

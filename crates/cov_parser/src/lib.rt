@@ -21,6 +21,3 @@ mod types;
 
 pub use fault::ParseFault;
 pub use parsing::parse;
-
-#[cfg(test)]
-mod tests;

@@ -1,5 +1,5 @@
 -- Names of one scope are distinct, and constants are numbers of their base.
-use Rattle.std.proofs.Common.{◌≡◌, ◌∙◌, ℕ, List, [], ◌∷◌, ◌++◌, refl, sym, ap, subst, Bool, true, false, cond, Option, Some, None, Result, Ok}
+use Rattle.std.proofs.Common.{◌≡◌, ℕ, List, [], ◌∷◌, ◌++◌, refl, sym, ap, subst, true, false, cond, Option, Some, None, Ok}
 use Rattle.std.specs.Prelude.{ℤ, is_some, not, ◌&&◌, nat_lt, length, slice_get}
 use Rattle.std.specs.List.{AllByRecursion, list_any}
 use Rattle.std.specs.Ordering.{int_eq}
@@ -11,16 +11,13 @@ use Rattle.cov_tree.specs.declared.groups.Formal.{Formal}
 use Rattle.cov_tree.specs.declared.declarations.TypeText.{TypeText}
 use Rattle.const_eval.specs.declared.typs.Typ.{Typ}
 use Rattle.elab_base.specs.declared.fault.ElabKind.TheVariants as kind
-use Rattle.elab_base.specs.declared.names.What.{What}
 use Rattle.elab_base.specs.declared.names.What.TheVariants as what
-use Rattle.elab_base.specs.Gives.{needs, each}
+use Rattle.elab_base.specs.Gives.{needs}
 use Rattle.elab_base.specs.Steps.{unused}
 use Rattle.elab_base.proofs.Keeps.{bind_ok, ok_is, each_keeps, needs_ok, and_first, all_push}
 use Rattle.elab_decls.specs.declared.outside.Outside.{Outside}
 use Rattle.elab_decls.specs.declared.outside.Enumeration.{Enumeration}
-use Rattle.elab_decls.specs.declared.outside.Shape.{Shape}
 use Rattle.elab_decls.specs.declared.formals.Formals.{Formals}
-use Rattle.elab_decls.specs.declared.constants.Constants.{Constants}
 use Rattle.elab_decls.specs.Shapes.{is_number, shape_of}
 use Rattle.elab_decls.specs.Enumerations.{Naming, value_in, valued, known_constant, with_constant, constant, no_constants, constants_walked, base_shape, type_named, with_enumeration, enumeration}
 use Rattle.elab_decls.specs.Variables.{with_signal, variable}

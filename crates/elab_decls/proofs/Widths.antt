@@ -55,7 +55,7 @@ named_width outside (Some (what.Variable enumeration)) at shape e = absurd cc
 named_width outside (Some (what.Group text group)) at shape e = absurd cc
 named_width outside (Some what.Instance) at shape e = absurd cc
 named_width outside (Some (what.Formal by_ref enumeration)) at shape e = absurd cc
-named_width outside (Some what.Item) at shape e = absurd cc
+named_width outside (Some (what.Item index)) at shape e = absurd cc
 named_width outside (Some what.Bin) at shape e = absurd cc
 named_width outside None at shape e = absurd cc
 

@@ -1,5 +1,5 @@
 -- Words of the laws of declarations.
-use Rattle.std.specs.Prelude.{◌≡◌, ℕ, ℤ, List, [], ◌∷◌, ◌++◌, true, None}
+use Rattle.std.specs.Prelude.{◌≡◌, [], ◌∷◌, ◌++◌, true, None}
 use Rattle.std.specs.List.{AllByRecursion}
 use Rattle.name_map.specs.Names.{Pairs, meaning_of}
 use Rattle.elab_decls.specs.declared.outside.Enumeration.{Enumeration}

@@ -42,11 +42,15 @@ abbrev pub set_as : Result (Unit {0}) OptFault → Options → ℕ → Result Op
 set_as (Ok done) options at = Ok options
 set_as (Err fault) options at = Err (kind_of fault, at)
 
+-- the options after one was set to a value, where it may be
+abbrev pub value_set : Level → OptDecl → OptValue → Options → Result Options Refusal
+value_set level o value options = set_as (answer options o.on_type level o.name value) (after options o.on_type level o.name value) o.at
+
 -- an option of a group, a point or a cross: its value, and then whether it may be set to that
 unfoldable pub option_set : Level → Levels → OptDecl → Options → Result Options Refusal
 option_set level levels o options = do
   value ← value_of (seen_by o.on_type levels) o.value
-  set_as (answer options o.on_type level o.name value) (after options o.on_type level o.name value) o.at
+  value_set level o value options
 
 -- the options of a point or a cross, from the left
 unfoldable pub options_set : Level → Levels → List OptDecl → Options → Result Options Refusal

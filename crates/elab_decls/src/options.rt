@@ -1,9 +1,8 @@
 //! Options where they stand.
 ghost use Rattle.std.specs.Prelude.{◌≡◌, []};
-ghost use Rattle.cov_options.specs.Table.{answer, after};
 ghost use Rattle.elab_base.specs.Gives.{Gives, Makes, each};
 ghost use Rattle.elab_base.specs.Steps.{number_in as number_meant};
-ghost use Rattle.elab_decls.specs.Options.{seen_by, value_of as value_meant, kind_of as kind_meant, set_as, option_set, options_set, member_set, group_options, point_defaults as defaults_of_point, cross_defaults as defaults_of_cross};
+ghost use Rattle.elab_decls.specs.Options.{seen_by, value_of as value_meant, kind_of as kind_meant, value_set, option_set, options_set, member_set, group_options, point_defaults as defaults_of_point, cross_defaults as defaults_of_cross};
 
 use const_eval::Scope;
 use cov_base::Int;
@@ -73,7 +72,7 @@ fn set_value(
     value: OptValue,
     options: &mut Options,
 ) -> Result<(), ElabFault>
-    ensures { Makes result options.new (set_as (answer options.old option.now.on_type level option.now.name value) (after options.old option.now.on_type level option.now.name value) option.now.at) }
+    ensures { Makes result options.new (value_set level option.now value options.old) }
 {
     match options.set(option.on_type, level, option.name.as_slice(), value) {
         Ok(()) => Ok(()),

@@ -1,14 +1,14 @@
 -- What filters keep of numbers and of sets.
-use Rattle.std.proofs.Common.{◌≡◌, ◌∙◌, ℕ, ◌<◌, ◌≤◌, ℤ, List, [], ◌∷◌, length, map, filter, refl, ap, sym, arith, Bool, true, false, Option, Some, None, Result, Ok, Err}
+use Rattle.std.proofs.Common.{◌≡◌, ◌∙◌, ℕ, ◌<◌, ◌≤◌, ℤ, List, [], ◌∷◌, length, map, filter, refl, ap, sym, arith, Bool, true, false, Some, Result, Ok, Err}
 use Rattle.std.specs.Prelude.{nat_le, IfOk, ◌&&◌}
 use Rattle.std.specs.List.{AllByRecursion}
 use Rattle.cov_ground.specs.Limits.{most_values}
-use Rattle.cov_base.specs.Sets.{written, set_of, is_in, covers}
+use Rattle.cov_base.specs.Sets.{written, set_of}
 use Rattle.cov_base.proofs.Members.{is_in-filter}
 use Rattle.cov_base.proofs.Runs.{set_of_normal, set_of_covers, set_of_is, set_of_numbers}
 use Rattle.const_eval.specs.Terms.{Term}
 use Rattle.elab_base.specs.declared.fault.ElabKind.TheVariants as kind
-use Rattle.elab_base.specs.Gives.{Refusal, ◌>>=◌, needs}
+use Rattle.elab_base.specs.Gives.{needs}
 use Rattle.elab_values.specs.declared.elements.Listed.{Listed}
 use Rattle.elab_values.specs.Listed.{IsListed}
 use Rattle.elab_points.specs.Declarations.{whole_elements}

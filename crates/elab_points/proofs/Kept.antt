@@ -1,5 +1,5 @@
 -- What is known of the bins of a point: there are no more than an item may have, and each has something left.
-use Rattle.std.proofs.Common.{◌≡◌, ◌∙◌, ℕ, zero, suc, ◌+◌, ◌≤◌, ℤ, List, [], ◌∷◌, ◌++◌, length, map, filter, refl, sym, ap, subst, Bool, true, false, cond, arith, Option, Some, None, Result, Ok, Err}
+use Rattle.std.proofs.Common.{◌≡◌, ◌∙◌, ℕ, zero, suc, ◌+◌, ◌≤◌, ℤ, List, [], ◌∷◌, ◌++◌, length, map, filter, refl, ap, subst, Bool, true, false, arith, Option, Some, None, Ok}
 use Rattle.std.specs.Prelude.{nat_le, int_lt, if◌then◌else◌}
 use Rattle.std.specs.List.{AllByRecursion}
 use Rattle.std.proofs.lemmas.List.{length-append, length_push}
@@ -21,7 +21,7 @@ use Rattle.trans_seq.specs.Cells.{cells_of_seqs}
 use Rattle.design_data.specs.declared.infos.BinRule.TheVariants.{Default}
 use Rattle.elab_base.specs.declared.fault.ElabKind.TheVariants as kind
 use Rattle.elab_base.specs.Gives.{needs, each_at}
-use Rattle.elab_base.specs.Steps.{unused, guard_in}
+use Rattle.elab_base.specs.Steps.{guard_in}
 use Rattle.elab_base.proofs.Keeps.{bind_ok, ok_is, each_keeps, needs_ok, all_append}
 use Rattle.elab_values.specs.declared.domain.Domain.{Domain}
 use Rattle.elab_values.specs.declared.elements.Listed.{Listed}
@@ -47,7 +47,7 @@ use Rattle.elab_points.specs.Transitions.{before, seqs_kept, trans_listed, trans
 use Rattle.elab_points.proofs.Rooms.{trans_room, default_room}
 use Rattle.elab_points.proofs.Sequences.{KnownMade, AreKnown, MadeHasSeq, walked_known, undeclared_known, filled_known, by_known, seqs_left}
 use Rattle.elab_points.specs.Made.{wanted_in, bins_wanted, plan_of, planned, plan_bins, named_bin, single, part_bins, parts_kept, bins_made}
-use Rattle.elab_points.specs.Rest.{unlisted, rest_bin, entry_bins, all_bins, entry_counted, entries_counted, all_filled}
+use Rattle.elab_points.specs.Rest.{unlisted, rest_bin, all_bins, entry_counted, entries_counted, all_filled}
 
 -- ---- how many bins a declaration makes
 

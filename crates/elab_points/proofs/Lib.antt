@@ -4,3 +4,4 @@ pub mod Removal
 pub mod Rooms
 pub mod Sequences
 pub mod Kept
+pub mod Tracked

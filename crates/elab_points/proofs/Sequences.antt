@@ -40,6 +40,7 @@ use Rattle.elab_values.specs.declared.elements.Listed.{Listed}
 use Rattle.elab_values.specs.declared.made.Made.{Made}
 use Rattle.elab_values.specs.declared.made.Settings.{Settings}
 use Rattle.elab_values.specs.Listed.{numbers_listed}
+use Rattle.elab_transitions.specs.declared.plans.Before.{Before}
 use Rattle.elab_transitions.specs.declared.bins.TransBins.{TransBins}
 use Rattle.elab_transitions.specs.Bins.{is_array, list_bin, made_bin, default_bin_of, trans_bins_of, removed_by}
 use Rattle.elab_transitions.specs.Bins as trans
@@ -119,6 +120,18 @@ made_trans : (b : BinsDecl) (declared : ℕ) (array : Bool) (guard : Option Term
 unfolding trans.bins_made
 made_trans b declared false guard seqs = (record { place = refl; seqs = seqs; rule = refl }, tt)
 made_trans b declared true guard seqs = lists_trans b declared guard (listed_by_all seqs)
+
+pub trans_are : (levels : Levels) (domain : Domain) (b : BinsDecl) (sequences : List (List Step)) (before : Before) (made : TransBins) → trans_bins_of levels domain b sequences before ≡ Ok made → AllByRecursion (IsTrans before.declared) made.bins
+trans_are levels domain b sequences before made e =
+    let of = made_of levels domain b sequences before made e in
+    subst (AllByRecursion (IsTrans before.declared)) of.bins (made_trans b before.declared (is_array b.size) of.guard of.seqs)
+
+pub default_is : (levels : Levels) (b : BinsDecl) (before : Before) (made : Made) → default_bin_of levels b before ≡ Ok made → made.bin.rule ≡ DefaultSequence
+unfolding default_bin_of
+default_is levels b before made e =
+    let g = bind_ok (guard_in levels b.guard) _ made e in
+    let n = bind_ok (needs (nat_le (before.bins + 1) most_bins) kind.TooManyBins b.at) _ made g.2 in
+    ap (λ (m : Made). m.bin.rule) (sym (ok_is _ made n.2))
 
 -- a bin of transitions has a sequence left where it is left
 abbrev LeavesSeq : (array : Bool) → Made → Type 0
@@ -200,12 +213,10 @@ declared_default bs levels b w t e h =
     sized_next bs b.size (head_of b (default_kind b.word) g.0 w) w t g.2 h
 
 default_sequence_next : (bs : List BinsDecl) (levels : Levels) (b : BinsDecl) (w t : Walked) → default_sequence_declared levels b w ≡ Ok t → AreKnown bs w → IsNext bs w t
-unfolding default_sequence_declared default_bin_of
+unfolding default_sequence_declared
 default_sequence_next bs levels b w t e h =
     let m = bind_ok (default_bin_of levels b (before w)) _ t e in
-    let g = bind_ok (guard_in levels b.guard) _ m.0 m.1 in
-    let n = bind_ok (needs (nat_le (w.count + 1) most_bins) kind.TooManyBins b.at) _ m.0 g.2 in
-    let one : KnownMade bs m.0 = subst (KnownMade bs) (ok_is _ m.0 n.2) tt in
+    let one = subst (IsKnown (in_array bs m.0.declared) m.0.bin.kind) (sym (default_is levels b (before w) m.0 m.1)) tt in
     subst (IsNext bs w) (ok_is _ t m.2) (made_next bs b.name m.0 w one h)
 
 joined : (first rest : List Seq) → cells_of_seqs (first ++ rest) ≡ cells_of_seqs first + cells_of_seqs rest
@@ -239,7 +250,7 @@ trans_next bs levels domain b sequences w t e is h =
     let m = bind_ok (trans_bins_of levels domain b sequences (before w)) _ t e in
     let of = made_of levels domain b sequences (before w) m.0 m.1 in
     let within = is_within_limits levels domain b sequences (before w) m.0 m.1 in
-    let all = subst (AllByRecursion (IsTrans (length w.names))) of.bins (made_trans b (length w.names) (is_array b.size) of.guard of.seqs) in
+    let all = trans_are levels domain b sequences (before w) m.0 m.1 in
     let new = trans_known bs (is_array b.size) (length w.names) is m.0.bins all within.short (λ made inside ignored illegal left. has_seq levels domain b sequences (before w) m.0 made ignored illegal m.1 inside left) in
     let listed = trans_listed b.name m.0 w in
     let count = length_push w.names b.name in

@@ -1,8 +1,7 @@
 -- Too many numbers for a bin each.
-use Rattle.std.proofs.Common.{◌≡◌, ℕ, ◌+◌, ◌<◌, ℤ, List, length, arith, refl, Err, false}
+use Rattle.std.proofs.Common.{◌≡◌, ℕ, ◌+◌, ◌<◌, arith, refl, Err, false}
 use Rattle.std.specs.Prelude.{nat_le}
 use Rattle.cov_ground.specs.Limits.{most_bins}
-use Rattle.cov_base.specs.Sets.{ascending}
 use Rattle.elab_base.specs.declared.fault.ElabKind.TheVariants as kind
 use Rattle.elab_base.specs.Gives.{needs}
 

@@ -1,5 +1,5 @@
 -- Which bins of a point are built: all but the literals with x, z or ? of scalar bins and of filtered ones.
-use Rattle.std.specs.Prelude.{Bool, true, false, Option, Some, None, if◌then◌else◌}
+use Rattle.std.specs.Prelude.{Bool, true, false, Some, None, if◌then◌else◌}
 use Rattle.cov_tree.specs.declared.bins.Right.{Right}
 use Rattle.cov_tree.specs.declared.bins.Right.TheVariants as rights
 use Rattle.cov_tree.specs.declared.bins.Size.{Size}

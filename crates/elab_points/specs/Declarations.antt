@@ -1,9 +1,9 @@
 -- The declarations of bins of a point, in order, before anything is removed (IEEE 1800-2017, 19.5).
-use Rattle.std.specs.Prelude.{ℕ, ◌+◌, ℤ, List, [], ◌∷◌, ◌++◌, length, map, Bool, true, false, nat_le, nat_eq, Option, Some, None, Result, Ok, Err, if◌then◌else◌}
+use Rattle.std.specs.Prelude.{ℕ, ◌+◌, ℤ, List, [], ◌∷◌, ◌++◌, length, map, Bool, true, false, nat_le, nat_eq, Option, Some, Result, Ok, Err, if◌then◌else◌}
 use Rattle.std.specs.Cmp.Lexicographic.{pointwise}
 use Rattle.cov_ground.specs.Limits.{most_bins}
 use Rattle.name_map.specs.Names.{with_name}
-use Rattle.cov_base.specs.Sets.{written, set_of}
+use Rattle.cov_base.specs.Sets.{set_of}
 use Rattle.cov_tree.specs.declared.bins.Right.{Right}
 use Rattle.cov_tree.specs.declared.bins.Right.TheVariants as rights
 use Rattle.cov_tree.specs.declared.bins.Size.{Size}
@@ -26,11 +26,9 @@ use Rattle.elab_values.specs.declared.elements.Listed.{Listed}
 use Rattle.elab_values.specs.declared.elements.Listed.TheVariants.{Range}
 use Rattle.elab_values.specs.declared.made.Made.{Made}
 use Rattle.elab_values.specs.Listed.{listed_in, numbers_listed}
-use Rattle.elab_points.specs.declared.declared.Entry.{Entry}
 use Rattle.elab_points.specs.declared.declared.Entry.TheVariants.{Bin, Rest}
 use Rattle.elab_points.specs.declared.declared.Walked.{Walked}
 use Rattle.elab_points.specs.declared.made.Head.{Head}
-use Rattle.elab_points.specs.declared.made.Plan.{Plan}
 use Rattle.elab_points.specs.declared.made.Wanted.{Wanted}
 use Rattle.elab_points.specs.Built.{is_built_decl}
 use Rattle.elab_points.specs.Filter.{keep_of, filter_in, kept_numbers}

@@ -1,5 +1,5 @@
 -- Filters of listed numbers (`with`, IEEE 1800-2017, 19.5.1.1).
-use Rattle.std.specs.Prelude.{ℕ, ℤ, pos, List, [], length, filter, Bool, true, false, not, nat_le, Option, Some, None, Result, Ok, Err}
+use Rattle.std.specs.Prelude.{ℕ, ℤ, pos, List, [], length, filter, Bool, false, not, nat_le, Option, Some, None, Result, Ok, Err}
 use Rattle.std.specs.Ordering.{int_eq}
 use Rattle.cov_ground.specs.Limits.{most_values}
 use Rattle.cov_tree.specs.declared.expr.Expr.{Expr}

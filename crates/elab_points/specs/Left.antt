@@ -1,5 +1,5 @@
 -- What removal leaves of the bins of a point (IEEE 1800-2017, 19.5.5 and 19.5.6).
-use Rattle.std.specs.Prelude.{ℕ, ℤ, List, [], ◌∷◌, ◌++◌, length, Bool, true, false, not, ◌==◌, Result, Ok, Err, if◌then◌else◌}
+use Rattle.std.specs.Prelude.{ℕ, ℤ, List, [], ◌∷◌, ◌++◌, length, Bool, true, not, ◌==◌, Result, Ok, if◌then◌else◌}
 use Rattle.std.specs.List.{flat_map}
 use Rattle.cov_base.specs.Sets.{written, set_of, without}
 use Rattle.cov_tree.specs.declared.bins.BinsDecl.{BinsDecl}

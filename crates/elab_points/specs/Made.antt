@@ -1,6 +1,6 @@
 -- The bins of one declaration: one of all listed numbers, one of each, or so many over which they are spread
 -- (IEEE 1800-2017, 19.5.1).
-use Rattle.std.specs.Prelude.{ℕ, ◌+◌, ◌≤◌, nat_le, ℤ, pos, int_le, unsigned_abs, List, [], ◌∷◌, ◌++◌, length, map, filter, Bool, Option, Some, None, Result, Ok, Err, if◌then◌else◌}
+use Rattle.std.specs.Prelude.{ℕ, ◌+◌, ◌≤◌, nat_le, ℤ, pos, int_le, unsigned_abs, List, [], ◌∷◌, ◌++◌, length, map, filter, Bool, Option, Some, None, Result, Ok, if◌then◌else◌}
 use Rattle.std.specs.Fmt.{decimal, signed_decimal}
 use Rattle.cov_ground.specs.Limits.{most_bins}
 use Rattle.cov_base.specs.Sets.{written, set_of, ascending}

@@ -1,5 +1,5 @@
 -- The bins of arrays of `default` (IEEE 1800-2017, 19.5): one for each number of the point that is listed nowhere.
-use Rattle.std.specs.Prelude.{ℕ, ◌+◌, ℤ, List, [], ◌∷◌, length, map, nat_le, Result, Ok, Err}
+use Rattle.std.specs.Prelude.{ℕ, ◌+◌, ℤ, List, [], ◌∷◌, length, map, nat_le, Result, Ok}
 use Rattle.std.specs.List.{flat_map}
 use Rattle.std.specs.Fmt.{signed_decimal}
 use Rattle.cov_ground.specs.Limits.{most_bins}

@@ -173,7 +173,13 @@ fn elements(
     ensures widths { IfOk result (λ elements. AllByRecursion IsListed elements) }
 {
     match right {
-        Right::Ranges { elems, .. } => elements_of(alloc, scope, domain, wildcard, elems.as_slice()),
+        Right::Ranges { elems, .. } => elements_of(
+            alloc,
+            scope,
+            domain,
+            wildcard,
+            elems.as_slice(),
+        ),
         Right::Whole { .. } => Ok(whole(alloc, domain.numbers.intervals())?),
         Right::Trans(_) => Ok(List::new(alloc)),
         Right::Default => Ok(List::new(alloc)),
@@ -247,12 +253,7 @@ pub(crate) fn keep_bins(bins: Vec<Made>, entries: &mut List<Entry>) -> Result<()
 }
 
 /// Adds what a declaration lists and removes.
-fn keep_sets(
-    alloc: Global,
-    kind: BinKind,
-    kept: &Elems,
-    walked: &mut Walked,
-) -> Result<(), Memory>
+fn keep_sets(alloc: Global, kind: BinKind, kept: &Elems, walked: &mut Walked) -> Result<(), Memory>
     ensures { OnOk result (walked.new ≡ record walked.old { listed = with_set true walked.old.listed (written kept.now); ignored = with_set (is_ignore kind) walked.old.ignored (written kept.now); illegal = with_set (is_illegal kind) walked.old.illegal (written kept.now) }) }
 {
     add_set(alloc, true, kept, &mut walked.listed)?;
@@ -321,7 +322,9 @@ fn bin_elements(
     let wanted = size_of(alloc, scope, &decl.size, decl.at)?;
     let guard = guard_in(alloc, scope, &decl.guard)?;
     let head = head(alloc, decl, kind_of(&decl.word), guard, walked)?;
-    bin_values(alloc, domain, distribute, &keep, wanted, elements, &head, walked)?;
+    bin_values(
+        alloc, domain, distribute, &keep, wanted, elements, &head, walked,
+    )?;
     Ok(())
 }
 
@@ -337,7 +340,15 @@ fn declare_values(
     ensures { Makes result walked.new (values_declared scope.now domain.now distribute decl.now walked.old) }
 {
     let elements = elements(alloc, scope, domain, decl.wildcard, &decl.right)?;
-    bin_elements(alloc, scope, domain, distribute, decl, elements.as_slice(), walked)?;
+    bin_elements(
+        alloc,
+        scope,
+        domain,
+        distribute,
+        decl,
+        elements.as_slice(),
+        walked,
+    )?;
     Ok(())
 }
 
@@ -371,12 +382,7 @@ fn add_default(alloc: Global, head: &Head, walked: &mut Walked) -> Result<(), El
     Ok(())
 }
 
-fn add_sized(
-    alloc: Global,
-    size: &Size,
-    head: Head,
-    walked: &mut Walked,
-) -> Result<(), ElabFault>
+fn add_sized(alloc: Global, size: &Size, head: Head, walked: &mut Walked) -> Result<(), ElabFault>
     ensures { Makes result walked.new (default_sized size.now head walked.old) }
 {
     match size {

@@ -63,7 +63,10 @@ pub(crate) fn filter_of(
     ensures { Gives result (filter_in scope.now typ (keep_in right.now)) }
 {
     match right {
-        Right::Ranges { keep: Some(expr), .. } => {
+        Right::Ranges {
+            keep: Some(expr),
+            ..
+        } => {
             let term = condition(alloc, scope, typ, expr)?;
             Ok(Some(term))
         }

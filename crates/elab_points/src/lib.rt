@@ -6,6 +6,7 @@ mod auto;
 mod built;
 mod declared;
 mod filter;
+pub mod laws;
 mod left;
 mod made;
 mod rest;

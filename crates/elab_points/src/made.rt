@@ -171,12 +171,7 @@ pub(crate) fn indexed_name(alloc: Global, name: &Name, index: &[u8]) -> Result<N
 }
 
 /// A bin of a declaration, or an automatic one.
-pub(crate) fn bin_of(
-    alloc: Global,
-    head: &Head,
-    name: Name,
-    rule: BinRule,
-) -> Result<Made, Memory>
+pub(crate) fn bin_of(alloc: Global, head: &Head, name: Name, rule: BinRule) -> Result<Made, Memory>
     ensures { IfOk result (λ made. made ≡ named_bin head.now name rule) }
 {
     let guard = copy_guard(alloc, &head.guard)?;

@@ -73,12 +73,7 @@ fn wildcard_kind(wildcard: bool, kind: ElabKind) -> ElabKind
 }
 
 /// The number of an expression among the elements of a bin.
-fn number(
-    alloc: Global,
-    scope: &Scope,
-    wildcard: bool,
-    expr: &Expr,
-) -> Result<Int, ElabFault>
+fn number(alloc: Global, scope: &Scope, wildcard: bool, expr: &Expr) -> Result<Int, ElabFault>
     ensures { Gives result (element_number scope.now wildcard expr.now) }
 {
     match number_in(alloc, scope, expr) {
@@ -105,12 +100,7 @@ fn end(
 }
 
 #[tactic(auto, unfolding(crate::specs::Listed::listed_one))]
-fn one(
-    alloc: Global,
-    scope: &Scope,
-    wildcard: bool,
-    expr: &Expr,
-) -> Result<Listed, ElabFault>
+fn one(alloc: Global, scope: &Scope, wildcard: bool, expr: &Expr) -> Result<Listed, ElabFault>
     ensures { Gives result (listed_one scope.now wildcard expr.now) }
 {
     match element_pattern(wildcard, expr) {

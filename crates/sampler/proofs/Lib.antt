@@ -1,1 +1,4 @@
 pub mod Tables
+pub mod Items
+pub mod Walks
+pub mod Starts

@@ -1,1 +1,6 @@
 pub mod Shape
+pub mod Values
+pub mod Standing
+pub mod Plans
+pub mod Starting
+pub mod Preparing

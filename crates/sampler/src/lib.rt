@@ -1,6 +1,19 @@
-//! Records beside designs: whether a record's tables are those of a design.
+//! Records under designs: whether a record's tables are those of a design, and how often each bin of the design is hit in
+//! the record.
 #![tactic(auto)]
 
+mod binning;
+mod instance;
+mod plan;
+mod planning;
+mod prepared;
 mod shape;
+mod starting;
+mod values;
+mod walking;
 
+pub use binning::{bin_record, bin_record_under, counts_under};
+pub use instance::ItemState;
+pub use plan::{InstPlan, ItemPlan, Plan};
+pub use prepared::{Prepared, prepare};
 pub use shape::{WrongShape, shape_fits};

@@ -80,10 +80,7 @@ pub enum Answer {
     Rows { total: u32, rows: List<CountRow> },
     CoverageIs(CoverRow),
     /// How many tests there are, and some of them.
-    TestRows {
-        total: u32,
-        rows: List<HistoryNode>,
-    },
+    TestRows { total: u32, rows: List<HistoryNode> },
     RankRows(List<Ranked>),
     PathIs(Name),
     /// What was asked for is done.
@@ -93,11 +90,7 @@ pub enum Answer {
     /// The test's id is kept with other content, of this SHA-256.
     IdTaken { digest: [u8; 32] },
     /// A limit is passed: the amount now, and the one afterwards.
-    Full {
-        which: Which,
-        have: u64,
-        want: u64,
-    },
+    Full { which: Which, have: u64, want: u64 },
     NoSuchPath,
     AlreadyExcluded,
     NotExcluded,

@@ -12,5 +12,5 @@ mod paths;
 
 pub use answers::{Answer, Answered, CountRow, CoverRow, HistoryKind, HistoryNode, Which};
 pub use building::tree;
-pub use node::{Node, NodeKind};
 pub use index::Tree;
+pub use node::{Node, NodeKind};

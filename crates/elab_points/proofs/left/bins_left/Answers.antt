@@ -1,4 +1,4 @@
-use Rattle.std.proofs.Common.{◌≡◌, ap, sym, ◌∙◌, List, ◌++◌}
+use Rattle.std.proofs.Common.{ap, sym, ◌∙◌, List, ◌++◌}
 use Rattle.elab_values.specs.declared.made.Made.{Made}
 use Rattle.elab_points.specs.Left.{bins_left, left_of}
 use Rattle.elab_points.proofs.Removal.{left_more}

@@ -1,4 +1,3 @@
-use Rattle.std.proofs.Common.{◌≡◌, refl}
 use Rattle.elab_points.specs.Rest.{all_bins}
 use Rattle.elab_points.proofs.Removal.{bins_more}
 use Rattle.elab_points.proofs.rest.all_bins.Goals as goal

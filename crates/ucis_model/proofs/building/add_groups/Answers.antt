@@ -4,10 +4,11 @@ use Rattle.ucis_model.proofs.building.add_groups.Goals as goal
 
 pub loop-place-preserved : goal.loop-place-preserved
 loop-place-preserved c =
-    let inv = c.loop-place.invariant in
-    (more_groups _ _ _ _ _ _ _ _ _ c.loop-place-test.true c.index-groups-place.is c.in_ok-add_group.ensures c.bins_of_group-bins.ensures inv.0,
-    groups_counted _ _ _ _ _ _ _ c.loop-place-test.true c.index-groups-place.is c.bins_of_group-bins.ensures inv.1,
-    still_group _ _ _ _ _ c.in_ok-add_group.ensures inv.2)
+    let inv = c.loop-place.invariant in (
+      more_groups _ _ _ _ _ _ _ _ _ c.loop-place-test.true c.index-groups-place.is c.in_ok-add_group.ensures c.bins_of_group-bins.ensures inv.0,
+      groups_counted _ _ _ _ _ _ _ c.loop-place-test.true c.index-groups-place.is c.bins_of_group-bins.ensures inv.1,
+      still_group _ _ _ _ _ c.in_ok-add_group.ensures inv.2,
+    )
 
 pub bins_of_group-bins-requires : goal.bins_of_group-bins-requires
 bins_of_group-bins-requires c =

@@ -1,0 +1,5 @@
+pub mod Marks
+pub mod Radix
+pub mod Bins
+pub mod Among
+pub mod Hits

@@ -1,0 +1,4 @@
+pub mod Once
+pub mod Numbers
+pub mod Plans
+pub mod Standing

@@ -1,0 +1,26 @@
+//! What is worked out of a cross once for a design.
+
+use cov_tree::List;
+
+/// What is worked out of a cross once for a design. It serves any number of records.
+#[derive(Drop, Debug)]
+pub struct CrossPlan {
+    /// How many coverage bins each of its points has.
+    pub sizes: List<u32>,
+    /// For each point how many products there are of the points behind it.
+    pub weights: List<u32>,
+    /// From this index on there is no declared bin.
+    pub declared: u32,
+    pub table: Table,
+}
+
+/// The bins of a cross's products.
+#[derive(Drop, Debug)]
+pub enum Table {
+    /// The bins of each product, by its number: the bins of the last point run fastest.
+    Rows(List<List<u32>>),
+    /// A product's bins are worked out where it is hit.
+    Scan,
+    /// There are no products: one of the points has no coverage bin.
+    Nothing,
+}

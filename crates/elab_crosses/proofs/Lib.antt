@@ -1,0 +1,4 @@
+pub mod Lists
+pub mod Removing
+pub mod Completing
+pub mod Unpicked

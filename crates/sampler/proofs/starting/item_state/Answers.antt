@@ -1,0 +1,20 @@
+use Rattle.std.proofs.Common.{◌≡◌, List, ℕ, sym, subst}
+use Rattle.sampler.specs.declared.plan.ItemPlan.{ItemPlan}
+use Rattle.sampler.specs.declared.instance.ItemState.TheVariants as kept
+use Rattle.sampler.specs.Standing.{IsPlanOf, Stands}
+use Rattle.sampler.proofs.Starts.{start_point, start_cross}
+use Rattle.sampler.proofs.starting.item_state.Goals as goal
+
+pub returns-in_ok-start-in-Point-clause-stands : goal.returns-in_ok-start-in-Point-clause-stands
+returns-in_ok-start-in-Point-clause-stands c = λ all counts zeros.
+    let items = c.args.items.now in
+    let item = c.args.item.now in
+    subst (λ (p : ItemPlan). Stands items item all 0 item.shape p (kept.Point c.in_ok-start-in-Point.field-0) counts) (sym c.in-Point.is)
+    (start_point items item all counts item.shape c.in-Point.plan c.in_ok-start-in-Point.field-0 (subst (λ (p : ItemPlan). IsPlanOf items item item.shape p) c.in-Point.is c.requires) c.in_ok-start-in-Point.ensures.stands zeros)
+
+pub returns-in_ok-new-in-Cross-clause-stands : goal.returns-in_ok-new-in-Cross-clause-stands
+returns-in_ok-new-in-Cross-clause-stands c = λ all counts zeros.
+    let items = c.args.items.now in
+    let item = c.args.item.now in
+    subst (λ (p : ItemPlan). Stands items item all 0 item.shape p (kept.Cross c.in_ok-new-in-Cross.field-0) counts) (sym c.in-Cross.is)
+    (start_cross items item all counts item.shape c.in-Cross.field-0 c.in_ok-new-in-Cross.field-0 (subst (λ (p : ItemPlan). IsPlanOf items item item.shape p) c.in-Cross.is c.requires) c.in_ok-new-in-Cross.ensures.samples c.in_ok-new-in-Cross.ensures.marks zeros)

@@ -1,0 +1,37 @@
+use Rattle.std.proofs.Common.{◌≡◌, ◌∙◌, ◌∷◌, ◌<◌, ◌≤◌, ◌+◌, List, ℕ, length, get_or, drop, ap, sym, subst, arith, refl, []}
+use Rattle.std.proofs.lemmas.List.{drop_more, drop_all}
+use Rattle.record_codec.specs.declared.record.Event.{Event}
+use Rattle.sampler.specs.Standing.{InstAt, AreNumbered}
+use Rattle.sampler.proofs.Walks.{at_end}
+use Rattle.sampler.proofs.walking.walk.Goals as goal
+
+pub take_event-requires-clause-numbered : goal.take_event-requires-clause-numbered
+take_event-requires-clause-numbered c = subst (AreNumbered c.args.items.now) (sym c.loop-event.invariant.counts_len) c.requires.numbered
+
+pub loop-event-preserved : goal.loop-event-preserved
+loop-event-preserved c =
+    let r = c.args.rec.now in
+    let inv = c.loop-event.invariant in
+    let i = c.loop-event.event-index in
+    let event = c.event-item.result in
+    let lt : i < length r.events = omega (arith, c.loop-event-test.true, ap (λ (xs : List Event). length xs) c.as_slice-event-items.ensures) in
+    let is : event ≡ get_or r.events i event = c.event-item.is ∙ ap (λ (xs : List Event). get_or xs i event) c.as_slice-event-items.ensures in
+    let left : drop i r.events ≡ event ∷ drop (i + 1) r.events = drop_more r.events i event lt ∙ ap (λ (x : Event). x ∷ drop (i + 1) r.events) (sym is) in
+    let now = subst (λ (es : List Event). InstAt r c.args.instance c.args.items.now c.args.plans.now inv.before es c.loop-event.values c.args.counts.now c.loop-event.states.items c.loop-event.counts) left inv.at in
+    record {
+      values_len = c.take_event.auto.values ∙ inv.values_len;
+      rows_len = c.in_ok-take_event.ensures.rows;
+      counts_len = c.take_event.auto.counts ∙ inv.counts_len;
+      fits = c.in_ok-take_event.ensures.fits;
+      before = event ∷ inv.before;
+      so_far = omega (arith, inv.so_far);
+      at = c.in_ok-take_event.ensures.at c.args.counts.now inv.before (drop (i + 1) r.events) (omega (arith, inv.so_far, lt, c.requires.few)) now;
+    }
+
+pub returns : goal.returns
+returns c =
+    let r = c.args.rec.now in
+    let inv = c.loop-event.invariant in
+    let past : length r.events ≤ c.loop-event.event-index = omega (arith, c.loop-event-test.false, ap (λ (xs : List Event). length xs) c.as_slice-event-items.ensures) in
+    at_end r c.args.instance c.args.items.now c.args.plans.now c.args.counts.now inv.before c.loop-event.values c.loop-event.states.items c.loop-event.counts
+    (subst (λ (es : List Event). InstAt r c.args.instance c.args.items.now c.args.plans.now inv.before es c.loop-event.values c.args.counts.now c.loop-event.states.items c.loop-event.counts) (drop_all c.loop-event.event-index r.events past) inv.at)
