@@ -34,10 +34,10 @@ use Rattle.elab_decls.specs.Enumerations.{enumeration}
 use Rattle.elab_decls.specs.Variables.{variable}
 use Rattle.elab_decls.specs.Formals.{args_fit, formals_of}
 use Rattle.elab_decls.specs.Options.{options_set, group_options, point_defaults}
-use Rattle.elab_decls.specs.Invariant.{IsOutside, AreArguments, CountsHits}
+use Rattle.elab_decls.specs.Invariant.{IsOutside, AreArguments, AreInRange}
 use Rattle.elab_decls.proofs.Widths.{tested_width}
 use Rattle.elab_decls.proofs.Kept.{variable_keeps, enumeration_keeps, formals_are}
-use Rattle.elab_decls.proofs.Hits.{options_keep, group_keeps}
+use Rattle.elab_decls.proofs.Hits.{group_keeps}
 use Rattle.elab_values.specs.declared.made.PointBins.{PointBins}
 use Rattle.elab_points.specs.Left.{bins_of_point}
 use Rattle.elab_points.proofs.Kept.{AreLeft, IsRemoving, few_left, few_removing}
@@ -50,12 +50,12 @@ use Rattle.cov_design.specs.declared.points.Head.{Head}
 use Rattle.cov_design.specs.declared.instances.Body.{Body}
 use Rattle.cov_design.specs.Counting.{bins_counted}
 use Rattle.cov_design.specs.Domains.{domain_of_point}
-use Rattle.cov_design.specs.Intersections.{intersected_in}
-use Rattle.cov_design.specs.Points.{point_name, point_item, settings_of, with_point, head_of, headed_point, named_point, member, no_items, members_walked}
+use Rattle.cov_design.specs.Points.{point_name, point_item, settings_of, with_point, head_of, bins_headed, headed_point, named_point, member, no_items, members_walked}
 use Rattle.cov_design.specs.Groups.{group_info, named, groups_fit, group}
-use Rattle.cov_design.specs.Instances.{formals_at, samples_at, members_at, group_meant, entered, body_walked, inst_info, with_instance, instance_of, instance}
+use Rattle.cov_design.specs.Instances.{formals_at, samples_at, members_at, group_meant, inside_in, entered, body_walked, inst_info, with_instance, instance_of, instance}
 use Rattle.cov_design.specs.Walk.{outside_step, declared, nothing, walked}
 use Rattle.cov_design.specs.Invariant.{IsAlone, IsDeclared, IsKnown}
+use Rattle.cov_design.proofs.Heads.{head_range}
 use Rattle.cov_design.proofs.Counted.{Counted, counted, length-infos, ranges-infos, point_rules}
 
 -- ---- what is declared outside groups
@@ -128,21 +128,20 @@ pub record AreItems (start : Counts) (s : Items) : Type 0 where
 
 pub record IsHead (head : Head) : Type 0 where
   pub width : has_width (typ_of head.expr).width ≡ true
-  pub hits : CountsHits head.options
+  pub hits : 1 ≤ head.options.at_least
 
-head_is : (outside : Outside) (inside : Inside) (name : List ℕ) (p : PointDecl) (head : Head) → head_of outside inside name p ≡ Ok head → CountsHits inside.options → IsHead head
+head_is : (outside : Outside) (inside : Inside) (name : List ℕ) (p : PointDecl) (head : Head) → head_of outside inside name p ≡ Ok head → AreInRange inside.options → IsHead head
 unfolding head_of
-head_is outside inside name p head e hits =
+head_is outside inside name p head e range =
     let x = bind_ok (bound_in outside.scope p.expr) _ head e in
     let g = bind_ok (guard_in outside.scope p.guard) _ head x.2 in
     let o = bind_ok (options_set levels.Point outside.scope p.options (point_defaults inside.options)) _ head g.2 in
     let n = bind_ok (needs (has_width (typ_of x.0).width) kind.TooWide p.at) _ head o.2 in
     let width = needs_ok (has_width (typ_of x.0).width) kind.TooWide p.at n.0 n.1 in
-    let here : IsHead (record { name = name; expr = x.0; guard = g.0; options = o.0 }) = record {
-      width = width;
-      hits = options_keep levels.Point outside.scope p.options (point_defaults inside.options) o.0 o.1 hits;
-    } in
-    subst IsHead (ok_is _ head n.2) here
+    record {
+      width = subst (λ (h : Head). has_width (typ_of h.expr).width ≡ true) (ok_is _ head n.2) width;
+      hits = (head_range outside inside name p head e range).0;
+    }
 
 alone : (head : Head) (found : PointBins) (s t : Counts) → IsHead head → AreLeft found → IsRemoving found → Counted found.bins s t → IsAlone (point_item head found)
 alone head found s t is left short count items =
@@ -181,7 +180,7 @@ added_point head found counts start s is room left short count h =
     }
 
 headed_keeps : (outside : Outside) (inside : Inside) (head : Head) (p : PointDecl) (start : Counts) (s t : Items) → headed_point outside inside head p s ≡ Ok t → IsHead head → s.counts.items < most_items → AreItems start s → AreItems start t
-unfolding headed_point
+unfolding bins_headed
 headed_keeps outside inside head p start s t e is room h =
     let domain = domain_of_point outside inside.names p.expr (typ_of head.expr) in
     let settings = settings_of inside head in
@@ -191,7 +190,7 @@ headed_keeps outside inside head p start s t e is room h =
     let short = few_removing outside.scope domain head.name settings p.bins p.at b.0 b.1 in
     subst (AreItems start) (ok_is _ t c.2) (added_point head b.0 c.0 start s is room left short (counted b.0.bins s.counts c.0 c.1) h)
 
-named_keeps : (outside : Outside) (inside : Inside) (name : List ℕ) (p : PointDecl) (start : Counts) (s t : Items) → named_point outside inside name p s ≡ Ok t → CountsHits inside.options → AreItems start s → AreItems start t
+named_keeps : (outside : Outside) (inside : Inside) (name : List ℕ) (p : PointDecl) (start : Counts) (s t : Items) → named_point outside inside name p s ≡ Ok t → AreInRange inside.options → AreItems start s → AreItems start t
 unfolding named_point
 named_keeps outside inside name p start s t e hits h =
     let u = bind_ok (unused s.names name p.at) _ t e in
@@ -200,12 +199,12 @@ named_keeps outside inside name p start s t e hits h =
     let few = needs_ok (nat_lt s.counts.items most_items) kind.DesignLimit p.at n.0 n.1 in
     headed_keeps outside inside x.0 p start s t x.2 (head_is outside inside name p x.0 x.1 hits) (grind (arith, few)) h
 
-member_keeps : (outside : Outside) (inside : Inside) (m : Member) (start : Counts) (s t : Items) → member outside inside m s ≡ Ok t → CountsHits inside.options → AreItems start s → AreItems start t
+member_keeps : (outside : Outside) (inside : Inside) (m : Member) (start : Counts) (s t : Items) → member outside inside m s ≡ Ok t → AreInRange inside.options → AreItems start s → AreItems start t
 member_keeps outside inside (members.Point p) start s t e hits h = named_keeps outside inside (point_name p (length s.items)) p start s t e hits h
 member_keeps outside inside (members.Opt o) start s t e hits h = subst (AreItems start) (ok_is s t e) h
 member_keeps outside inside (members.Cross c) start s t e hits h = absurd cc
 
-members_keep : (outside : Outside) (inside : Inside) (start : Counts) (ms : List Member) (t : Items) → start.items ≤ most_items → start.bins ≤ most_design_bins → start.ranges ≤ most_design_ranges → CountsHits inside.options → members_walked outside inside start ms ≡ Ok t → AreItems start t
+members_keep : (outside : Outside) (inside : Inside) (start : Counts) (ms : List Member) (t : Items) → start.items ≤ most_items → start.bins ≤ most_design_bins → start.ranges ≤ most_design_ranges → AreInRange inside.options → members_walked outside inside start ms ≡ Ok t → AreItems start t
 unfolding members_walked
 members_keep outside inside start ms t items bins ranges hits e =
     each_keeps (λ k. member outside inside) (AreItems start) (λ k m s u f h. member_keeps outside inside m start s u f hits h) 0 ms (no_items start) t e
@@ -215,7 +214,7 @@ body_keeps : (outside : Outside) (names : Pairs What) (start : Counts) (ms : Lis
 unfolding body_walked
 body_keeps outside names start ms body items bins ranges e =
     let o = bind_ok (group_options outside.scope ms) _ body e in
-    let inside : Inside = record { names = names; options = o.0; intersected = intersected_in ms } in
+    let inside = inside_in names o.0 ms in
     let m = bind_ok (members_walked outside inside start ms) _ body o.2 in
     let all = members_keep outside inside start ms m.0 items bins ranges (group_keeps outside.scope ms o.0 o.1) m.1 in
     subst (λ (b : Body). AreItems start b.items) (ok_is _ body m.2) all

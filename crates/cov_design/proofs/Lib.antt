@@ -1,3 +1,4 @@
+pub mod Heads
 pub mod Counted
 pub mod Invariant
 pub mod Designs

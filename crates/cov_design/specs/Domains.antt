@@ -1,6 +1,6 @@
 -- The numbers of a point: those of its type, or the constants where its expression is the name of something enumerated
 -- (IEEE 1800-2017, 19.5 and 6.19).
-use Rattle.std.specs.Prelude.{ℕ, List, map, slice_get, Option, Some, None}
+use Rattle.std.specs.Prelude.{ℕ, ℤ, List, map, slice_get, Option, Some, None}
 use Rattle.name_map.specs.Names.{Pairs, meaning_of}
 use Rattle.cov_tree.specs.declared.expr.Expr.{Expr}
 use Rattle.cov_tree.specs.declared.expr.Expr.TheViews.{out-Expr}
@@ -35,9 +35,12 @@ named_enumeration outside formals (expr.Unary op arg at) = None
 named_enumeration outside formals (expr.Binary op left right at) = None
 named_enumeration outside formals (expr.Cond test yes' no' at) = None
 
+abbrev pub constant_of : List ℕ × ℤ → Constant
+constant_of constant = record { name = constant.0; value = constant.1 }
+
 -- the constants of an enumeration, in order of declaration
 abbrev pub constants_in : Enumeration → List Constant
-constants_in e = map (λ constant. record { name = constant.0; value = constant.1 }) e.constants
+constants_in e = map constant_of e.constants
 
 abbrev pub domain_of_enumeration : Typ → Option Enumeration → Domain
 domain_of_enumeration typ None = domain_of_typ typ

@@ -20,6 +20,8 @@ use Rattle.elab_decls.specs.declared.outside.Outside.{Outside}
 use Rattle.elab_decls.specs.Formals.{args_fit, formals_of}
 use Rattle.elab_decls.specs.Options.{group_options}
 use Rattle.cov_design.specs.declared.counts.Counts.{Counts}
+use Rattle.cov_options.specs.declared.options.Options.{Options}
+use Rattle.cov_design.specs.declared.points.Inside.{Inside}
 use Rattle.cov_design.specs.declared.known.Known.{Known}
 use Rattle.cov_design.specs.declared.instances.Body.{Body}
 use Rattle.cov_design.specs.Groups.{group_info, named}
@@ -69,11 +71,15 @@ group_meant groups other at = Err (kind.UnknownType, at)
 abbrev pub entered : Outside → Names → Outside
 entered outside inner = record outside { scope = record outside.scope { inner = inner } }
 
+-- what the members of an instance have in common, behind formals and sample arguments of these names
+abbrev pub inside_in : Pairs What → Options → List Member → Inside
+inside_in names options ms = record { names = names; options = options; intersected = intersected_in ms }
+
 -- the options of the group and then its items, behind formals and sample arguments of these names
 unfoldable pub body_walked : Outside → Pairs What → Counts → List Member → Result Body Refusal
 body_walked outside names counts ms = do
   options ← group_options outside.scope ms
-  items ← members_walked outside (record { names = names; options = options; intersected = intersected_in ms }) counts ms
+  items ← members_walked outside (inside_in names options ms) counts ms
   Ok (record { options = options; items = items })
 
 abbrev pub inst_info : List ℕ → ℕ → List Signal → Body → InstInfo

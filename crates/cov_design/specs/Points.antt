@@ -21,6 +21,7 @@ use Rattle.elab_base.specs.Gives.{Refusal, ◌>>=◌, needs, each}
 use Rattle.elab_base.specs.Steps.{unused, bound_in, guard_in}
 use Rattle.elab_decls.specs.declared.outside.Outside.{Outside}
 use Rattle.elab_decls.specs.Options.{options_set, point_defaults}
+use Rattle.elab_values.specs.declared.domain.Domain.{Domain}
 use Rattle.elab_values.specs.declared.made.PointBins.{PointBins}
 use Rattle.elab_values.specs.declared.made.Settings.{Settings}
 use Rattle.elab_points.specs.Left.{bins_of_point}
@@ -95,12 +96,15 @@ settings_of inside head = record {
   intersected = is_some (meaning_of inside.intersected head.name);
 }
 
--- the bins of a point
-unfoldable pub headed_point : Outside → Inside → Head → PointDecl → Items → Result Items Refusal
-headed_point outside inside head p s = do
-  found ← bins_of_point outside.scope (domain_of_point outside inside.names p.expr (typ_of head.expr)) head.name (settings_of inside head) p.bins p.at
+-- the bins of a point with these numbers
+unfoldable pub bins_headed : Outside → Inside → Domain → Head → PointDecl → Items → Result Items Refusal
+bins_headed outside inside domain head p s = do
+  found ← bins_of_point outside.scope domain head.name (settings_of inside head) p.bins p.at
   counts ← bins_counted found.bins s.counts
   Ok (with_point head found counts s)
+
+abbrev pub headed_point : Outside → Inside → Head → PointDecl → Items → Result Items Refusal
+headed_point outside inside head p s = bins_headed outside inside (domain_of_point outside inside.names p.expr (typ_of head.expr)) head p s
 
 unfoldable pub named_point : Outside → Inside → List ℕ → PointDecl → Items → Result Items Refusal
 named_point outside inside name p s = do

@@ -4,7 +4,7 @@ ghost use Rattle.cov_ground.specs.Limits.{most_instances};
 ghost use Rattle.elab_base.specs.declared.fault.ElabKind.TheVariants as kinds;
 ghost use Rattle.elab_base.specs.Gives.{Gives, Makes, needs};
 ghost use Rattle.elab_decls.specs.Formals.{args_fit};
-ghost use Rattle.cov_design.specs.Instances.{formals_in, samples_in, members_in, formals_at, samples_at, members_at, group_meant, entered, body_walked, with_instance, instance_of, instance};
+ghost use Rattle.cov_design.specs.Instances.{formals_in, samples_in, members_in, formals_at, samples_at, members_at, group_meant, inside_in, entered, body_walked, with_instance, instance_of, instance};
 
 use crate::counts::Counts;
 use crate::groups::with_options;
@@ -131,8 +131,24 @@ fn check_instances(known: &Known, at: u32) -> Result<(), ElabFault>
     Ok(())
 }
 
+/// What the members of an instance have in common.
+fn inside_of(
+    alloc: Global,
+    names: NameMap<What>,
+    options: Options,
+    members: &[Member],
+) -> Result<Inside, Memory>
+    ensures { IfOk result (λ inside. inside ≡ inside_in names options members.now) }
+{
+    Ok(Inside {
+        names,
+        options,
+        intersected: intersected(alloc, members)?,
+    })
+}
+
 /// The options and the items of a group behind the names of an instance.
-#[tactic(auto, unfolding(crate::specs::Instances::body_walked))]
+#[tactic(auto, using(crate::proofs::Heads::inside_range), unfolding(crate::specs::Instances::body_walked))]
 fn walk_inside(
     alloc: Global,
     outside: &mut Outside,
@@ -144,11 +160,7 @@ fn walk_inside(
     ensures same { outside.new ≡ outside.old }
 {
     let options = read_options(alloc, &mut outside.scope, members)?;
-    let inside = Inside {
-        names,
-        options,
-        intersected: intersected(alloc, members)?,
-    };
+    let inside = inside_of(alloc, names, options, members)?;
     let items = walk_members(alloc, outside, &inside, counts, members)?;
     let Inside {
         names: _,

@@ -1,11 +1,15 @@
 //! Points of an instance.
 ghost use Rattle.std.specs.Prelude.{◌≡◌, ◌<◌, OnOk, IfOk, true, map, nat_lt};
 ghost use Rattle.cov_ground.specs.Limits.{most_items};
+ghost use Rattle.const_eval.specs.Typs.{HasWidth};
 ghost use Rattle.const_eval.specs.Terms.{typ_of as typ_of_term};
 ghost use Rattle.const_eval.specs.Binding.{has_width as tests_width};
 ghost use Rattle.elab_base.specs.declared.fault.ElabKind.TheVariants as kinds;
 ghost use Rattle.elab_base.specs.Gives.{Gives, Makes, needs};
-ghost use Rattle.cov_design.specs.Points.{numbered_name as numbered_text, point_name, settings_of, with_point, head_of, headed_point, named_point, member, members_walked};
+ghost use Rattle.elab_decls.specs.Invariant.{AreInRange};
+ghost use Rattle.elab_points.specs.Left.{bins_of_point};
+ghost use Rattle.cov_design.specs.Domains.{domain_of_point};
+ghost use Rattle.cov_design.specs.Points.{numbered_name as numbered_text, point_name, settings_of, with_point, head_of, bins_headed, headed_point, named_point, member, members_walked};
 
 use crate::counts::{Counts, count_bins};
 use crate::domains::point_domain;
@@ -18,7 +22,7 @@ use design_data::{BinInfo, ItemInfo, ItemShape};
 use elab_base::{ElabFault, ElabKind, What, add_name, bind_in, check_unused, guard_in};
 use elab_decls::{Outside, has_width, point_defaults, set_options};
 use elab_points::point_bins;
-use elab_values::{Made, PointBins, Settings};
+use elab_values::{Domain, Made, PointBins, Settings};
 use name_map::NameMap;
 use std::alloc::Global;
 
@@ -199,7 +203,64 @@ fn settings(inside: &Inside, head: &Head) -> Settings
     }
 }
 
-#[tactic(auto, unfolding(crate::specs::Points::headed_point))]
+/// The numbers of a point.
+#[tactic(auto, using(crate::proofs::Heads::domain_width))]
+fn domain_in(
+    alloc: Global,
+    outside: &Outside,
+    inside: &Inside,
+    head: &Head,
+    point: &PointDecl,
+) -> Result<Domain, Memory>
+    ensures is { IfOk result (λ domain. domain ≡ domain_of_point outside.now inside.now.names point.now.expr (typ_of_term head.now.expr)) }
+    ensures width { IfOk result (λ domain. HasWidth domain.typ) }
+{
+    let domain = point_domain(alloc, outside, &inside.names, &point.expr, typ(&head.expr))?;
+    Ok(domain)
+}
+
+/// The bins of a point with these numbers.
+#[tactic(auto, using(crate::proofs::Heads::can_have))]
+fn bins_in(
+    alloc: Global,
+    outside: &Outside,
+    inside: &Inside,
+    domain: &Domain,
+    head: &Head,
+    point: &PointDecl,
+) -> Result<PointBins, ElabFault>
+    requires width { HasWidth domain.now.typ }
+    requires range { AreInRange head.now.options }
+    ensures { Gives result (bins_of_point outside.now.scope domain.now head.now.name (settings_of inside.now head.now) point.now.bins point.now.at) }
+{
+    let settings = settings(inside, head);
+    let decls = point.bins.as_slice();
+    point_bins(alloc, &outside.scope, domain, &head.name, settings, decls, point.at)
+}
+
+/// Adds a point with these numbers.
+#[tactic(auto, unfolding(crate::specs::Points::bins_headed))]
+fn add_bins(
+    alloc: Global,
+    outside: &Outside,
+    inside: &Inside,
+    domain: &Domain,
+    head: Head,
+    point: &PointDecl,
+    items: &mut Items,
+) -> Result<(), ElabFault>
+    requires room { items.old.counts.items < most_items }
+    requires width { HasWidth domain.now.typ }
+    requires range { AreInRange head.options }
+    ensures { Makes result items.new (bins_headed outside.now inside.now domain.now head point.now items.old) }
+{
+    let found = bins_in(alloc, outside, inside, domain, &head, point)?;
+    let mut counts = items.counts;
+    count_bins(found.bins.as_slice(), &mut counts)?;
+    keep_point(alloc, head, found, counts, items)?;
+    Ok(())
+}
+
 fn add_headed(
     alloc: Global,
     outside: &Outside,
@@ -208,26 +269,15 @@ fn add_headed(
     point: &PointDecl,
     items: &mut Items,
 ) -> Result<(), ElabFault>
-    requires { items.old.counts.items < most_items }
+    requires room { items.old.counts.items < most_items }
+    requires range { AreInRange head.options }
     ensures { Makes result items.new (headed_point outside.now inside.now head point.now items.old) }
 {
-    let domain = point_domain(alloc, outside, &inside.names, &point.expr, typ(&head.expr))?;
-    let found = point_bins(
-        alloc,
-        &outside.scope,
-        &domain,
-        &head.name,
-        settings(inside, &head),
-        point.bins.as_slice(),
-        point.at,
-    )?;
-    let mut counts = items.counts;
-    count_bins(found.bins.as_slice(), &mut counts)?;
-    keep_point(alloc, head, found, counts, items)?;
-    Ok(())
+    let domain = domain_in(alloc, outside, inside, &head, point)?;
+    add_bins(alloc, outside, inside, &domain, head, point, items)
 }
 
-#[tactic(auto, unfolding(crate::specs::Points::named_point))]
+#[tactic(auto, using(crate::proofs::Heads::head_range), unfolding(crate::specs::Points::named_point))]
 fn add_named(
     alloc: Global,
     outside: &mut Outside,
@@ -236,6 +286,7 @@ fn add_named(
     point: &PointDecl,
     items: &mut Items,
 ) -> Result<(), ElabFault>
+    requires { AreInRange inside.now.options }
     ensures gives { Makes result items.new (named_point outside.old inside.now name point.now items.old) }
     ensures same { outside.new ≡ outside.old }
 {
@@ -253,6 +304,7 @@ fn add_member(
     found: &Member,
     items: &mut Items,
 ) -> Result<(), ElabFault>
+    requires { AreInRange inside.now.options }
     ensures gives { Makes result items.new (member outside.old inside.now found.now items.old) }
     ensures same { outside.new ≡ outside.old }
 {
@@ -276,6 +328,7 @@ pub(crate) fn walk_members(
     counts: Counts,
     members: &[Member],
 ) -> Result<Items, ElabFault>
+    requires { AreInRange inside.now.options }
     ensures gives { Gives result (members_walked outside.old inside.now counts members.now) }
     ensures same { outside.new ≡ outside.old }
 {

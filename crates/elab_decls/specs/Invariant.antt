@@ -1,7 +1,7 @@
 -- What is known of what is declared outside groups, and of the arguments of a sample function: limits and widths.
 use Rattle.std.specs.Prelude.{◌≤◌, List, length}
 use Rattle.std.specs.List.{AllByRecursion}
-use Rattle.cov_ground.specs.Limits.{most_signals, most_arguments}
+use Rattle.cov_ground.specs.Limits.{most_signals, most_arguments, most_bins}
 use Rattle.design_data.specs.declared.infos.Signal.{Signal}
 use Rattle.design_data.specs.Limits.{HasWidth}
 use Rattle.cov_options.specs.declared.options.Options.{Options}
@@ -18,6 +18,6 @@ pub record AreArguments (args : List Signal) : Type 0 where
   pub few : length args ≤ most_arguments
   pub widths : HaveWidths args
 
--- a bin has to be hit at least once to be covered
-abbrev pub CountsHits : Options → Type 0
-CountsHits options = 1 ≤ options.at_least
+-- a bin has to be hit at least once to be covered, and a point may have 1 to 65,536 automatic bins
+abbrev pub AreInRange : Options → Type 0
+AreInRange options = (1 ≤ options.at_least) × (1 ≤ options.auto_bin_max) × (options.auto_bin_max ≤ most_bins)
