@@ -6,3 +6,5 @@ pub mod Members
 pub mod Fitting
 pub mod Kept
 pub mod Owed
+pub mod Crossing
+pub mod Among

@@ -3,13 +3,14 @@ use Rattle.std.proofs.Common.{◌≡◌, ℕ, ◌+◌, ◌≤◌, List, length, 
 use Rattle.std.proofs.lemmas.Bool.{leb-true}
 use Rattle.std.proofs.lemmas.List.{length-map}
 use Rattle.std.specs.List.{AllByRecursion, flat_map}
-use Rattle.cov_ground.specs.Limits.{most_bins}
+use Rattle.cov_ground.specs.Limits.{most_bins, most_points, most_products}
 use Rattle.cov_tree.specs.declared.groups.CrossBins.{CrossBins}
 use Rattle.const_eval.specs.Scopes.{Levels}
+use Rattle.cross_select.specs.Products.{product_of}
 use Rattle.design_data.specs.declared.infos.ItemInfo.{ItemInfo}
 use Rattle.design_data.specs.Bins.{sizes_of}
 use Rattle.design_data.specs.Laws.{automatic_products, HasAutomatic}
-use Rattle.design_data.specs.Limits.{IsCrossRule}
+use Rattle.design_data.specs.Limits.{IsCrossRule, IsPointIndex, IsCross}
 use Rattle.elab_base.specs.declared.fault.ElabKind.TheVariants as kind
 use Rattle.elab_base.specs.Gives.{needs}
 use Rattle.elab_base.specs.Steps.{unused, guard_in}
@@ -88,3 +89,8 @@ cross_automatic levels c bs at made few e =
     let w = bind_ok (bins_walked levels c bs) _ made e in
     let all = completed c.items c.axes sizes w.0.bins at made w.2 in
     subst (λ (ms : List Made). HasAutomatic sizes (infos ms)) all.whole (automatic_of_all sizes w.0.bins (sides c.items c.axes) at (walked_fits levels c bs w.0 few w.1))
+
+-- the bins make a cross of these points, and also among more items or numbered ones (`cross_among`)
+pub cross_is : (levels : Levels) (c : Crossed) (bs : List CrossBins) (at : ℕ) (made : List Made) → length c.names ≤ length c.axes → length c.axes ≤ most_points → AllByRecursion (IsPointIndex c.items) c.axes → product_of (sizes_of c.items c.axes) ≤ most_products
+    → bins_of_cross levels c (sizes_of c.items c.axes) bs at ≡ Ok made → IsCross c.items (infos made) c.axes
+cross_is levels c bs at made few few_points points few_products e = record { few = few_points; points = points; few_products = few_products; rules = cross_rules levels c bs at made few e }
