@@ -144,7 +144,7 @@ head_is outside inside name p head e hits =
     } in
     subst IsHead (ok_is _ head n.2) here
 
-alone : (head : Head) (found : PointBins) (s t : Counts) → IsHead head → AreLeft found.bins → IsRemoving found → Counted found.bins s t → IsAlone (point_item head found)
+alone : (head : Head) (found : PointBins) (s t : Counts) → IsHead head → AreLeft found → IsRemoving found → Counted found.bins s t → IsAlone (point_item head found)
 alone head found s t is left short count items =
     let few = left.few in
     let same = length-infos found.bins in
@@ -152,10 +152,10 @@ alone head found s t is left short count items =
       at_least = is.hits;
       bins = omega (arith, few, same);
       removing = short;
-      shape = (tested_width (typ_of head.expr).width is.width, point_rules (point_item head found) found.bins left.have count.short);
+      shape = (tested_width (typ_of head.expr).width is.width, point_rules (point_item head found) found.bins left.have left.seqs count.short);
     }
 
-added_point : (head : Head) (found : PointBins) (counts start : Counts) (s : Items) → IsHead head → s.counts.items < most_items → AreLeft found.bins → IsRemoving found → Counted found.bins s.counts counts
+added_point : (head : Head) (found : PointBins) (counts start : Counts) (s : Items) → IsHead head → s.counts.items < most_items → AreLeft found → IsRemoving found → Counted found.bins s.counts counts
     → AreItems start s → AreItems start (with_point head found counts s)
 unfolding with_point
 added_point head found counts start s is room left short count h =

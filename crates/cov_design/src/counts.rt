@@ -1,15 +1,18 @@
 //! How much a design has so far.
-ghost use Rattle.std.specs.Prelude.{◌≡◌, ◌+◌, ◌≤◌, OnOk, IfOk, nat_le, nat_lt, ◌&&◌};
-ghost use Rattle.cov_ground.specs.Limits.{most_ranges, most_design_bins, most_design_ranges};
-ghost use Rattle.elab_base.specs.declared.fault.ElabKind.TheVariants as kinds;
-ghost use Rattle.elab_base.specs.Gives.{Gives, Makes, needs};
-ghost use Rattle.cov_design.specs.Counting.{set_ranges, rule_ranges as ranges_in_rule, bin_counted, bins_counted};
+ghost use Rattle.std.specs.Prelude.{◌≡◌, ◌+◌, ◌-◌, ◌^◌, ◌≤◌, min, IfOk};
+ghost use Rattle.std.specs.List.{list_all};
+ghost use Rattle.cov_ground.specs.Limits.{most_design_bins, most_design_ranges};
+ghost use Rattle.design_data.specs.Limits.{ranges_of as ranges_of_rule};
+ghost use Rattle.design_data.specs.Tested.{ranges_of_seqs as ranges_of_all, ranges_of_items as ranges_of_each};
+ghost use Rattle.elab_base.specs.Gives.{Gives, Makes};
+ghost use Rattle.cov_design.specs.Counting.{is_short as is_set_short, are_sets_short as are_all_short, ranges_fit, bin_counted, bins_counted};
 
 use cov_base::ValueSet;
 use cov_ground::limits::{MOST_DESIGN_BINS, MOST_DESIGN_RANGES, MOST_RANGES};
 use design_data::BinRule;
 use elab_base::{ElabFault, ElabKind};
 use elab_values::Made;
+use trans_seq::{Item, Seq};
 
 /// How many items and bins a design has so far, and how many intervals its bins have.
 #[derive(Clone, Copy, Debug, PartialEq, Eq)]
@@ -19,57 +22,100 @@ pub struct Counts {
     pub ranges: u32,
 }
 
-/// The intervals of a set.
-#[tactic(auto, unfolding(crate::specs::Counting::set_ranges))]
-fn ranges_of(set: &ValueSet, at: u32) -> Result<u32, ElabFault>
-    ensures gives { Gives result (set_ranges set.now at) }
-    ensures few { IfOk result (λ ranges. ranges ≤ most_ranges) }
+// ---- the sets of a bin
+
+fn is_short(set: &ValueSet) -> bool
+    ensures { result ≡ is_set_short set.now }
 {
-    let count = set.intervals().len();
-    ElabKind::TooManyRanges.unless(count <= MOST_RANGES as usize, at)?;
-    Ok(count as u32)
+    set.intervals().len() as u64 <= MOST_RANGES
 }
 
-/// The intervals of a bin.
-fn rule_ranges(rule: &BinRule, at: u32) -> Result<u32, ElabFault>
-    ensures gives { Gives result (ranges_in_rule rule.now at) }
-    ensures few { IfOk result (λ ranges. ranges ≤ most_ranges) }
+fn are_items_short(seq: &Seq) -> bool
+    ensures { result ≡ list_all (λ item. is_set_short item.set) seq.now.items }
+{
+    seq.items.as_slice().iter().all(|item| is_short(&item.set))
+}
+
+fn are_seqs_short(seqs: &[Seq]) -> bool
+    ensures { result ≡ list_all (λ seq. list_all (λ item. is_set_short item.set) seq.items) seqs.now }
+{
+    seqs.iter().all(|seq| are_items_short(seq))
+}
+
+/// Whether no set of a bin has too many intervals.
+fn are_sets_short(rule: &BinRule) -> bool
+    ensures { result ≡ are_all_short rule.now }
 {
     match rule {
-        BinRule::Values(set) => ranges_of(set, at),
-        BinRule::Patterns(_) => Err(ElabKind::NotBuiltYet.at(at)),
-        BinRule::Trans(_) => Err(ElabKind::NotBuiltYet.at(at)),
-        BinRule::Default => Ok(0),
-        BinRule::DefaultValues(set) => ranges_of(set, at),
-        BinRule::DefaultSequence => Ok(0),
-        BinRule::Picked(_) => Err(ElabKind::NotBuiltYet.at(at)),
-        BinRule::Product(_) => Err(ElabKind::NotBuiltYet.at(at)),
+        BinRule::Values(set) => is_short(set),
+        BinRule::Trans(seqs) => are_seqs_short(seqs.as_slice()),
+        BinRule::DefaultValues(set) => is_short(set),
+        _ => true,
     }
 }
 
-/// Refuses a bin for which the design has no room.
-#[tactic(auto, unfolding(elab_base::specs::Gives::needs))]
-fn check_design(counts: &Counts, ranges: u32, at: u32) -> Result<(), ElabFault>
-    requires { ranges ≤ most_ranges }
-    ensures gives { Gives result (needs (nat_lt counts.now.bins most_design_bins && nat_le (counts.now.ranges + ranges) most_design_ranges) kinds.DesignLimit at) }
-    ensures bins { OnOk result (counts.now.bins + 1 ≤ most_design_bins) }
-    ensures ranges { OnOk result (counts.now.ranges + ranges ≤ most_design_ranges) }
+// ---- the intervals of a bin, `u64::MAX` at most
+
+fn ranges_of_items(items: &[Item]) -> u64
+    ensures { result ≡ min (ranges_of_each items.now) (2 ^ 64 - 1) }
 {
+    let mut sum = 0u64;
+    for item in items {
+        sum = sum.saturating_add(item.set.intervals().len() as u64);
+    }
+    sum
+}
+
+fn ranges_of_seqs(seqs: &[Seq]) -> u64
+    ensures { result ≡ min (ranges_of_all seqs.now) (2 ^ 64 - 1) }
+{
+    let mut sum = 0u64;
+    for seq in seqs {
+        sum = sum.saturating_add(ranges_of_items(seq.items.as_slice()));
+    }
+    sum
+}
+
+fn ranges_of(rule: &BinRule) -> u64
+    ensures { result ≡ min (ranges_of_rule rule.now) (2 ^ 64 - 1) }
+{
+    match rule {
+        BinRule::Values(set) => set.intervals().len() as u64,
+        BinRule::Patterns(_) => 0,
+        BinRule::Trans(seqs) => ranges_of_seqs(seqs.as_slice()),
+        BinRule::Default => 0,
+        BinRule::DefaultValues(set) => set.intervals().len() as u64,
+        BinRule::DefaultSequence => 0,
+        BinRule::Picked(_) => 0,
+        BinRule::Product(_) => 0,
+    }
+}
+
+// ---- counting
+
+/// The intervals of a bin, for which the design has room.
+#[tactic(auto, unfolding(crate::specs::Counting::ranges_fit, elab_base::specs::Gives::needs))]
+fn fit(counts: &Counts, rule: &BinRule, at: u32) -> Result<u32, ElabFault>
+    ensures gives { Gives result (ranges_fit counts.now rule.now at) }
+    ensures bins { IfOk result (λ ranges. counts.now.bins + 1 ≤ most_design_bins) }
+    ensures ranges { IfOk result (λ ranges. counts.now.ranges + ranges ≤ most_design_ranges) }
+{
+    let ranges = ranges_of(rule);
     if counts.bins >= MOST_DESIGN_BINS {
         return Err(ElabKind::DesignLimit.at(at));
     }
-    if counts.ranges as u64 + ranges as u64 > MOST_DESIGN_RANGES {
+    if (counts.ranges as u64).saturating_add(ranges) > MOST_DESIGN_RANGES {
         return Err(ElabKind::DesignLimit.at(at));
     }
-    Ok(())
+    Ok(ranges as u32)
 }
 
 #[tactic(auto, unfolding(crate::specs::Counting::bin_counted))]
 fn count_bin(made: &Made, counts: &mut Counts) -> Result<(), ElabFault>
     ensures { Makes result counts.new (bin_counted made.now counts.old) }
 {
-    let ranges = rule_ranges(&made.bin.rule, made.at)?;
-    check_design(counts, ranges, made.at)?;
+    ElabKind::TooManyRanges.unless(are_sets_short(&made.bin.rule), made.at)?;
+    let ranges = fit(counts, &made.bin.rule, made.at)?;
     counts.bins += 1;
     counts.ranges += ranges;
     Ok(())

@@ -3,16 +3,21 @@ use Rattle.std.proofs.Common.{◌≡◌, ◌∙◌, ℕ, zero, suc, ◌+◌, ◌
 use Rattle.std.specs.Prelude.{nat_le, int_lt, if◌then◌else◌}
 use Rattle.std.specs.List.{AllByRecursion}
 use Rattle.std.proofs.lemmas.List.{length-append, length_push}
-use Rattle.cov_ground.specs.Limits.{most_bins}
+use Rattle.cov_ground.specs.Limits.{most_bins, most_cells}
 use Rattle.cov_base.specs.Sets.{written, set_of, ascending, put}
 use Rattle.bin_spec.specs.Parts.{places, part, parts}
 use Rattle.cov_tree.specs.declared.bins.BinsDecl.{BinsDecl}
+use Rattle.cov_tree.specs.declared.bins.Step.{Step}
+use Rattle.cov_tree.specs.declared.bins.Word.{Word}
+use Rattle.cov_tree.specs.declared.bins.Word.TheVariants as words
 use Rattle.cov_tree.specs.declared.bins.Right.{Right}
 use Rattle.cov_tree.specs.declared.bins.Right.TheVariants as rights
 use Rattle.cov_tree.specs.declared.bins.Size.{Size}
 use Rattle.cov_tree.specs.declared.bins.Size.TheVariants as sizes
 use Rattle.const_eval.specs.Terms.{Term}
 use Rattle.const_eval.specs.Scopes.{Levels}
+use Rattle.trans_seq.specs.declared.seq.Seq.{Seq}
+use Rattle.trans_seq.specs.Cells.{cells_of_seqs}
 use Rattle.design_data.specs.declared.infos.BinRule.TheVariants.{Default}
 use Rattle.elab_base.specs.declared.fault.ElabKind.TheVariants as kind
 use Rattle.elab_base.specs.Gives.{needs, each_at}
@@ -24,6 +29,8 @@ use Rattle.elab_values.specs.declared.made.Made.{Made}
 use Rattle.elab_values.specs.declared.made.PointBins.{PointBins}
 use Rattle.elab_values.specs.declared.made.Settings.{Settings}
 use Rattle.elab_values.specs.Listed.{numbers_listed}
+use Rattle.elab_transitions.specs.Bins.{trans_bins_of, default_bin_of}
+use Rattle.elab_transitions.specs.Removal.{is_trans_left}
 use Rattle.elab_points.specs.declared.declared.Entry.{Entry}
 use Rattle.elab_points.specs.declared.declared.Entry.TheVariants.{Bin, Rest}
 use Rattle.elab_points.specs.declared.declared.Walked.{Walked}
@@ -36,6 +43,9 @@ use Rattle.elab_points.specs.Automatic.{automatic, declares_coverage, automatic_
 use Rattle.elab_points.specs.Declarations.{kind_of, default_kind, elements_in, entered, head_of, bins_added, values_binned, elements_binned, values_declared, one_added, rest_added, default_added, default_sized, default_declared, declared_by, bins_declared, no_bins, bins_walked}
 use Rattle.elab_points.specs.Filter.{passes, keep_of, filter_in, kept_numbers}
 use Rattle.elab_points.specs.Left.{bin_left, has_some, some_of, left_of, bins_left, left_by, point_left, walked_left, bins_of_point}
+use Rattle.elab_points.specs.Transitions.{before, seqs_kept, trans_listed, trans_added, trans_declared, made_added, default_sequence_declared, in_array, transitions_left}
+use Rattle.elab_points.proofs.Rooms.{trans_room, default_room}
+use Rattle.elab_points.proofs.Sequences.{KnownMade, AreKnown, MadeHasSeq, walked_known, undeclared_known, filled_known, by_known, seqs_left}
 use Rattle.elab_points.specs.Made.{wanted_in, bins_wanted, plan_of, planned, plan_bins, named_bin, single, part_bins, parts_kept, bins_made}
 use Rattle.elab_points.specs.Rest.{unlisted, rest_bin, all_bins, entry_counted, entries_counted, all_filled}
 
@@ -132,14 +142,18 @@ declared_values levels domain distribute b w t e h =
     let g = bind_ok (guard_in levels b.guard) _ t a.2 in
     values_counted domain distribute k.0 a.0 s.0 (head_of b (kind_of b.word) g.0 w) w t g.2 h
 
+made_counted : (name : List ℕ) (made : Made) (w : Walked) → w.count + 1 ≤ most_bins → AreCounted w → AreCounted (made_added name made w)
+made_counted name made w room h =
+    let was = h.is in
+    let both = among-append w.entries (Bin made ∷ []) in
+    record { few = room; is = omega (arith, was, both) }
+
 one_counted : (head : Head) (w t : Walked) → default_added head w ≡ Ok t → AreCounted w → AreCounted t
 unfolding default_added one_added
 one_counted head w t e h =
     let n = bind_ok (needs (nat_le (w.count + 1) most_bins) kind.TooManyBins head.at) _ t e in
     let fits = needs_ok (nat_le (w.count + 1) most_bins) kind.TooManyBins head.at n.0 n.1 in
-    let was = h.is in
-    let both = among-append w.entries (Bin (named_bin head head.name Default) ∷ []) in
-    subst AreCounted (ok_is _ t n.2) (record { few = grind (arith, fits); is = omega (arith, was, both) })
+    subst AreCounted (ok_is _ t n.2) (made_counted head.name (named_bin head head.name Default) w (grind (arith, fits)) h)
 
 rest_counted : (head : Head) (w : Walked) → AreCounted w → AreCounted (rest_added head w)
 unfolding rest_added
@@ -159,12 +173,35 @@ declared_default levels b w t e h =
     let g = bind_ok (guard_in levels b.guard) _ t e in
     sized_counted b.size (head_of b (default_kind b.word) g.0 w) w t g.2 h
 
+-- sequences are no bins
+seqs_counted : (word : Word) (seqs : List Seq) (w : Walked) → AreCounted w → AreCounted (seqs_kept word seqs w)
+seqs_counted words.Bins seqs w h = h
+seqs_counted words.Illegal seqs w h = record { few = h.few; is = h.is }
+seqs_counted words.Ignore seqs w h = record { few = h.few; is = h.is }
+
+declared_trans : (levels : Levels) (domain : Domain) (b : BinsDecl) (sequences : List (List Step)) (w t : Walked) → trans_declared levels domain b sequences w ≡ Ok t → AreCounted w → AreCounted t
+unfolding trans_declared trans_added
+declared_trans levels domain b sequences w t e h =
+    let m = bind_ok (trans_bins_of levels domain b sequences (before w)) _ t e in
+    let room = trans_room levels domain b sequences (before w) m.0 m.1 in
+    let was = h.is in
+    let both = among-append w.entries (map Bin m.0.bins) in
+    let these = among-bins m.0.bins in
+    let listed : AreCounted (trans_listed b.name m.0 w) = record { few = room; is = omega (arith, was, both, these) } in
+    subst AreCounted (ok_is _ t m.2) (seqs_counted b.word m.0.removed (trans_listed b.name m.0 w) listed)
+
+declared_default_sequence : (levels : Levels) (b : BinsDecl) (w t : Walked) → default_sequence_declared levels b w ≡ Ok t → AreCounted w → AreCounted t
+unfolding default_sequence_declared
+declared_default_sequence levels b w t e h =
+    let m = bind_ok (default_bin_of levels b (before w)) _ t e in
+    subst AreCounted (ok_is _ t m.2) (made_counted b.name m.0 w (default_room levels b (before w) m.0 m.1) h)
+
 right_counted : (levels : Levels) (domain : Domain) (distribute : Bool) (b : BinsDecl) (right : Right) (w t : Walked) → declared_by levels domain distribute b w right ≡ Ok t → AreCounted w → AreCounted t
 right_counted levels domain distribute b (rights.Ranges elems keep) w t e h = declared_values levels domain distribute b w t e h
 right_counted levels domain distribute b (rights.Whole name keep) w t e h = declared_values levels domain distribute b w t e h
-right_counted levels domain distribute b (rights.Trans seqs) w t e h = absurd cc
+right_counted levels domain distribute b (rights.Trans seqs) w t e h = declared_trans levels domain b seqs w t e h
 right_counted levels domain distribute b rights.Default w t e h = declared_default levels b w t e h
-right_counted levels domain distribute b rights.DefaultSequence w t e h = absurd cc
+right_counted levels domain distribute b rights.DefaultSequence w t e h = declared_default_sequence levels b w t e h
 
 declared_counted : (levels : Levels) (domain : Domain) (name : List ℕ) (distribute : Bool) (b : BinsDecl) (w t : Walked) → bins_declared levels domain name distribute b w ≡ Ok t → AreCounted w → AreCounted t
 unfolding bins_declared
@@ -279,24 +316,96 @@ unfolding bins_left
 left_have all illegal [] = tt
 left_have all illegal (made ∷ bins) = all_append HasSome (left_of all illegal made) (bins_left all illegal bins) (some_have (record made { bin = bin_left all illegal made.bin }) (has_some (bin_left all illegal made.bin).rule) refl) (left_have all illegal bins)
 
-pub record AreLeft (bins : List Made) : Type 0 where
-  pub few : length bins ≤ most_bins
-  pub have : AllByRecursion (λ made. has_some made.bin.rule ≡ true) bins
+by_left_few : (ignored illegal : List (ℤ × ℤ)) (bins : List Made) → length (left_by ignored illegal bins) ≤ length bins
+unfolding left_by
+by_left_few ignored illegal bins = left_few (set_of (written (ignored ++ illegal))) (set_of (written illegal)) bins
 
-by_left : (ignored illegal : List (ℤ × ℤ)) (bins : List Made) → length bins ≤ most_bins → AreLeft (left_by ignored illegal bins)
-unfolding left_by HasSome
-by_left ignored illegal bins few =
-    let all = set_of (written (ignored ++ illegal)) in
-    let only = set_of (written illegal) in
-    let less = left_few all only bins in
-    record { few = omega (arith, few, less); have = left_have all only bins }
+by_left_have : (ignored illegal : List (ℤ × ℤ)) (bins : List Made) → AllByRecursion HasSome (left_by ignored illegal bins)
+unfolding left_by
+by_left_have ignored illegal bins = left_have (set_of (written (ignored ++ illegal))) (set_of (written illegal)) bins
 
-pub few_left : (levels : Levels) (domain : Domain) (name : List ℕ) (settings : Settings) (bs : List BinsDecl) (at : ℕ) (found : PointBins) → bins_of_point levels domain name settings bs at ≡ Ok found → AreLeft found.bins
+one_few : (bs : List BinsDecl) (ignored illegal : List Seq) (made : Made) (bins : List Made) (b : Bool) → is_trans_left ignored illegal (in_array bs made.declared) made.bin ≡ b → length (transitions_left bs ignored illegal bins) ≤ length bins → length (transitions_left bs ignored illegal (made ∷ bins)) ≤ length (made ∷ bins)
+unfolding transitions_left
+one_few bs ignored illegal made bins true e h = rw e (omega (arith, h))
+one_few bs ignored illegal made bins false e h = rw e (omega (arith, h))
+
+trans_few : (bs : List BinsDecl) (ignored illegal : List Seq) (bins : List Made) → length (transitions_left bs ignored illegal bins) ≤ length bins
+unfolding transitions_left
+trans_few bs ignored illegal [] = omega arith
+trans_few bs ignored illegal (made ∷ bins) = one_few bs ignored illegal made bins (is_trans_left ignored illegal (in_array bs made.declared) made.bin) refl (trans_few bs ignored illegal bins)
+
+one_has : (bs : List BinsDecl) (ignored illegal : List Seq) (made : Made) (bins : List Made) (b : Bool) → is_trans_left ignored illegal (in_array bs made.declared) made.bin ≡ b → HasSome made → AllByRecursion HasSome (transitions_left bs ignored illegal bins) → AllByRecursion HasSome (transitions_left bs ignored illegal (made ∷ bins))
+unfolding transitions_left
+one_has bs ignored illegal made bins true e some h = rw e (some, h)
+one_has bs ignored illegal made bins false e some h = rw e h
+
+trans_have : (bs : List BinsDecl) (ignored illegal : List Seq) (bins : List Made) → AllByRecursion HasSome bins → AllByRecursion HasSome (transitions_left bs ignored illegal bins)
+unfolding transitions_left
+trans_have bs ignored illegal [] h = tt
+trans_have bs ignored illegal (made ∷ bins) h = one_has bs ignored illegal made bins (is_trans_left ignored illegal (in_array bs made.declared) made.bin) refl h.0 (trans_have bs ignored illegal bins h.1)
+
+-- the bins of a point: no more than an item may have, each of a rule of points, with some number or some sequence left
+pub record AreLeft (found : PointBins) : Type 0 where
+  pub few : length found.bins ≤ most_bins
+  pub have : AllByRecursion (λ made. has_some made.bin.rule ≡ true) found.bins
+  pub seqs : AllByRecursion (MadeHasSeq found.ignored found.illegal) found.bins
+
+-- the sequences that take windows away have 120 cells at most together
+abbrev pub IsRemoving : PointBins → Type 0
+IsRemoving found = cells_of_seqs (found.ignored ++ found.illegal) ≤ most_cells
+
+point_is_left : (bs : List BinsDecl) (w : Walked) (bins : List Made) → length bins ≤ most_bins → AllByRecursion (KnownMade bs) bins → AreLeft (point_left bs w bins)
+unfolding HasSome
+point_is_left bs w bins few known =
+    let left = left_by w.ignored w.illegal bins in
+    let less = by_left_few w.ignored w.illegal bins in
+    let least = trans_few bs w.ignored_seqs w.illegal_seqs left in
+    record {
+      few = omega (arith, few, less, least);
+      have = trans_have bs w.ignored_seqs w.illegal_seqs left (by_left_have w.ignored w.illegal bins);
+      seqs = seqs_left bs w.ignored_seqs w.illegal_seqs left (by_known bs w.ignored w.illegal bins known);
+    }
+
+-- what a point's walk leads to
+record IsWalked (levels : Levels) (domain : Domain) (name : List ℕ) (settings : Settings) (bs : List BinsDecl) (found : PointBins) : Type 0 where
+  pub w : Walked
+  pub bins : List Made
+  pub counted : AreCounted w
+  pub known : AreKnown bs w
+  pub filled : all_filled domain w.listed w.entries w.count ≡ Ok bins
+  pub is : point_left bs w bins ≡ found
+
+point_walked : (levels : Levels) (domain : Domain) (name : List ℕ) (settings : Settings) (bs : List BinsDecl) (at : ℕ) (found : PointBins) → bins_of_point levels domain name settings bs at ≡ Ok found → IsWalked levels domain name settings bs found
 unfolding bins_of_point walked_left
-few_left levels domain name settings bs at found e =
+point_walked levels domain name settings bs at found e =
     let d = bind_ok (bins_walked levels domain name settings.distribute_first bs) _ found e in
     let w = bind_ok (with_automatic domain settings bs at d.0) _ found d.2 in
     let all = bind_ok (all_filled domain w.0.listed w.0.entries w.0.count) _ found w.2 in
-    let counted = undeclared_counted domain settings bs at d.0 w.0 w.1 (walked_counted levels domain name settings.distribute_first bs d.0 d.1) in
-    let few = filled_few domain w.0 all.0 all.1 counted in
-    subst (λ (found : PointBins). AreLeft found.bins) (ok_is (point_left w.0 all.0) found all.2) (by_left w.0.ignored w.0.illegal all.0 few)
+    record {
+      w = w.0;
+      bins = all.0;
+      counted = undeclared_counted domain settings bs at d.0 w.0 w.1 (walked_counted levels domain name settings.distribute_first bs d.0 d.1);
+      known = undeclared_known bs domain settings at d.0 w.0 w.1 (walked_known levels domain name settings.distribute_first bs d.0 d.1);
+      filled = all.1;
+      is = ok_is (point_left bs w.0 all.0) found all.2;
+    }
+
+filled_is : (domain : Domain) (listed : List (ℤ × ℤ)) (entries : List Entry) (count : ℕ) (bins : List Made) → all_filled domain listed entries count ≡ Ok bins → all_bins (unlisted domain listed) entries ≡ bins
+unfolding all_filled
+filled_is domain listed entries count bins e =
+    let c = bind_ok (entries_counted (length (written (unlisted domain listed))) entries count) _ bins e in
+    ok_is (all_bins (unlisted domain listed) entries) bins c.2
+
+pub few_left : (levels : Levels) (domain : Domain) (name : List ℕ) (settings : Settings) (bs : List BinsDecl) (at : ℕ) (found : PointBins) → bins_of_point levels domain name settings bs at ≡ Ok found → AreLeft found
+few_left levels domain name settings bs at found e =
+    let p = point_walked levels domain name settings bs at found e in
+    let few = filled_few domain p.w p.bins p.filled p.counted in
+    let known = subst (AllByRecursion (KnownMade bs)) (filled_is domain p.w.listed p.w.entries p.w.count p.bins p.filled) (filled_known bs (unlisted domain p.w.listed) p.w.entries p.known.entries) in
+    subst AreLeft p.is (point_is_left bs p.w p.bins few known)
+
+pub few_removing : (levels : Levels) (domain : Domain) (name : List ℕ) (settings : Settings) (bs : List BinsDecl) (at : ℕ) (found : PointBins) → bins_of_point levels domain name settings bs at ≡ Ok found → IsRemoving found
+few_removing levels domain name settings bs at found e =
+    let p = point_walked levels domain name settings bs at found e in
+    let sum = p.known.removing in
+    let short = p.known.short in
+    subst IsRemoving p.is (omega (arith, sum, short))

@@ -1,5 +1,7 @@
 pub mod Filters
 pub mod Singles
 pub mod Removal
+pub mod Rooms
+pub mod Sequences
 pub mod Kept
 pub mod Tracked

@@ -11,12 +11,20 @@ use Rattle.bin_spec.specs.Parts.{parts}
 use Rattle.value_bins.proofs.Written.{written-append}
 use Rattle.bin_spec.proofs.Spreads.{parts_together}
 use Rattle.cov_tree.specs.declared.bins.BinsDecl.{BinsDecl}
+use Rattle.cov_tree.specs.declared.bins.Step.{Step}
+use Rattle.cov_tree.specs.declared.bins.Word.{Word}
+use Rattle.cov_tree.specs.declared.bins.Word.TheVariants as words
 use Rattle.cov_tree.specs.declared.bins.Right.{Right}
 use Rattle.cov_tree.specs.declared.bins.Right.TheVariants as rights
 use Rattle.cov_tree.specs.declared.bins.Size.{Size}
 use Rattle.cov_tree.specs.declared.bins.Size.TheVariants as sizes
 use Rattle.const_eval.specs.Terms.{Term}
 use Rattle.const_eval.specs.Scopes.{Levels}
+use Rattle.trans_seq.specs.declared.seq.Seq.{Seq}
+use Rattle.elab_transitions.specs.Bins.{trans_bins_of, default_bin_of}
+use Rattle.elab_transitions.specs.Removal.{removing_of, is_rule_left, is_trans_left}
+use Rattle.std.specs.List.{AllByRecursion}
+use Rattle.std.proofs.lemmas.Bool.{true≢false}
 use Rattle.design_data.specs.declared.infos.BinKind.{BinKind}
 use Rattle.design_data.specs.declared.infos.BinKind.TheVariants.{CvgBin, IllegalBin, IgnoreBin, DefaultBin}
 use Rattle.design_data.specs.declared.infos.BinRule.{BinRule}
@@ -42,6 +50,8 @@ use Rattle.elab_points.specs.declared.made.Wanted.TheVariants as wants
 use Rattle.elab_points.specs.Declarations.{kind_of, default_kind, is_ignore, is_illegal, with_set, entered, elements_in, head_of, bins_added, values_binned, elements_binned, values_declared, one_added, rest_added, default_added, default_sized, default_declared, declared_by, bins_declared, no_bins, bins_walked}
 use Rattle.elab_points.specs.Filter.{passes, keep_of, filter_in, kept_numbers}
 use Rattle.elab_points.specs.Left.{set_left, rule_left, kind_left, bin_left, has_some, some_of, bins_left, left_by, point_left, walked_left, bins_of_point}
+use Rattle.elab_points.specs.Transitions.{before, seqs_kept, trans_listed, trans_added, trans_declared, default_sequence_declared, in_array, transitions_left}
+use Rattle.elab_points.proofs.Sequences.{IsTrans, trans_are, default_is}
 use Rattle.elab_points.specs.Made.{wanted_in, IsWanted, bins_wanted, plan_of, planned, plan_bins, named_bin, single, part_bins, parts_kept, bins_made}
 use Rattle.elab_points.specs.Rest.{rest_bin, all_bins, unlisted, entries_counted, all_filled}
 use Rattle.elab_points.specs.Automatic.{auto_head, auto_bin, constant_bin, automatic_by, automatic, declares_coverage, automatic_added, automatic_binned, with_automatic}
@@ -356,15 +366,56 @@ sized_tracks sizes.Open head w t e h = subst Tracked (ok_is (rest_added head w) 
 sized_tracks sizes.Scalar head w t e h = one_tracks head w t e h
 sized_tracks (sizes.Fixed bins) head w t e h = one_tracks head w t e h
 
+-- ---- transitions list nothing
+
+none_listed : (k : Bool) → ((k && false) || false) ≡ false
+none_listed true = refl
+none_listed false = refl
+
+trans_idle : (kinds : BinKind → Bool) (declared : ℕ) (bins : List Made) (v : ℤ) → AllByRecursion (IsTrans declared) bins → listed_by kinds bins v ≡ false
+trans_idle kinds declared [] v h = refl
+trans_idle kinds declared (made ∷ bins) v h = rw (ap (rule_lists v) h.0.rule, trans_idle kinds declared bins v h.1) (none_listed (kinds made.bin.kind))
+
+listed_tracks : (w : Walked) (bins : List Made) → ((kinds : BinKind → Bool) (v : ℤ) → listed_by kinds bins v ≡ false) → (kinds : BinKind → Bool) (v : ℤ) → among kinds (w.entries ++ map Bin bins) v ≡ among kinds w.entries v
+listed_tracks w bins idle kinds v = among-append kinds w.entries (map Bin bins) v ∙ (or_more _ _ _ _ refl (among-bins kinds bins v ∙ idle kinds v) ∙ or_false (among kinds w.entries v))
+
+seqs_track : (word : Word) (seqs : List Seq) (w : Walked) → Tracked w → Tracked (seqs_kept word seqs w)
+seqs_track words.Bins seqs w h = h
+seqs_track words.Illegal seqs w h = record { ignores = h.ignores; forbids = h.forbids }
+seqs_track words.Ignore seqs w h = record { ignores = h.ignores; forbids = h.forbids }
+
+declared_trans : (levels : Levels) (domain : Domain) (b : BinsDecl) (sequences : List (List Step)) (w t : Walked) → trans_declared levels domain b sequences w ≡ Ok t → Tracked w → Tracked t
+unfolding trans_declared trans_added
+declared_trans levels domain b sequences w t e h =
+    let m = bind_ok (trans_bins_of levels domain b sequences (before w)) _ t e in
+    let are = trans_are levels domain b sequences (before w) m.0 m.1 in
+    let idle : (kinds : BinKind → Bool) (v : ℤ) → listed_by kinds m.0.bins v ≡ false = λ kinds v. trans_idle kinds (length w.names) m.0.bins v are in
+    let listed : Tracked (trans_listed b.name m.0 w) = record {
+      ignores = λ v. h.ignores v ∙ sym (listed_tracks w m.0.bins idle is_ignore v);
+      forbids = λ v. h.forbids v ∙ sym (listed_tracks w m.0.bins idle is_illegal v);
+    } in
+    subst Tracked (ok_is _ t m.2) (seqs_track b.word m.0.removed (trans_listed b.name m.0 w) listed)
+
+declared_default_sequence : (levels : Levels) (b : BinsDecl) (w t : Walked) → default_sequence_declared levels b w ≡ Ok t → Tracked w → Tracked t
+unfolding default_sequence_declared
+declared_default_sequence levels b w t e h =
+    let m = bind_ok (default_bin_of levels b (before w)) _ t e in
+    let is = default_is levels b (before w) m.0 m.1 in
+    let idle : (kinds : BinKind → Bool) (v : ℤ) → entry_lists kinds v (Bin m.0) ≡ false = λ kinds v. rw (ap (rule_lists v) is) (sym (and_none (kinds m.0.bin.kind))) in
+    subst Tracked (ok_is _ t m.2) (record {
+      ignores = λ v. h.ignores v ∙ sym (idle_tracks w (Bin m.0) idle h is_ignore v);
+      forbids = λ v. h.forbids v ∙ sym (idle_tracks w (Bin m.0) idle h is_illegal v);
+    })
+
 right_tracks : (levels : Levels) (domain : Domain) (distribute : Bool) (b : BinsDecl) (right : Right) (w t : Walked) → declared_by levels domain distribute b w right ≡ Ok t → Tracked w → Tracked t
 unfolding default_declared
 right_tracks levels domain distribute b (rights.Ranges elems keep) w t e h = declared_values levels domain distribute b w t e h
 right_tracks levels domain distribute b (rights.Whole name keep) w t e h = declared_values levels domain distribute b w t e h
-right_tracks levels domain distribute b (rights.Trans seqs) w t e h = absurd cc
+right_tracks levels domain distribute b (rights.Trans seqs) w t e h = declared_trans levels domain b seqs w t e h
 right_tracks levels domain distribute b rights.Default w t e h =
     let g = bind_ok (guard_in levels b.guard) _ t e in
     sized_tracks b.size (head_of b (default_kind b.word) g.0 w) w t g.2 h
-right_tracks levels domain distribute b rights.DefaultSequence w t e h = absurd cc
+right_tracks levels domain distribute b rights.DefaultSequence w t e h = declared_default_sequence levels b w t e h
 
 declared_tracks : (levels : Levels) (domain : Domain) (name : List ℕ) (distribute : Bool) (b : BinsDecl) (w t : Walked) → bins_declared levels domain name distribute b w ≡ Ok t → Tracked w → Tracked t
 unfolding bins_declared
@@ -450,9 +501,37 @@ known_bins : (bins : List Made) (v : ℤ) → list_any (λ (bin : BinInfo). list
 known_bins [] v = refl
 known_bins (made ∷ bins) v = ap (λ (r : Bool). rule_lists v made.bin.rule || r) (known_bins bins v)
 
-keeps : (ignored illegal : List (ℤ × ℤ)) (bins : List Made) → Tracks ignored illegal bins → KeepsListed (map (λ (made : Made). made.bin.rule) bins) (map (λ (made : Made). made.bin) (left_by ignored illegal bins))
-keeps ignored illegal bins t None = unknown_bins (left_by ignored illegal bins) ∙ sym (unknown_rules bins)
-keeps ignored illegal bins t (Some v) = known_bins (left_by ignored illegal bins) v ∙ (listed_stays ignored illegal bins t v ∙ sym (known_rules bins v))
+-- a bin that removal of transitions drops lists nothing
+dropped_idle : (array : Bool) (removing : List Seq) (rule : BinRule) (v : ℤ) → is_rule_left array removing rule ≡ false → rule_lists v rule ≡ false
+dropped_idle array removing (Values set) v e = absurd (true≢false e)
+dropped_idle array removing (Patterns patterns) v e = absurd (true≢false e)
+dropped_idle array removing (Trans seqs) v e = refl
+dropped_idle array removing Default v e = refl
+dropped_idle array removing (DefaultValues set) v e = refl
+dropped_idle array removing DefaultSequence v e = refl
+dropped_idle array removing (Picked select) v e = refl
+dropped_idle array removing (Product places) v e = refl
+
+dropped_lists : (bs : List BinsDecl) (ignored illegal : List Seq) (made : Made) (v : ℤ) → is_trans_left ignored illegal (in_array bs made.declared) made.bin ≡ false → rule_lists v made.bin.rule ≡ false
+unfolding is_trans_left
+dropped_lists bs ignored illegal made v e = dropped_idle (in_array bs made.declared) (removing_of made.bin.kind ignored illegal) made.bin.rule v e
+
+one_stays : (bs : List BinsDecl) (ignored illegal : List Seq) (made : Made) (bins : List Made) (v : ℤ) (b : Bool) → is_trans_left ignored illegal (in_array bs made.declared) made.bin ≡ b → lists_in (transitions_left bs ignored illegal bins) v ≡ lists_in bins v
+    → lists_in (transitions_left bs ignored illegal (made ∷ bins)) v ≡ lists_in (made ∷ bins) v
+unfolding transitions_left
+one_stays bs ignored illegal made bins v true e h = rw e (ap (λ (r : Bool). rule_lists v made.bin.rule || r) h)
+one_stays bs ignored illegal made bins v false e h = rw (e, dropped_lists bs ignored illegal made v e) h
+
+trans_stay : (bs : List BinsDecl) (ignored illegal : List Seq) (bins : List Made) (v : ℤ) → lists_in (transitions_left bs ignored illegal bins) v ≡ lists_in bins v
+unfolding transitions_left
+trans_stay bs ignored illegal [] v = refl
+trans_stay bs ignored illegal (made ∷ bins) v = one_stays bs ignored illegal made bins v (is_trans_left ignored illegal (in_array bs made.declared) made.bin) refl (trans_stay bs ignored illegal bins v)
+
+keeps : (bs : List BinsDecl) (w : Walked) (bins : List Made) → Tracks w.ignored w.illegal bins → KeepsListed (map (λ (made : Made). made.bin.rule) bins) (map (λ (made : Made). made.bin) (point_left bs w bins).bins)
+keeps bs w bins t None = unknown_bins (point_left bs w bins).bins ∙ sym (unknown_rules bins)
+keeps bs w bins t (Some v) =
+    let left = left_by w.ignored w.illegal bins in
+    known_bins (point_left bs w bins).bins v ∙ (trans_stay bs w.ignored_seqs w.illegal_seqs left v ∙ (listed_stays w.ignored w.illegal bins t v ∙ sym (known_rules bins v)))
 
 declared_is : (levels : Levels) (domain : Domain) (name : List ℕ) (settings : Settings) (bs : List BinsDecl) (at : ℕ) (d w : Walked) (all : List Made) → bins_walked levels domain name settings.distribute_first bs ≡ Ok d → with_automatic domain settings bs at d ≡ Ok w
     → all_filled domain w.listed w.entries w.count ≡ Ok all → bins_declared_in levels domain name settings bs at ≡ Ok all
@@ -476,5 +555,5 @@ removal_keeps levels domain name settings bs at found e =
     let all = bind_ok (all_filled domain w.0.listed w.0.entries w.0.count) _ found w.2 in
     let is = filled_is domain w.0.listed w.0.entries w.0.count all.0 all.1 in
     let t = undeclared_tracks domain settings bs at d.0 w.0 w.1 (walked_tracks levels domain name settings.distribute_first bs d.0 d.1) in
-    let kept = keeps w.0.ignored w.0.illegal all.0 (tracks_all (unlisted domain w.0.listed) w.0 all.0 is t) in
-    (all.0, declared_is levels domain name settings bs at d.0 w.0 all.0 d.1 w.1 all.1, subst (λ (f : PointBins). KeepsListed (map (λ (made : Made). made.bin.rule) all.0) (map (λ (made : Made). made.bin) f.bins)) (ok_is (point_left w.0 all.0) found all.2) kept)
+    let kept = keeps bs w.0 all.0 (tracks_all (unlisted domain w.0.listed) w.0 all.0 is t) in
+    (all.0, declared_is levels domain name settings bs at d.0 w.0 all.0 d.1 w.1 all.1, subst (λ (f : PointBins). KeepsListed (map (λ (made : Made). made.bin.rule) all.0) (map (λ (made : Made). made.bin) f.bins)) (ok_is (point_left bs w.0 all.0) found all.2) kept)

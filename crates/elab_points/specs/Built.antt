@@ -1,5 +1,4 @@
--- Which bins of a point are built: those of values, but for the literals with x, z or ? of scalar bins and of filtered
--- ones, and `default`.
+-- Which bins of a point are built: all but the literals with x, z or ? of scalar bins and of filtered ones.
 use Rattle.std.specs.Prelude.{Bool, true, false, Some, None, if◌then◌else◌}
 use Rattle.cov_tree.specs.declared.bins.Right.{Right}
 use Rattle.cov_tree.specs.declared.bins.Right.TheVariants as rights
@@ -12,20 +11,13 @@ is_scalar sizes.Scalar = true
 is_scalar sizes.Open = false
 is_scalar (sizes.Fixed bins) = false
 
-abbrev pub is_built_right : Right → Bool
-is_built_right (rights.Ranges elems keep) = true
-is_built_right (rights.Whole name keep) = true
-is_built_right (rights.Trans seqs) = false
-is_built_right rights.Default = true
-is_built_right rights.DefaultSequence = false
-
 abbrev pub is_built_wildcard : Size → Right → Bool
 is_built_wildcard size (rights.Ranges elems None) = if is_scalar size then false else true
 is_built_wildcard size (rights.Ranges elems (Some keep)) = false
 is_built_wildcard size (rights.Whole name keep) = true
-is_built_wildcard size (rights.Trans seqs) = false
+is_built_wildcard size (rights.Trans seqs) = true
 is_built_wildcard size rights.Default = true
-is_built_wildcard size rights.DefaultSequence = false
+is_built_wildcard size rights.DefaultSequence = true
 
 abbrev pub is_built_decl : BinsDecl → Bool
-is_built_decl b = if b.wildcard then is_built_wildcard b.size b.right else is_built_right b.right
+is_built_decl b = if b.wildcard then is_built_wildcard b.size b.right else true

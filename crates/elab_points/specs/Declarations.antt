@@ -32,6 +32,7 @@ use Rattle.elab_points.specs.declared.made.Head.{Head}
 use Rattle.elab_points.specs.declared.made.Wanted.{Wanted}
 use Rattle.elab_points.specs.Built.{is_built_decl}
 use Rattle.elab_points.specs.Filter.{keep_of, filter_in, kept_numbers}
+use Rattle.elab_points.specs.Transitions.{trans_declared, made_added, default_sequence_declared}
 use Rattle.elab_points.specs.Made.{wanted_in, planned, plan_bins, named_bin, bins_made}
 
 abbrev pub kind_of : Word → BinKind
@@ -146,12 +147,7 @@ default_kind words.Ignore = DefaultBin
 
 -- one bin, with the name of its declaration
 unfoldable pub one_added : Head → BinRule → Walked → Walked
-one_added head rule w = record w {
-  known = with_name w.known head.name what.Bin;
-  names = w.names ++ head.name ∷ [];
-  entries = w.entries ++ Bin (named_bin head head.name rule) ∷ [];
-  count = w.count + 1;
-}
+one_added head rule w = made_added head.name (named_bin head head.name rule) w
 
 -- a bin for each number that is listed nowhere: which these are is known at the end of the point
 unfoldable pub rest_added : Head → Walked → Walked
@@ -181,9 +177,9 @@ default_declared levels b w = do
 abbrev pub declared_by : Levels → Domain → (distribute : Bool) → BinsDecl → Walked → Right → Result Walked Refusal
 declared_by levels domain distribute b w (rights.Ranges elems keep) = values_declared levels domain distribute b w
 declared_by levels domain distribute b w (rights.Whole name keep) = values_declared levels domain distribute b w
-declared_by levels domain distribute b w (rights.Trans seqs) = Err (kind.NotBuiltYet, b.at)
+declared_by levels domain distribute b w (rights.Trans seqs) = trans_declared levels domain b seqs w
 declared_by levels domain distribute b w rights.Default = default_declared levels b w
-declared_by levels domain distribute b w rights.DefaultSequence = Err (kind.NotBuiltYet, b.at)
+declared_by levels domain distribute b w rights.DefaultSequence = default_sequence_declared levels b w
 
 unfoldable pub bins_declared : Levels → Domain → (name : List ℕ) → (distribute : Bool) → BinsDecl → Walked → Result Walked Refusal
 bins_declared levels domain name distribute b w = do
@@ -191,7 +187,7 @@ bins_declared levels domain name distribute b w = do
   declared_by levels domain distribute b w b.right
 
 abbrev pub no_bins : Walked
-no_bins = record { known = []; names = []; entries = []; count = 0; listed = []; ignored = []; illegal = []; ignored_seqs = []; illegal_seqs = [] }
+no_bins = record { known = []; names = []; entries = []; count = 0; listed = []; ignored = []; illegal = []; ignored_seqs = []; illegal_seqs = []; removing = 0 }
 
 unfoldable pub bins_walked : Levels → Domain → (name : List ℕ) → (distribute : Bool) → List BinsDecl → Result Walked Refusal
 bins_walked levels domain name distribute bs = each (bins_declared levels domain name distribute) bs no_bins

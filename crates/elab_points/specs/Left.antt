@@ -18,6 +18,7 @@ use Rattle.elab_points.specs.declared.declared.Walked.{Walked}
 use Rattle.elab_points.specs.Declarations.{bins_walked}
 use Rattle.elab_points.specs.Automatic.{with_automatic}
 use Rattle.elab_points.specs.Rest.{all_filled}
+use Rattle.elab_points.specs.Transitions.{transitions_left}
 
 abbrev pub set_left : (removed set : List (ℤ × ℤ)) → List (ℤ × ℤ)
 set_left removed set = set_of (without (written set) (written removed))
@@ -68,18 +69,24 @@ bins_left all illegal bins = flat_map (left_of all illegal) bins
 unfoldable pub left_by : (ignored illegal : List (ℤ × ℤ)) → List Made → List Made
 left_by ignored illegal bins = bins_left (set_of (written (ignored ++ illegal))) (set_of (written illegal)) bins
 
-abbrev pub point_left : Walked → (bins : List Made) → PointBins
-point_left w bins = record { bins = left_by w.ignored w.illegal bins; names = w.names; ignored = w.ignored_seqs; illegal = w.illegal_seqs }
+-- bins of values by what is left of their numbers, and then bins of transitions by what is left of their sequences
+abbrev pub point_left : List BinsDecl → Walked → (bins : List Made) → PointBins
+point_left bs w bins = record {
+  bins = transitions_left bs w.ignored_seqs w.illegal_seqs (left_by w.ignored w.illegal bins);
+  names = w.names;
+  ignored = w.ignored_seqs;
+  illegal = w.illegal_seqs;
+}
 
 -- what is left of all that is declared, with the bins of arrays of `default` in their places
-unfoldable pub walked_left : Domain → Walked → Result PointBins Refusal
-walked_left domain w = do
+unfoldable pub walked_left : Domain → List BinsDecl → Walked → Result PointBins Refusal
+walked_left domain bs w = do
   bins ← all_filled domain w.listed w.entries w.count
-  Ok (point_left w bins)
+  Ok (point_left bs w bins)
 
 -- the bins of a point of this name, which stands there
 unfoldable pub bins_of_point : Levels → Domain → (name : List ℕ) → Settings → List BinsDecl → (at : ℕ) → Result PointBins Refusal
 bins_of_point levels domain name settings bs at = do
   declared ← bins_walked levels domain name settings.distribute_first bs
   w ← with_automatic domain settings bs at declared
-  walked_left domain w
+  walked_left domain bs w

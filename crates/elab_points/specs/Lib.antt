@@ -6,3 +6,4 @@ pub mod Laws
 pub mod Left
 pub mod Made
 pub mod Rest
+pub mod Transitions

@@ -1,6 +1,6 @@
 //! Which bins of a point are built.
 ghost use Rattle.std.specs.Prelude.{◌≡◌};
-ghost use Rattle.elab_points.specs.Built.{is_scalar as is_scalar_size, is_built_right, is_built_wildcard, is_built_decl};
+ghost use Rattle.elab_points.specs.Built.{is_scalar as is_scalar_size, is_built_wildcard, is_built_decl};
 
 use cov_tree::{BinsDecl, Right, Size};
 
@@ -15,18 +15,6 @@ pub(crate) fn is_scalar(size: &Size) -> bool
     }
 }
 
-fn is_built_values(right: &Right) -> bool
-    ensures { result ≡ is_built_right right.now }
-{
-    match right {
-        Right::Ranges { .. } => true,
-        Right::Whole { .. } => true,
-        Right::Trans(_) => false,
-        Right::Default => true,
-        Right::DefaultSequence => false,
-    }
-}
-
 fn is_built_literals(size: &Size, right: &Right) -> bool
     ensures { result ≡ is_built_wildcard size.now right.now }
 {
@@ -34,19 +22,19 @@ fn is_built_literals(size: &Size, right: &Right) -> bool
         Right::Ranges { keep: None, .. } => !is_scalar(size),
         Right::Ranges { keep: Some(_), .. } => false,
         Right::Whole { .. } => true,
-        Right::Trans(_) => false,
+        Right::Trans(_) => true,
         Right::Default => true,
-        Right::DefaultSequence => false,
+        Right::DefaultSequence => true,
     }
 }
 
-/// Whether the bins of a declaration are built: so far those of values, but for the literals with x, z or `?` of scalar
-/// bins and of filtered ones, and `default`.
+/// Whether the bins of a declaration are built: so far all but the literals with x, z or `?` of scalar bins and of
+/// filtered ones.
 pub fn is_built(decl: &BinsDecl) -> bool
     ensures { result ≡ is_built_decl decl.now }
 {
     if decl.wildcard {
         return is_built_literals(&decl.size, &decl.right);
     }
-    is_built_values(&decl.right)
+    true
 }

@@ -14,6 +14,7 @@ ghost use Rattle.elab_points.specs.Declarations.{kind_of as kind_meant, default_
 use crate::built::is_built;
 use crate::filter::{filter_of, keep_numbers};
 use crate::made::{Head, Plan, Wanted, bin_of, bins_of, check_room, make_plan, size_of};
+use crate::transitions::{add_made, declare_default_sequence, declare_trans};
 use const_eval::{Bound, Scope};
 use cov_base::{Int, Memory, ValueSet};
 use cov_tree::{BinsDecl, List, Name, Right, Size, Word};
@@ -55,6 +56,8 @@ pub struct Walked {
     pub ignored_seqs: List<Seq>,
     /// The sequences of the illegal bins.
     pub illegal_seqs: List<Seq>,
+    /// How many cells the ignored and illegal sequences have.
+    pub removing: u64,
 }
 
 fn kind_of(word: &Word) -> BinKind
@@ -201,7 +204,7 @@ fn add_set(
 }
 
 /// The number as one of 32 bits. So many declarations as it doesn't hold don't fit into memory.
-fn place_of(place: usize) -> Result<u32, Memory>
+pub(crate) fn place_of(place: usize) -> Result<u32, Memory>
     ensures { IfOk result (λ same. same ≡ place) }
 {
     match u32::try_from(place) {
@@ -231,7 +234,7 @@ fn head(
 }
 
 /// Adds the name of a declaration.
-fn keep_name(alloc: Global, name: &Name, walked: &mut Walked) -> Result<(), Memory>
+pub(crate) fn keep_name(alloc: Global, name: &Name, walked: &mut Walked) -> Result<(), Memory>
     ensures { OnOk result (walked.new ≡ record walked.old { known = with_name walked.old.known name.now what.Bin; names = walked.old.names ++ name.now ∷ [] }) }
 {
     add_name(alloc, &mut walked.known, name, What::Bin)?;
@@ -355,13 +358,9 @@ fn add_one(alloc: Global, head: &Head, rule: BinRule, walked: &mut Walked) -> Re
     requires { walked.old.count + 1 ≤ most_bins }
     ensures { OnOk result (walked.new ≡ one_added head.now rule walked.old) }
 {
-    keep_name(alloc, &head.name, walked)?;
     let name = head.name.copy(alloc)?;
-    walked
-        .entries
-        .push(Entry::Bin(bin_of(alloc, head, name, rule)?))?;
-    walked.count += 1;
-    Ok(())
+    let made = bin_of(alloc, head, name, rule)?;
+    add_made(alloc, &head.name, made, walked)
 }
 
 /// Adds an array of `default`.
@@ -421,9 +420,11 @@ fn declare_right(
     match &decl.right {
         Right::Ranges { .. } => declare_values(alloc, scope, domain, distribute, decl, walked),
         Right::Whole { .. } => declare_values(alloc, scope, domain, distribute, decl, walked),
-        Right::Trans(_) => Err(ElabKind::NotBuiltYet.at(decl.at)),
+        Right::Trans(seqs) => {
+            declare_trans(alloc, scope, domain, decl, seqs.as_slice(), walked)
+        }
         Right::Default => declare_default(alloc, scope, decl, walked),
-        Right::DefaultSequence => Err(ElabKind::NotBuiltYet.at(decl.at)),
+        Right::DefaultSequence => declare_default_sequence(alloc, scope, decl, walked),
     }
 }
 
@@ -466,6 +467,7 @@ pub(crate) fn walk_bins(
         illegal: List::new(alloc),
         ignored_seqs: List::new(alloc),
         illegal_seqs: List::new(alloc),
+        removing: 0,
     };
     for decl in decls {
         declare(alloc, scope, domain, name, distribute, decl, &mut walked)?;

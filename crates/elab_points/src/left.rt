@@ -3,17 +3,21 @@ ghost use Rattle.std.specs.Prelude.{◌≡◌, ◌++◌, OnOk, IfOk};
 ghost use Rattle.elab_base.specs.Gives.{Gives};
 ghost use Rattle.elab_points.specs.Left.{rule_left as left_of_rule, bin_left as left_of_bin, has_some as has_number, some_of, left_of, bins_left as left_of_bins, left_by, walked_left as left_of_walked, bins_of_point};
 ghost use Rattle.elab_points.specs.Automatic.{CanHaveBins};
+ghost use Rattle.elab_points.specs.Transitions.{transitions_left as left_of_transitions};
 
 use crate::auto::add_undeclared;
 use crate::declared::{Walked, walk_bins};
 use crate::rest::fill;
+use crate::transitions::transitions_left;
 use const_eval::Scope;
 use cov_base::{Int, Memory, ValueSet};
 use cov_tree::{BinsDecl, List, Name};
 use design_data::{BinInfo, BinKind, BinRule};
 use elab_base::ElabFault;
+use elab_transitions::Removers;
 use elab_values::{Domain, Made, PointBins, Settings};
 use std::alloc::Global;
+use trans_seq::Seq;
 
 #[tactic(auto, unfolding(crate::specs::Left::rule_left))]
 fn rule_left(alloc: Global, removed: &ValueSet, rule: BinRule) -> Result<BinRule, Memory>
@@ -127,10 +131,37 @@ fn left(
     bins_left(alloc, &all, &only_illegal, bins.into_vec())
 }
 
+/// What is left of bins by their transitions, with what a point tells besides.
+fn with_transitions(
+    alloc: Global,
+    decls: &[BinsDecl],
+    names: List<Name>,
+    ignored: List<Seq>,
+    illegal: List<Seq>,
+    bins: List<Made>,
+) -> Result<PointBins, Memory>
+    ensures { IfOk result (λ found. found ≡ record { bins = left_of_transitions decls.now ignored illegal bins; names = names; ignored = ignored; illegal = illegal }) }
+{
+    let removers = Removers::new(alloc, ignored, illegal)?;
+    let bins = transitions_left(alloc, decls, &removers, bins.into_vec())?;
+    let (ignored, illegal) = removers.into_seqs();
+    Ok(PointBins {
+        bins,
+        names,
+        ignored,
+        illegal,
+    })
+}
+
 /// What is left of all that is declared.
 #[tactic(auto, unfolding(crate::specs::Left::walked_left))]
-fn walked_left(alloc: Global, domain: &Domain, walked: Walked) -> Result<PointBins, ElabFault>
-    ensures { Gives result (left_of_walked domain.now walked) }
+fn walked_left(
+    alloc: Global,
+    domain: &Domain,
+    decls: &[BinsDecl],
+    walked: Walked,
+) -> Result<PointBins, ElabFault>
+    ensures { Gives result (left_of_walked domain.now decls.now walked) }
 {
     let Walked {
         known: _,
@@ -142,15 +173,12 @@ fn walked_left(alloc: Global, domain: &Domain, walked: Walked) -> Result<PointBi
         illegal,
         ignored_seqs,
         illegal_seqs,
+        removing: _,
     } = walked;
     let all = fill(alloc, domain, listed.as_slice(), entries, count)?;
     let bins = left(alloc, ignored, illegal, all)?;
-    Ok(PointBins {
-        bins,
-        names,
-        ignored: ignored_seqs,
-        illegal: illegal_seqs,
-    })
+    let found = with_transitions(alloc, decls, names, ignored_seqs, illegal_seqs, bins)?;
+    Ok(found)
 }
 
 /// The bins of a point of this name, which stands at `at`. Each of them has something left.
@@ -169,6 +197,6 @@ pub fn point_bins(
 {
     let mut walked = walk_bins(alloc, scope, domain, name, settings.distribute_first, decls)?;
     add_undeclared(alloc, domain, settings, decls, at, &mut walked)?;
-    let found = walked_left(alloc, domain, walked)?;
+    let found = walked_left(alloc, domain, decls, walked)?;
     Ok(found)
 }

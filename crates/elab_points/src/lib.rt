@@ -10,6 +10,7 @@ pub mod laws;
 mod left;
 mod made;
 mod rest;
+mod transitions;
 
 pub use built::is_built;
 pub use declared::{Entry, Walked};
