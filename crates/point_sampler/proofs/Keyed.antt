@@ -1,5 +1,5 @@
 -- Sets of keys, and what an index of them finds.
-use Rattle.std.proofs.Common.{◌≡◌, ℤ, pos, ◌+ℤ◌, ◌≤ℤ◌, ◌<ℤ◌, ℕ, zero, suc, ◌+◌, ◌-◌, ◌^◌, ◌<◌, ◌≤◌, List, [], ◌∷◌, ◌++◌, length, get_or, map, take, All, Bool, true, false, cond, Some, not, refl, ap, sym, subst, ◌∙◌, arith, length-append, inl, inr}
+use Rattle.std.proofs.Common.{◌≡◌, ℤ, pos, ◌+ℤ◌, ◌≤ℤ◌, ◌<ℤ◌, ℕ, zero, suc, ◌+◌, ◌-◌, ◌^◌, ◌<◌, ◌≤◌, List, [], ◌∷◌, ◌++◌, length, get_or, map, take, All, Bool, true, false, cond, Some, None, not, refl, ap, sym, subst, ◌∙◌, arith, length-append, inl, inr}
 use Rattle.std.specs.Prelude.{AllPairs, int_le, nat_le}
 use Rattle.std.specs.List.{list_any}
 use mathlib.Core.Bool.{◌&&◌, ◌||◌}
@@ -14,8 +14,8 @@ use Rattle.cov_base.specs.Sets.{written, is_in, is_within, covers, IsNormalFrom,
 use Rattle.cov_base.proofs.Members.{is_in-written}
 use Rattle.design_data.specs.declared.infos.BinInfo.{BinInfo}
 use Rattle.design_data.specs.declared.infos.BinRule.{BinRule}
-use Rattle.design_data.specs.declared.infos.BinRule.TheVariants.{Values}
-use Rattle.design_data.specs.Laws.{lists}
+use Rattle.design_data.specs.declared.infos.BinRule.TheVariants.{Values, Patterns, Trans, Default, DefaultValues, DefaultSequence, Picked, Product}
+use Rattle.design_data.specs.Laws.{lists, is_listed}
 use Rattle.value_index.specs.declared.sets.Span.{Span}
 use Rattle.value_index.specs.Found.{in_span, in_set, places, Apart}
 use Rattle.point_sampler.specs.Plans.{places_from, has_value}
@@ -75,6 +75,20 @@ listed_more old set new rule v e is =
 pub none_listed : (ranges : List (ℤ × ℤ)) (v : ℤ) → ranges ≡ [] → is_in (written ranges) v ≡ false
 none_listed ranges v e = ap (λ (rs : List (ℤ × ℤ)). is_in (written rs) v) e ∙ is_in-written [] v
 
+pub never_listed : (bins : List BinInfo) → is_listed bins None ≡ false
+never_listed [] = refl
+never_listed (bin ∷ bins) = ap (λ (b : Bool). b || is_listed bins None) (unlisted bin.rule) ∙ never_listed bins
+  where
+    unlisted : (rule : BinRule) → lists None rule ≡ false
+    unlisted (Values set) = refl
+    unlisted (Patterns patterns) = refl
+    unlisted (Trans seqs) = refl
+    unlisted Default = refl
+    unlisted (DefaultValues set) = refl
+    unlisted DefaultSequence = refl
+    unlisted (Picked select) = refl
+    unlisted (Product members) = refl
+
 in_whole : (base last : ℤ) (key : ℕ) → last ≡ (base +ℤ pos (2 ^ 64 - 1)) → key < 2 ^ 64 → (is_within (base +ℤ pos key) (base, last) || false) ≡ true
 in_whole base last key e fits = grind (arith, common_steps, ints)
 
@@ -82,10 +96,10 @@ pub left_of : (base last : ℤ) (whole listed ranges rest : List (ℤ × ℤ)) (
     → ((v : ℤ) → is_in (written whole) v ≡ is_in (written ((base, last) ∷ [])) v) → ((v : ℤ) → is_in (written listed) v ≡ is_in (written ranges) v)
     → ((v : ℤ) → is_in (written rest) v ≡ (is_in (written whole) v && not (is_in (written listed) v)))
     → is_in (written rest) (base +ℤ pos key) ≡ not (is_in (written ranges) (base +ℤ pos key))
-left_of base last whole listed ranges rest key e fits is_whole is_listed is_rest =
+left_of base last whole listed ranges rest key e fits is_whole is_from is_rest =
     let v : ℤ = base +ℤ pos key in
     is_rest v ∙ ap (λ (b : Bool). b && not (is_in (written listed) v)) (is_whole v ∙ is_in-written ((base, last) ∷ []) v ∙ in_whole base last key e fits)
-    ∙ ap not (is_listed v)
+    ∙ ap not (is_from v)
 
 -- ---- places
 

@@ -49,11 +49,12 @@ has_value bins v (Picked select) = false
 has_value bins v (Product members) = false
 
 -- What a look-up knows: for each key the places of the bins that have the value, which stands that far above the
--- least one.
+-- least one; and those that are met where the value is Unknown.
 pub record IsLookupOf (bins : List BinInfo) (lookup : Lookup) : Type 0 where
   pub sets : List (List Span)
   pub finds : Finds lookup.index sets
   pub meets : (key : ℕ) → key < 2 ^ 64 → places key 0 sets ≡ places_from (λ bin. has_value bins (Some (lookup.least +ℤ pos key)) bin.rule) 0 bins
+  pub unknown : lookup.unknown.items ≡ places_from (λ bin. has_value bins None bin.rule) 0 bins
 
 -- ---- what is prepared of each bin
 

@@ -38,16 +38,6 @@ pub(crate) fn key_of(least: Int, value: Int) -> Option<u64>
     Some(key as u64)
 }
 
-/// The key of a value, if that is known and has one.
-pub(crate) fn known_key(least: Int, value: &Option<Int>) -> Option<u64>
-    ensures { IfSome result (λ key. value.now ≡ Some (least +ℤ pos key)) }
-{
-    match value {
-        None => None,
-        Some(number) => key_of(least, *number),
-    }
-}
-
 /// The keys of a range's numbers; None where an end has none.
 fn span_of(least: Int, range: &(Int, Int)) -> Option<Span>
     ensures { IfSome result (λ span. range_at least span ≡ range.now) }

@@ -1,12 +1,15 @@
 //! How the index of a point's bins of values is made.
-ghost use Rattle.std.specs.Prelude.{◌≡◌, ℤ, pos, ◌+ℤ◌, ◌≤ℤ◌, ℕ, ◌<◌, ◌^◌, ◌||◌, not, Some, IsTrue, IfOk, IfSome};
+ghost use Rattle.std.specs.Prelude.{◌≡◌, ℤ, pos, ◌+ℤ◌, ◌≤ℤ◌, ℕ, ◌<◌, ◌^◌, ◌||◌, ◌≤◌, not, List, length, Some, None, IsTrue, IfOk, IfSome};
 ghost use Rattle.cov_base.specs.Sets.{written, is_in};
 ghost use Rattle.design_data.specs.Laws.{lists as lists_of};
-ghost use Rattle.point_sampler.specs.Plans.{IsPoint, IsLookupOf};
+ghost use Rattle.point_sampler.specs.Plans.{IsPoint, IsLookupOf, has_value, places_from};
+ghost use Rattle.cov_ground.specs.Limits.{most_bins};
+ghost use Rattle.design_data.specs.declared.infos.BinInfo.{BinInfo as Bin};
 ghost use Rattle.point_sampler.specs.Keys.{AreListed, AreUnlisted, IsSetOf, HasOneMore, AreSetsOf};
 
 use crate::keys::{keys_of, least_of};
 use crate::plan::Lookup;
+use crate::rules::note;
 use cov_base::{Int, Memory, ValueSet};
 use design_data::{BinInfo, BinRule, ItemInfo};
 use std::alloc::Global;
@@ -56,31 +59,41 @@ fn without(alloc: Global, least: Int, ranges: &[(Int, Int)]) -> Result<ValueSet,
     Ok(rest)
 }
 
-fn is_default(rule: &BinRule) -> bool {
+/// Whether a bin of this rule is met where the value is Unknown, which no bin lists.
+#[tactic(auto, using(crate::proofs::Keyed::never_listed))]
+fn is_default(rule: &BinRule) -> bool
+    ensures { (bins : List Bin) → result ≡ has_value bins None rule.now }
+{
     match rule {
         BinRule::Default => true,
         _ => false,
     }
 }
 
-/// How many bins are `default`.
-fn defaults_in(bins: &[BinInfo]) -> usize {
-    let mut defaults = 0;
-    for bin in bins {
-        if is_default(&bin.rule) {
-            defaults += 1;
-        }
+/// The places of the bins that are met where the value is Unknown: those of the bins `default`.
+fn unknown_of(alloc: Global, bins: &[BinInfo]) -> Result<Vec<u32>, Memory>
+    requires { length bins.now ≤ most_bins }
+    ensures { IfOk result (λ places.
+        places.items ≡ places_from (λ bin. has_value bins.now None bin.rule) 0 bins.now) }
+{
+    let mut places = Vec::new(alloc);
+    for (place, bin) in bins.iter().enumerate() {
+        note(place as u32, is_default(&bin.rule), &mut places)?;
     }
-    defaults
+    Ok(places)
 }
 
-/// The values that no bin lists, if there is a bin `default`. None where a bin is of patterns, and where the intervals,
+/// The values that no bin lists, if there are bins `default`, so many. None where a bin is of patterns, and where the intervals,
 /// copied for each such bin, would be many.
-fn unlisted_of(alloc: Global, item: &ItemInfo, least: Int) -> Result<Option<ValueSet>, Memory>
+fn unlisted_of(
+    alloc: Global,
+    item: &ItemInfo,
+    least: Int,
+    defaults: usize,
+) -> Result<Option<ValueSet>, Memory>
     requires { least ≤ℤ pos 0 }
     ensures { IfOk result (λ made. IfSome made (AreUnlisted item.now.bins least)) }
 {
-    let defaults = defaults_in(item.bins.as_slice());
     if defaults == 0 {
         return Ok(None);
     }
@@ -165,7 +178,8 @@ pub(crate) fn lookup_of(alloc: Global, item: &ItemInfo) -> Result<Option<Lookup>
     ensures { IfOk result (λ made. IfSome made (IsLookupOf item.now.bins)) }
 {
     let least = least_of(item);
-    let rest = unlisted_of(alloc, item, least)?;
+    let unknown = unknown_of(alloc, item.bins.as_slice())?;
+    let rest = unlisted_of(alloc, item, least, unknown.len())?;
     let Some(sets) = sets_of(alloc, item, least, &rest)? else {
         return Ok(None);
     };
@@ -173,5 +187,9 @@ pub(crate) fn lookup_of(alloc: Global, item: &ItemInfo) -> Result<Option<Lookup>
     let Some(index) = Index::new(alloc, sets.as_slice(), most)? else {
         return Ok(None);
     };
-    Ok(Some(Lookup { least, index }))
+    Ok(Some(Lookup {
+        least,
+        index,
+        unknown,
+    }))
 }

@@ -28,6 +28,8 @@ pub struct Lookup {
     /// The value whose key is 0.
     pub(crate) least: Int,
     pub(crate) index: Index,
+    /// The places of the bins that are met where the value is Unknown.
+    pub(crate) unknown: Vec<u32>,
 }
 
 /// What is asked of a bin that a sample meets.

@@ -7,7 +7,7 @@ ghost use Rattle.design_data.specs.Laws.{in_patterns as in_patterns_of, lists as
 ghost use Rattle.cov_counting.specs.Hits.{holds as holds_at};
 ghost use Rattle.point_sampler.specs.Plans.{IsPoint, IsLookupOf, places_from, has_value as has_value_of};
 
-use crate::keys::known_key;
+use crate::keys::key_of;
 use crate::plan::Lookup;
 use const_eval::{Bound, eval};
 use cov_base::{Int, Memory};
@@ -129,7 +129,11 @@ pub(crate) fn add_values(
         walk_values(item, value, met)?;
         return Ok(());
     };
-    let Some(key) = known_key(lookup.least, value) else {
+    let Some(number) = value else {
+        met.extend_from_slice(lookup.unknown.as_slice())?;
+        return Ok(());
+    };
+    let Some(key) = key_of(lookup.least, *number) else {
         walk_values(item, value, met)?;
         return Ok(());
     };
