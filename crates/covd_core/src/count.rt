@@ -13,11 +13,10 @@ use crate::lines::count_lines;
 use crate::loading::{HadDesign, Loaded, had_design, load};
 use crate::texts::record_refused;
 use cov_base::{Memory, Shelf};
-use cov_counting::tally_by_definition;
 use cov_ground::limits::LONGEST_RECORD;
 use design_data::Design;
 use record_codec::{Record, RecordFault, decode};
-use sampler::shape_fits;
+use sampler::{Plan, counts_under, shape_fits};
 use std::alloc::Global;
 
 fn refused(alloc: Global, kind: &str, number: u64) -> Result<Answer, Memory>
@@ -50,7 +49,8 @@ fn counted(alloc: Global, design: &Design, rec: &Record) -> Result<Answer, Memor
     requires { Fits design.now rec.now }
     ensures { IfOk result (λ a. (a.status ≡ Done) × IsCountText design.now rec.now a.text.items) }
 {
-    let counts = tally_by_definition(alloc, design, rec)?;
+    let plan = Plan::of(alloc, design)?;
+    let counts = counts_under(alloc, &plan, design, rec)?;
     let text = count_lines(alloc, design, rec.id.as_slice(), counts.as_slice())?;
     Ok(Answer {
         status: Status::Done,

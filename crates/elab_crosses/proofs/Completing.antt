@@ -1,5 +1,5 @@
 -- Automatic bins beside the declared ones.
-use Rattle.std.proofs.Common.{◌≡◌, ℕ, slice_get, ◌+◌, ◌-◌, ◌<◌, ◌≤◌, List, [], ◌∷◌, ◌++◌, length, length-append, drop, map, get_or, refl, sym, subst, ap, ◌∙◌, Bool, true, false, cond, leb, ltb, Option, Some, None, Ok, Err, inl, inr, arith, append_assoc}
+use Rattle.std.proofs.Common.{◌≡◌, ℕ, slice_get, ◌+◌, ◌-◌, ◌<◌, ◌≤◌, List, [], ◌∷◌, ◌++◌, length, length-append, drop, map, get_or, refl, sym, subst, ap, ◌∙◌, Bool, true, false, cond, leb, ltb, Some, None, Ok, Err, inl, inr, arith, append_assoc}
 use Rattle.std.specs.Prelude.{Result}
 use Rattle.std.proofs.lemmas.Bool.{cases_lt, le-leb, lt-leb, ltb-true}
 use Rattle.std.proofs.lemmas.List.{drop_all, append-nil, map-append}
@@ -11,7 +11,6 @@ use Rattle.elab_base.specs.declared.fault.ElabKind.TheVariants as kind
 use Rattle.elab_base.specs.Gives.{Refusal, needs}
 use Rattle.elab_base.specs.Steps.{unused, guard_in}
 use Rattle.elab_base.proofs.Keeps.{bind_ok, ok_is, each_keeps, needs_ok}
-use Rattle.elab_values.specs.declared.made.Made.{Made}
 use Rattle.elab_crosses.specs.declared.declared.Walked.{Walked}
 use Rattle.elab_crosses.specs.Selections.{Crossed, selection_of}
 use Rattle.elab_crosses.specs.Declarations.{picked_bin, with_bin, bin_declared, bins_walked, no_bins}

@@ -1,6 +1,6 @@
 -- Products that bins take and select, bin by bin.
-use Rattle.std.proofs.Common.{◌≡◌, ℕ, ◌+◌, ◌<◌, ◌≤◌, List, [], ◌∷◌, ◌++◌, length, take, take_all, map, get_or, refl, sym, ap, ◌∙◌, Bool, true, false, ◌||◌, ◌&&◌, not}
-use Rattle.std.specs.List.{list_any, list_all, flat_map}
+use Rattle.std.proofs.Common.{◌≡◌, ℕ, ◌+◌, ◌<◌, ◌≤◌, List, [], ◌∷◌, ◌++◌, length, take, take_all, get_or, refl, sym, ap, ◌∙◌, Bool, true, false, ◌||◌, ◌&&◌, not}
+use Rattle.std.specs.List.{list_any, flat_map}
 use Rattle.std.proofs.lemmas.List.{take_more, map-append, append-nil}
 use Rattle.std.proofs.lemmas.List.Folds.{list_any-append}
 use Rattle.std.proofs.lemmas.List.Concat.{flat_map-append}
@@ -8,7 +8,7 @@ use Rattle.design_data.specs.declared.infos.BinInfo.{BinInfo}
 use Rattle.design_data.specs.declared.infos.BinKind.{BinKind}
 use Rattle.design_data.specs.Crosses.{is_left}
 use Rattle.elab_values.specs.declared.made.Made.{Made}
-use Rattle.elab_crosses.specs.Removal.{infos, takes, left_of}
+use Rattle.elab_crosses.specs.Removal.{infos, takes}
 
 or_nothing : (a b : Bool) → (a || (b || false)) ≡ (a || b)
 or_nothing true true = refl

@@ -1,10 +1,8 @@
 -- The automatic bins among all bins of a cross.
-use Rattle.std.proofs.Common.{◌≡◌, ℕ, ◌+◌, List, [], ◌∷◌, ◌++◌, length, drop, map, leb, refl, sym, ap, ◌∙◌, Ok}
+use Rattle.std.proofs.Common.{◌≡◌, ℕ, ◌+◌, List, [], ◌∷◌, ◌++◌, length, drop, map, leb, refl, sym, ap, ◌∙◌}
 use Rattle.std.specs.List.{flat_map}
 use Rattle.std.proofs.lemmas.List.{drop_at}
 use Rattle.cov_ground.specs.Limits.{most_bins}
-use Rattle.design_data.specs.declared.infos.ItemInfo.{ItemInfo}
-use Rattle.design_data.specs.declared.infos.BinInfo.{BinInfo}
 use Rattle.design_data.specs.Laws.{automatic_products, members_of}
 use Rattle.elab_base.specs.declared.fault.ElabKind.TheVariants as kind
 use Rattle.elab_base.specs.Gives.{needs}
@@ -13,7 +11,7 @@ use Rattle.elab_values.specs.declared.made.Made.{Made}
 use Rattle.elab_crosses.specs.Removal.{infos, automatic_bin, automatic_fit, sides, bins_left, bins_completed}
 use Rattle.elab_crosses.specs.Promises.{AutomaticAreUnpicked}
 
-members_automatic : (names : List (List (List ℕ))) (at : ℕ) (ps : List (List ℕ)) → flat_map (λ bin. members_of bin.rule) (infos (map (automatic_bin names at) ps)) ≡ ps
+pub members_automatic : (names : List (List (List ℕ))) (at : ℕ) (ps : List (List ℕ)) → flat_map (λ bin. members_of bin.rule) (infos (map (automatic_bin names at) ps)) ≡ ps
 members_automatic names at [] = refl
 members_automatic names at (p ∷ ps) = ap (λ (qs : List (List ℕ)). p ∷ qs) (members_automatic names at ps)
 

@@ -1,5 +1,5 @@
 -- The declared bins of a cross, before anything is removed (IEEE 1800-2017, 19.6.1).
-use Rattle.std.specs.Prelude.{ℕ, List, [], ◌∷◌, ◌++◌, length, nat_lt, Option, Some, Result, Ok, Err}
+use Rattle.std.specs.Prelude.{ℕ, List, [], ◌∷◌, ◌++◌, length, nat_lt, Option, Some, Result, Ok}
 use Rattle.cov_ground.specs.Limits.{most_bins}
 use Rattle.name_map.specs.Names.{with_name}
 use Rattle.cov_tree.specs.declared.bins.Word.{Word}

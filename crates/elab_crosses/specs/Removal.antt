@@ -1,5 +1,5 @@
 -- What removal leaves of the declared bins of a cross, and its automatic bins (IEEE 1800-2017, 19.6, 19.6.2 and 19.6.3).
-use Rattle.std.specs.Prelude.{ℕ, ◌+◌, nat_le, List, [], ◌∷◌, ◌++◌, length, map, filter, slice_get, slice_index_or, Bool, ◌&&◌, Option, Some, None, Result, Ok, Err, if◌then◌else◌}
+use Rattle.std.specs.Prelude.{ℕ, ◌+◌, nat_le, List, [], ◌∷◌, ◌++◌, length, map, slice_get, slice_index_or, Bool, ◌&&◌, Option, Some, None, Result, Ok, if◌then◌else◌}
 use Rattle.std.specs.List.{list_any, flat_map}
 use Rattle.cov_ground.specs.Limits.{most_bins}
 use Rattle.cov_tree.specs.declared.groups.CrossBins.{CrossBins}

@@ -3,7 +3,7 @@ use Rattle.std.specs.Prelude.{ℕ, ◌+◌, ◌-◌, nat_eq, ℤ, List, [], ◌�
 use Rattle.std.specs.List.{list_any}
 use Rattle.std.specs.Cmp.Lexicographic.{pointwise}
 use Rattle.cov_base.specs.Sets.{written, set_of, is_in}
-use Rattle.name_map.specs.Names.{Pairs, meaning_of}
+use Rattle.name_map.specs.Names.{meaning_of}
 use Rattle.cov_tree.specs.declared.bins.Elem.{Elem}
 use Rattle.cov_tree.specs.declared.groups.Sel.{Sel}
 use Rattle.cov_tree.specs.declared.groups.Sel.TheOpen as sel

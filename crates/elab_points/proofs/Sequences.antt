@@ -102,9 +102,10 @@ values_known bs distribute keep (plans.Spread n) head numbers kept = parts_known
 
 trans_rule : (array : Bool) (kind : BinKind) (rule : BinRule) (seqs : List Seq) → rule ≡ Trans seqs → cells_of_seqs (seqs_of rule) ≤ most_cells
     → ((ignored illegal : List Seq) → is_rule_left array (removing_of kind ignored illegal) rule ≡ true → has_seq_left (removing_of kind ignored illegal) (seqs_of rule) ≡ true) → IsKnown array kind rule
-trans_rule array kind rule seqs is few left = subst (IsKnown array kind) (sym is)
-    (subst (λ (r : BinRule). cells_of_seqs (seqs_of r) ≤ most_cells) is few,
-    subst (λ (r : BinRule). (ignored illegal : List Seq) → is_rule_left array (removing_of kind ignored illegal) r ≡ true → has_seq_left (removing_of kind ignored illegal) (seqs_of r) ≡ true) is left)
+trans_rule array kind rule seqs is few left = subst (IsKnown array kind) (sym is) (
+  subst (λ (r : BinRule). cells_of_seqs (seqs_of r) ≤ most_cells) is few,
+  subst (λ (r : BinRule). (ignored illegal : List Seq) → is_rule_left array (removing_of kind ignored illegal) r ≡ true → has_seq_left (removing_of kind ignored illegal) (seqs_of r) ≡ true) is left,
+)
 
 -- what the bins of a declaration of transitions have in common
 pub record IsTrans (declared : ℕ) (made : Made) : Type 0 where
@@ -170,8 +171,8 @@ values_next bs domain distribute keep wanted elements head w t e h =
     let bins = bins_made distribute keep p.0 head n.0 k.0 in
     let count = length_push w.names head.name in
     subst (IsNext bs w) (ok_is _ t p.2) (record {
-        known = record { entries = all_append (KnownEntry bs) w.entries (map Bin bins) h.entries (values_known bs distribute keep p.0 head n.0 k.0); removing = h.removing; short = h.short };
-        names = omega (arith, count);
+      known = record { entries = all_append (KnownEntry bs) w.entries (map Bin bins) h.entries (values_known bs distribute keep p.0 head n.0 k.0); removing = h.removing; short = h.short };
+      names = omega (arith, count);
     })
 
 declared_values : (bs : List BinsDecl) (levels : Levels) (domain : Domain) (distribute : Bool) (b : BinsDecl) (w t : Walked) → values_declared levels domain distribute b w ≡ Ok t → AreKnown bs w → IsNext bs w t
@@ -317,9 +318,9 @@ binned_known bs domain settings at w t e h =
     let autos = automatic domain settings at in
     let n = bind_ok (needs (nat_le (w.count + length autos) most_bins) kind.TooManyBins at) _ t e in
     subst (AreKnown bs) (ok_is _ t n.2) (record {
-        entries = all_append (KnownEntry bs) w.entries (map Bin autos) h.entries (automatic_known bs (auto_head at) domain.typ settings.auto_bin_max domain.constants);
-        removing = h.removing;
-        short = h.short;
+      entries = all_append (KnownEntry bs) w.entries (map Bin autos) h.entries (automatic_known bs (auto_head at) domain.typ settings.auto_bin_max domain.constants);
+      removing = h.removing;
+      short = h.short;
     })
 
 pub undeclared_known : (bs : List BinsDecl) (domain : Domain) (settings : Settings) (at : ℕ) (w t : Walked) → with_automatic domain settings bs at w ≡ Ok t → AreKnown bs w → AreKnown bs t

@@ -420,9 +420,7 @@ fn declare_right(
     match &decl.right {
         Right::Ranges { .. } => declare_values(alloc, scope, domain, distribute, decl, walked),
         Right::Whole { .. } => declare_values(alloc, scope, domain, distribute, decl, walked),
-        Right::Trans(seqs) => {
-            declare_trans(alloc, scope, domain, decl, seqs.as_slice(), walked)
-        }
+        Right::Trans(seqs) => { declare_trans(alloc, scope, domain, decl, seqs.as_slice(), walked) }
         Right::Default => declare_default(alloc, scope, decl, walked),
         Right::DefaultSequence => declare_default_sequence(alloc, scope, decl, walked),
     }

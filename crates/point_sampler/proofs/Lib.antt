@@ -4,3 +4,4 @@ pub mod Answering
 pub mod Taking
 pub mod Meeting
 pub mod Standing
+mod Keyed

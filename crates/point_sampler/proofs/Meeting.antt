@@ -17,8 +17,8 @@ use Rattle.design_data.specs.Laws.{Value, is_listed}
 use Rattle.cov_counting.specs.Hits.{Meets, EndsNone, IsDefaultSequence}
 use Rattle.point_sampler.specs.declared.plan.PointPlan.{PointPlan}
 use Rattle.point_sampler.specs.declared.plan.Machine.{Machine}
-use Rattle.point_sampler.specs.Plans.{IsPlanOf, removed_by, is_default_sequence, places_from}
-use Rattle.point_sampler.specs.Met.{MetBy, StandApart, IsTransPlace, EndsNowhere, AreTransMet, has_value, SomeMeets, AreMet}
+use Rattle.point_sampler.specs.Plans.{IsPlanOf, removed_by, is_default_sequence, places_from, has_value}
+use Rattle.point_sampler.specs.Met.{MetBy, StandApart, IsTransPlace, EndsNowhere, AreTransMet, SomeMeets, AreMet}
 use Rattle.point_sampler.proofs.Places.{once_append, from_places, to_places, places_once}
 use Rattle.point_sampler.proofs.Automata.{from_machines, to_machines, ascends}
 use Rattle.point_sampler.proofs.Taking.{same_bin}

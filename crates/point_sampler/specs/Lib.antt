@@ -1,3 +1,4 @@
 pub mod Plans
 pub mod Points
 pub mod Met
+pub mod Keys

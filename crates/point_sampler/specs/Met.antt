@@ -1,14 +1,12 @@
 -- How a sample is counted, step by step. Public contracts cite none of it.
-use Rattle.std.specs.Prelude.{◌≡◌, ◌≢◌, ◌↔◌, ◌⊎◌, ℕ, ◌+◌, ◌<◌, ◌≤◌, min, ◌-◌, ◌^◌, List, [], ◌∷◌, ◌++◌, length, take, slice_get, slice_index, slice_index_or, slice_set, Contains, AllPairs, Option, Some, None, Bool, true, false, not, IsTrue, if◌then◌else◌}
-use Rattle.trans_seq.specs.Windows.{is_known_in, EndsKept, EndsWindow}
+use Rattle.std.specs.Prelude.{◌≡◌, ◌≢◌, ◌↔◌, ◌⊎◌, ℕ, ◌+◌, ◌<◌, ◌≤◌, min, ◌-◌, ◌^◌, List, [], ◌∷◌, ◌++◌, length, take, slice_get, slice_index, slice_index_or, slice_set, Contains, AllPairs, Option, Some, None, Bool, true, false, IsTrue, if◌then◌else◌}
+use Rattle.trans_seq.specs.Windows.{EndsKept, EndsWindow}
 use Rattle.trans_auto.specs.State.{Stands}
 use Rattle.trans_auto.specs.Removing.{IsStep}
 use Rattle.design_data.specs.declared.infos.ItemInfo.{ItemInfo}
 use Rattle.design_data.specs.declared.infos.BinInfo.{BinInfo}
-use Rattle.design_data.specs.declared.infos.BinRule.{BinRule}
-use Rattle.design_data.specs.declared.infos.BinRule.TheVariants.{Values, Patterns, Trans, Default, DefaultValues, DefaultSequence, Picked, Product}
 use Rattle.design_data.specs.Bins.{is_coverage}
-use Rattle.design_data.specs.Laws.{Value, in_patterns, is_listed}
+use Rattle.design_data.specs.Laws.{Value}
 use Rattle.record_codec.specs.Samples.{Env}
 use Rattle.cov_counting.specs.Hits.{holds, Meets}
 use Rattle.point_sampler.specs.declared.plan.Removers.{Removers}
@@ -16,19 +14,6 @@ use Rattle.point_sampler.specs.declared.plan.Machine.{Machine}
 use Rattle.point_sampler.specs.declared.plan.PointPlan.{PointPlan}
 use Rattle.point_sampler.specs.declared.state.Steps.{Steps}
 use Rattle.point_sampler.specs.Plans.{removed_by, covering}
-
--- ---- values
-
--- the rule of a bin of values is met at the value, of a point with these bins
-abbrev pub has_value : List BinInfo → Value → BinRule → Bool
-has_value bins v (Values set) = is_known_in set v
-has_value bins v (Patterns patterns) = in_patterns patterns v
-has_value bins v (Trans seqs) = false
-has_value bins v Default = not (is_listed bins v)
-has_value bins v (DefaultValues set) = is_known_in set v
-has_value bins v DefaultSequence = false
-has_value bins v (Picked select) = false
-has_value bins v (Product members) = false
 
 -- ---- transitions
 

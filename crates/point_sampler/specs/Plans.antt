@@ -1,9 +1,10 @@
 -- What the plan of a point prepares.
-use Rattle.std.specs.Prelude.{◌≡◌, ℕ, ◌+◌, ◌≤◌, List, [], ◌∷◌, ◌++◌, length, filter, take, slice_get, Option, Some, None, Bool, true, false, if◌then◌else◌}
+use Rattle.std.specs.Prelude.{◌≡◌, ℤ, pos, ◌+ℤ◌, ℕ, ◌+◌, ◌^◌, ◌<◌, ◌≤◌, List, [], ◌∷◌, ◌++◌, length, filter, take, slice_get, Option, Some, None, IfSome, Bool, true, false, not, if◌then◌else◌}
 use Rattle.std.specs.List.{AllByRecursion}
 use Rattle.cov_ground.specs.Limits.{most_bins, most_cells}
 use Rattle.const_eval.specs.Terms.{Term}
 use Rattle.trans_seq.specs.declared.seq.Seq.{Seq}
+use Rattle.trans_seq.specs.Windows.{is_known_in}
 use Rattle.trans_seq.specs.Cells.{cells_of_seqs}
 use Rattle.design_data.specs.declared.infos.ItemInfo.{ItemInfo}
 use Rattle.design_data.specs.declared.infos.BinInfo.{BinInfo}
@@ -12,7 +13,12 @@ use Rattle.design_data.specs.declared.infos.BinKind.TheVariants.{CvgBin, Illegal
 use Rattle.design_data.specs.declared.infos.BinRule.{BinRule}
 use Rattle.design_data.specs.declared.infos.BinRule.TheVariants.{Values, Patterns, Trans, Default, DefaultValues, DefaultSequence, Picked, Product}
 use Rattle.design_data.specs.Bins.{is_coverage}
+use Rattle.design_data.specs.Laws.{Value, in_patterns, is_listed}
 use Rattle.design_data.specs.Limits.{IsPointRule}
+use Rattle.value_index.specs.declared.sets.Span.{Span}
+use Rattle.value_index.specs.Found.{places}
+use Rattle.value_index.specs.Finds.{Finds}
+use Rattle.point_sampler.specs.declared.plan.Lookup.{Lookup}
 use Rattle.point_sampler.specs.declared.plan.PointPlan.{PointPlan}
 use Rattle.point_sampler.specs.declared.plan.Entry.{Entry}
 use Rattle.point_sampler.specs.declared.plan.Machine.{Machine}
@@ -28,6 +34,27 @@ pub record IsPoint (item : ItemInfo) : Type 0 where
 abbrev pub places_from : {X : Type 0} → (X → Bool) → ℕ → List X → List ℕ
 places_from test place [] = []
 places_from test place (x ∷ xs) = if test x then place ∷ places_from test (place + 1) xs else places_from test (place + 1) xs
+
+-- ---- values
+
+-- the rule of a bin of values is met at the value, of a point with these bins
+abbrev pub has_value : List BinInfo → Value → BinRule → Bool
+has_value bins v (Values set) = is_known_in set v
+has_value bins v (Patterns patterns) = in_patterns patterns v
+has_value bins v (Trans seqs) = false
+has_value bins v Default = not (is_listed bins v)
+has_value bins v (DefaultValues set) = is_known_in set v
+has_value bins v DefaultSequence = false
+has_value bins v (Picked select) = false
+has_value bins v (Product members) = false
+
+-- What a look-up knows: for each key the places of the bins that have the value, which stands that far above the
+-- least one; and those that are met where the value is Unknown.
+pub record IsLookupOf (bins : List BinInfo) (lookup : Lookup) : Type 0 where
+  pub sets : List (List Span)
+  pub finds : Finds lookup.index sets
+  pub meets : (key : ℕ) → key < 2 ^ 64 → places key 0 sets ≡ places_from (λ bin. has_value bins (Some (lookup.least +ℤ pos key)) bin.rule) 0 bins
+  pub unknown : lookup.unknown.items ≡ places_from (λ bin. has_value bins None bin.rule) 0 bins
 
 -- ---- what is prepared of each bin
 
@@ -102,4 +129,5 @@ pub record IsPlanOf (item : ItemInfo) (plan : PointPlan) : Type 0 where
   pub machines : plan.machines.items ≡ machines_from 0 item.bins
   pub removers : AreRemovers item plan.removers
   pub others : plan.others ≡ item.ignored ++ item.illegal
+  pub lookup : IfSome plan.lookup (IsLookupOf item.bins)
   pub sequences : plan.sequences.items ≡ places_from (λ bin. is_default_sequence bin.rule) 0 item.bins

@@ -3,6 +3,8 @@
 #![tactic(auto)]
 
 mod counting;
+mod keys;
+mod lookups;
 mod machines;
 mod plan;
 mod planning;
@@ -10,5 +12,5 @@ mod point;
 mod rules;
 mod state;
 
-pub use plan::{Entry, Machine, PointPlan, Removers};
+pub use plan::{Entry, Lookup, Machine, PointPlan, Removers};
 pub use state::{PointState, Steps};

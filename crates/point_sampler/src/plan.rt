@@ -1,7 +1,9 @@
 //! What is prepared of a point before its samples are counted. All records and threads share it.
 
+use cov_base::Int;
 use design_data::BinKind;
 use trans_auto::{Removing, Watcher};
+use value_index::Index;
 
 /// What is prepared of a point: its tables are linear in its bins and their intervals.
 #[derive(Drop, Debug)]
@@ -14,8 +16,20 @@ pub struct PointPlan {
     pub(crate) removers: Removers,
     /// The automaton of the ignored and illegal sequences, which a default sequence doesn't count either.
     pub(crate) others: Watcher,
+    /// The index of the bins of values, where there is one.
+    pub(crate) lookup: Option<Lookup>,
     /// The places of the default sequences.
     pub(crate) sequences: Vec<u32>,
+}
+
+/// An index of the bins of values, by keys: how far a value stands above the least one.
+#[derive(Drop, Debug)]
+pub struct Lookup {
+    /// The value whose key is 0.
+    pub(crate) least: Int,
+    pub(crate) index: Index,
+    /// The places of the bins that are met where the value is Unknown.
+    pub(crate) unknown: Vec<u32>,
 }
 
 /// What is asked of a bin that a sample meets.

@@ -1,5 +1,5 @@
 //! How a point is prepared.
-ghost use Rattle.std.specs.Prelude.{◌≡◌, ◌++◌, ◌≤◌, ◌<◌, ◌^◌, ℕ, ◌+◌, [], length, List, slice_get, Some, IfOk, OnOk, if◌then◌else◌};
+ghost use Rattle.std.specs.Prelude.{◌≡◌, ◌++◌, ◌≤◌, ◌<◌, ◌^◌, ℕ, ◌+◌, [], length, List, slice_get, Some, IfOk, OnOk, IfSome, if◌then◌else◌};
 ghost use Rattle.const_eval.specs.Terms.{Term};
 ghost use Rattle.cov_ground.specs.Limits.{most_bins, most_cells};
 ghost use Rattle.trans_seq.specs.Cells.{cells_of_seqs};
@@ -7,10 +7,11 @@ ghost use Rattle.design_data.specs.declared.infos.ItemInfo.{ItemInfo as Item};
 ghost use Rattle.design_data.specs.declared.infos.BinInfo.{BinInfo as Bin};
 ghost use Rattle.design_data.specs.Limits.{IsPointRule};
 ghost use Rattle.record_codec.specs.Samples.{Env};
-ghost use Rattle.point_sampler.specs.Plans.{IsPoint, IsPlanOf, IsGuardAt, AreEntries, AreRemovers, machine_of, machines_from, places_from, is_default_sequence as is_default_sequence_of};
+ghost use Rattle.point_sampler.specs.Plans.{IsPoint, IsPlanOf, IsLookupOf, IsGuardAt, AreEntries, AreRemovers, machine_of, machines_from, places_from, is_default_sequence as is_default_sequence_of};
 ghost use Rattle.point_sampler.specs.Points.{Fits, StateStands, RunsStand};
 
-use crate::plan::{Entry, Machine, PointPlan, Removers};
+use crate::lookups::lookup_of;
+use crate::plan::{Entry, Lookup, Machine, PointPlan, Removers};
 use crate::rules::note;
 use crate::state::{PointState, Steps};
 use cov_base::Memory;
@@ -168,10 +169,12 @@ fn plan_with(
     item: &ItemInfo,
     removing_seqs: &[Seq],
     entries: Vec<Entry>,
+    lookup: Option<Lookup>,
 ) -> Result<PointPlan, Memory>
     requires point { IsPoint item.now }
     requires seqs { removing_seqs.now ≡ item.now.ignored ++ item.now.illegal }
     requires entries { AreEntries item.now.bins entries.items }
+    requires lookup { IfSome lookup (IsLookupOf item.now.bins) }
     ensures { IfOk result (λ plan. IsPlanOf item.now plan) }
 {
     let machines = machines_of(alloc, item)?;
@@ -183,19 +186,22 @@ fn plan_with(
         machines,
         removers,
         others,
+        lookup,
         sequences,
     })
 }
 
 impl PointPlan {
-    /// What is prepared of a point. It takes time and memory linear in its bins and their sequences.
+    /// What is prepared of a point. It takes memory linear in its bins, their intervals and their sequences, and beside
+    /// that the time to sort the intervals.
     pub fn new(alloc: Global, item: &ItemInfo) -> Result<PointPlan, Memory>
         requires { IsPoint item.now }
         ensures { IfOk result (λ plan. IsPlanOf item.now plan) }
     {
         let removing_seqs = removing_of(alloc, item)?;
         let entries = entries_of(alloc, item.bins.as_slice())?;
-        plan_with(alloc, item, removing_seqs.as_slice(), entries)
+        let lookup = lookup_of(alloc, item)?;
+        plan_with(alloc, item, removing_seqs.as_slice(), entries, lookup)
     }
 }
 

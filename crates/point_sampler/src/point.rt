@@ -39,7 +39,7 @@ fn sample_value(
         → slice_index counts.new number ≡ slice_index counts.old number) }
 {
     push_value(plan, state, value)?;
-    add_values(item, value, &mut state.met)?;
+    add_values(&plan.lookup, item, value, &mut state.met)?;
     count_met(
         plan.entries.as_slice(),
         item,

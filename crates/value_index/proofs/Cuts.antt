@@ -1,10 +1,11 @@
 -- Ascending cuts, and the ends among them.
-use Rattle.std.proofs.Common.{◌≡◌, ◌⊎◌, ℕ, ◌+◌, ◌<◌, ◌≤◌, List, [], ◌∷◌, ◌++◌, length, get_or, All, refl, ap, inl, inr, arith, length-append}
+use Rattle.std.proofs.Common.{◌≡◌, ◌⊎◌, ℕ, ◌+◌, ◌<◌, ◌≤◌, List, [], ◌∷◌, ◌++◌, length, get_or, All, refl, ap, sym, ◌∙◌, inl, inr, arith, length-append}
 use Rattle.std.specs.Prelude.{slice_index}
 use Rattle.std.specs.List.{Contains}
 use Rattle.std.proofs.lemmas.List.{get_or_append_left, get_or_push, get_or_read}
 use Rattle.std.proofs.lemmas.List.Elements.{All-weaker}
-use Rattle.std.proofs.lemmas.Bool.{cases_lt, false≢true, eqb-true}
+use Rattle.std.proofs.lemmas.Bool.{cases_lt, false≢true, eqb-true, eq-eqb}
+use Rattle.std.proofs.lemmas.Option.{none-some}
 use Rattle.std.specs.Option.{option_eq}
 use Rattle.std.proofs.Common.{Bool, true, false, Option, None, Some}
 use lib.Dec.{eqb}
@@ -13,19 +14,12 @@ use Rattle.value_index.specs.declared.sets.Span.{Span}
 use Rattle.value_index.specs.Segments.{Ascends}
 use Rattle.value_index.specs.Built.{HasEnds}
 
-pub ascends_push : (xs : List ℕ) (x : ℕ) → Ascends xs → ((s : ℕ) → s < length xs → slice_index xs s ≤ x) → Ascends (xs ++ x ∷ [])
-ascends_push xs x up below = record { at = λ i j le lt. at i j le (cases_lt j (length xs)) lt }
+pub push_top : (xs : List ℕ) (x s : ℕ) → ((k : ℕ) → k < length xs → slice_index xs k ≤ x) → s < length (xs ++ x ∷ []) → slice_index (xs ++ x ∷ []) s ≤ x
+push_top xs x s below lt = at (cases_lt s (length xs))
   where
-    last : get_or (xs ++ x ∷ []) (length xs) 0 ≡ x
-    last = get_or_push xs x 0 (length xs) refl
-
-    at : (i j : ℕ) → i ≤ j → (j < length xs) ⊎ (length xs ≤ j) → j < length (xs ++ x ∷ []) → slice_index (xs ++ x ∷ []) i ≤ slice_index (xs ++ x ∷ []) j
-    at i j le (inl in') lt = rw (get_or_append_left xs (x ∷ []) 0 j in', get_or_append_left xs (x ∷ []) 0 i (omega arith)) (up.at i j le in')
-    at i j le (inr past) lt = let is : j ≡ length xs = omega (arith, length-append xs (x ∷ [])) in rw (is, last) (before i (cases_lt i (length xs)) (omega arith))
-      where
-        before : (i : ℕ) → (i < length xs) ⊎ (length xs ≤ i) → i ≤ length xs → slice_index (xs ++ x ∷ []) i ≤ x
-        before i (inl in') le = rw (get_or_append_left xs (x ∷ []) 0 i in') (below i in')
-        before i (inr past) le = let is : i ≡ length xs = omega arith in rw (is, last) (omega arith)
+    at : (s < length xs) ⊎ (length xs ≤ s) → slice_index (xs ++ x ∷ []) s ≤ x
+    at (inl in') = rw (get_or_append_left xs (x ∷ []) 0 s in') (below s in')
+    at (inr past) = let is : s ≡ length xs = omega (arith, lt, length-append xs (x ∷ [])) in rw (is, get_or_push xs x 0 (length xs) refl) (omega arith)
 
 pub push_below : (xs cuts : List ℕ) (x i : ℕ) → Ascends cuts → i < length cuts → x ≡ get_or cuts i x → ((s k : ℕ) → s < length xs → i ≤ k → k < length cuts → slice_index xs s ≤ slice_index cuts k)
     → (s k : ℕ) → s < length (xs ++ x ∷ []) → i + 1 ≤ k → k < length cuts → slice_index (xs ++ x ∷ []) s ≤ slice_index cuts k
@@ -54,3 +48,9 @@ is_last (Some y) x e = ap Some (same (eqb y x) refl e)
     same : (b : Bool) → eqb y x ≡ b → false ≡ not b → y ≡ x
     same true is e = eqb-true y x is
     same false is e = absurd (false≢true e)
+
+pub other : (last : Option ℕ) (x : ℕ) → true ≡ not (option_eq eqb last (Some x)) → last ≡ Some x → ⊥
+other last x e is = false≢true (sym (e ∙ ap (λ (o : Option ℕ). not (option_eq eqb o (Some x))) is ∙ ap not (eq-eqb x x refl)))
+
+pub not_none : (x : ℕ) → Some x ≡ None → ⊥
+not_none x e = none-some x (sym e)

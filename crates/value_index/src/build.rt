@@ -1,9 +1,10 @@
 //! The cuts of sets, and for each segment the bins that have its values.
 ghost use Rattle.std.specs.Prelude.{◌≡◌, ℕ, ◌<◌, ◌≤◌, ◌+◌, ◌^◌, ◌++◌, ◌∷◌, [], length, slice_index, slice_index_or, IfOk, OnOk, All, IsTrue, nat_le, nat_lt, if◌then◌else◌, is_ok};
-ghost use Rattle.std.specs.List.{Contains};
+ghost use Rattle.std.specs.List.{Contains, AllPairs, flat_map};
 ghost use Rattle.value_index.specs.Found.{in_set, places, Apart};
 ghost use Rattle.value_index.specs.Segments.{Ascends, IsSegment};
-ghost use Rattle.value_index.specs.Built.{HasEnds, HasAllEnds, RangeAdded, SpansAdded, Holds};
+ghost use Rattle.value_index.specs.Built.{RangeAdded, SpansAdded, Holds};
+ghost use Rattle.value_index.specs.Sizes.{ends_of, all_ends, AreCuts};
 
 use crate::rows::{Row, Rows};
 use crate::segment::segment;
@@ -12,8 +13,7 @@ use cov_ground::Memory;
 use std::alloc::Global;
 
 fn push_ends(cuts: &mut Vec<u64>, span: &Span) -> Result<(), Memory>
-    ensures ends { OnOk result (HasEnds cuts.new.items span.now) }
-    ensures kept { OnOk result ((x : ℕ) → Contains cuts.old.items x → Contains cuts.new.items x) }
+    ensures { OnOk result (cuts.new.items ≡ cuts.old.items ++ ends_of span.now) }
 {
     cuts.push(span.low)?;
     if span.high < u64::MAX {
@@ -23,8 +23,7 @@ fn push_ends(cuts: &mut Vec<u64>, span: &Span) -> Result<(), Memory>
 }
 
 fn push_all_ends(cuts: &mut Vec<u64>, spans: &[Span]) -> Result<(), Memory>
-    ensures ends { OnOk result (All (HasEnds cuts.new.items) spans.now) }
-    ensures kept { OnOk result ((x : ℕ) → Contains cuts.old.items x → Contains cuts.new.items x) }
+    ensures { OnOk result (cuts.new.items ≡ cuts.old.items ++ flat_map ends_of spans.now) }
 {
     for span in spans {
         push_ends(cuts, span)?;
@@ -33,8 +32,7 @@ fn push_all_ends(cuts: &mut Vec<u64>, spans: &[Span]) -> Result<(), Memory>
 }
 
 fn ends(alloc: Global, sets: &[Set]) -> Result<Vec<u64>, Memory>
-    ensures zero { IfOk result (λ cuts. Contains cuts.items 0) }
-    ensures ends { IfOk result (λ cuts. HasAllEnds cuts.items sets.now) }
+    ensures { IfOk result (λ cuts. cuts.items ≡ all_ends sets.now) }
 {
     let mut cuts = Vec::new(alloc);
     cuts.push(0)?;
@@ -47,8 +45,9 @@ fn ends(alloc: Global, sets: &[Set]) -> Result<Vec<u64>, Memory>
 // The ascending cuts without those that stand twice.
 fn distinct(alloc: Global, cuts: &[u64]) -> Result<Vec<u64>, Memory>
     requires { Ascends cuts.now }
-    ensures ascends { IfOk result (λ d. Ascends d.items) }
+    ensures ascend { IfOk result (λ d. AllPairs (λ a b. a < b) d.items) }
     ensures kept { IfOk result (λ d. All (Contains d.items) cuts.now) }
+    ensures only { IfOk result (λ d. All (Contains cuts.now) d.items) }
 {
     let mut out: Vec<u64> = Vec::new(alloc);
     let mut last = None;
@@ -61,12 +60,12 @@ fn distinct(alloc: Global, cuts: &[u64]) -> Result<Vec<u64>, Memory>
     Ok(out)
 }
 
-/// 0, and where each span of a set begins and ends, ascending.
+/// 0, and where each span of a set begins and ends, ascending, each once.
 pub(crate) fn cuts_of(alloc: Global, sets: &[Set]) -> Result<Vec<u64>, Memory>
     ensures ascends { IfOk result (λ cuts. Ascends cuts.items) }
     ensures some { IfOk result (λ cuts. 0 < length cuts.items) }
     ensures zero { IfOk result (λ cuts. slice_index cuts.items 0 ≡ 0) }
-    ensures ends { IfOk result (λ cuts. HasAllEnds cuts.items sets.now) }
+    ensures are { IfOk result (λ cuts. AreCuts sets.now cuts.items) }
 {
     let mut all = ends(alloc, sets)?;
     all.sort_unstable();
@@ -85,7 +84,7 @@ fn add_range(rows: &mut [Row], from: usize, to: usize, bin: u32) -> Result<(), M
 }
 
 // The place of the first cut that isn't below v.
-fn first_from(cuts: &[u64], v: u64) -> usize
+pub(crate) fn first_from(cuts: &[u64], v: u64) -> usize
     requires ascends { Ascends cuts.now }
     requires some { 0 < length cuts.now }
     requires zero { slice_index cuts.now 0 ≡ 0 }

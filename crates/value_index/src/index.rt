@@ -5,6 +5,7 @@ ghost use Rattle.value_index.specs.Found.{Apart};
 ghost use Rattle.value_index.specs.Built.{Holds};
 
 use crate::build::{add_sets, cuts_of, flatten};
+use crate::room::{has_room, most_places_of};
 use crate::rows::{Row, Rows};
 use crate::segment::{segment, segment_between};
 use crate::sets::Set;
@@ -91,15 +92,19 @@ fn rows_of(alloc: Global, cuts: &[u64], sets: &[Set]) -> Result<Rows, Memory>
 impl Index {
     ghost use Rattle.value_index.specs.Found.{places};
     ghost use Rattle.value_index.specs.Finds.{Finds};
+    ghost use Rattle.value_index.specs.Sizes.{AreCuts, IsMade};
     ghost use Rattle.value_index.specs.declared.sets.Span.{Span};
 
-    /// The index of sets, with a table of about `most` buckets at most.
-    pub fn new(alloc: Global, sets: &[Set], most: u32) -> Result<Index, Memory>
+    // The index of sets with these cuts, with a table of about `most` buckets at most.
+    fn with_cuts(alloc: Global, cuts: Vec<u64>, sets: &[Set], most: u32) -> Result<Index, Memory>
+        requires ascends { Ascends cuts.items }
+        requires some { 0 < length cuts.items }
+        requires zero { slice_index cuts.items 0 ≡ 0 }
+        requires are { AreCuts sets.now cuts.items }
         requires apart { All Apart sets.now }
         requires few { length sets.now < 2 ^ 32 }
         ensures { IfOk result (λ index. Finds index sets.now) }
     {
-        let cuts = cuts_of(alloc, sets)?;
         let rows = rows_of(alloc, cuts.as_slice(), sets)?;
         let last = cuts[cuts.len() - 1];
         let shift = shift_for(last, most as u64);
@@ -111,6 +116,21 @@ impl Index {
             starts,
             rows,
         })
+    }
+
+    /// The index of sets, with a table of about `most` buckets at most. None where the sets overlap so much that the
+    /// rows would have more than 65,536 places and 4 for each cut.
+    pub fn new(alloc: Global, sets: &[Set], most: u32) -> Result<Option<Index>, Memory>
+        requires apart { All Apart sets.now }
+        requires few { length sets.now < 2 ^ 32 }
+        ensures { IfOk result (IsMade sets.now) }
+    {
+        let cuts = cuts_of(alloc, sets)?;
+        if !has_room(cuts.as_slice(), sets, most_places_of(cuts.as_slice())) {
+            return Ok(None);
+        }
+        let index = Index::with_cuts(alloc, cuts, sets, most)?;
+        Ok(Some(index))
     }
 
     fn segment(&self, v: u64) -> usize

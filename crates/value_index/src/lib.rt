@@ -4,6 +4,7 @@
 
 mod build;
 mod index;
+mod room;
 mod rows;
 mod segment;
 mod sets;

@@ -1,4 +1,4 @@
-use Rattle.std.proofs.Common.{◌≡◌, ◌++◌, ◌∷◌, take}
+use Rattle.std.proofs.Common.{◌≡◌, ◌++◌, take}
 use Rattle.elab_crosses.proofs.automatic.add_member.Given as goal
 
 abbrev pub invariant-loop-byte : goal.invariant-loop-byte

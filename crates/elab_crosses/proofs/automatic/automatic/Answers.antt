@@ -1,4 +1,4 @@
-use Rattle.std.proofs.Common.{◌≡◌, ◌-◌, ℕ, List, length, ap, sym, subst, ◌∙◌}
+use Rattle.std.proofs.Common.{◌-◌, ℕ, length, ap, sym, subst, ◌∙◌}
 use Rattle.design_data.specs.Laws.{automatic_products}
 use Rattle.product_bits.specs.Numbers.{at_most}
 use Rattle.elab_base.specs.declared.fault.ElabFault.{ElabFault}

@@ -1,4 +1,3 @@
-use Rattle.std.proofs.Common.{◌≡◌}
 use Rattle.elab_crosses.proofs.Completing.{walked_few}
 use Rattle.elab_crosses.proofs.automatic.cross_bins.Goals as goal
 

@@ -1,4 +1,4 @@
-use Rattle.std.proofs.Common.{◌≡◌, ℕ, List, ◌++◌, ◌∷◌, ap, ◌∙◌, arith, rules}
+use Rattle.std.proofs.Common.{ℕ, List, ◌++◌, ◌∷◌, ap, ◌∙◌, arith, rules}
 use Rattle.elab_crosses.proofs.Completing.{name_more}
 use Rattle.elab_crosses.proofs.automatic.product_name.Goals as goal
 

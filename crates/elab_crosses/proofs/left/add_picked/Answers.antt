@@ -1,4 +1,3 @@
-use Rattle.std.proofs.Common.{ℕ, List, Bool}
 use Rattle.design_data.specs.Crosses.{picks}
 use Rattle.elab_crosses.proofs.left.add_picked.Goals as goal
 

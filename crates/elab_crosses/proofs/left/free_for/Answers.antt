@@ -1,4 +1,4 @@
-use Rattle.std.proofs.Common.{◌≡◌, ℕ, ◌+◌, List, Bool, ◌||◌, take, not}
+use Rattle.std.proofs.Common.{◌+◌, ◌||◌, take, not}
 use Rattle.std.specs.List.{list_any}
 use Rattle.design_data.specs.Crosses.{is_left}
 use Rattle.product_bits.specs.Numbers.{product_at}

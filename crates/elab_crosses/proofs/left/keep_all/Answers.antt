@@ -1,9 +1,9 @@
-use Rattle.std.proofs.Common.{◌≡◌, ℕ, List, ◌∷◌, [], ◌++◌, Bool, ◌||◌, length, ap, sym, subst, ◌∙◌}
-use Rattle.std.specs.List.{list_any, flat_map}
+use Rattle.std.proofs.Common.{ℕ, List, ◌∷◌, [], ◌++◌, ◌||◌, length, ap, sym, subst, ◌∙◌}
+use Rattle.std.specs.List.{list_any}
 use Rattle.design_data.specs.declared.infos.BinInfo.{BinInfo}
 use Rattle.design_data.specs.Crosses.{picks, is_left}
 use Rattle.product_bits.specs.Numbers.{product_at}
-use Rattle.product_bits.specs.Marks.{Marks, word_count}
+use Rattle.product_bits.specs.Marks.{Marks}
 use Rattle.product_bits.proofs.SetLemmas.{marks_as}
 use Rattle.elab_values.specs.declared.made.Made.{Made}
 use Rattle.elab_crosses.specs.Free.{IsFree}

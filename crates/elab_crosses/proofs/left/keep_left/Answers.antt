@@ -1,7 +1,6 @@
-use Rattle.std.proofs.Common.{◌≡◌, ℕ, List, [], ◌∷◌, ◌++◌, Bool, ◌&&◌, cond, ap, sym, ◌∙◌}
+use Rattle.std.proofs.Common.{[], ◌∷◌, ◌++◌, Bool, ◌&&◌, cond, ap, sym, ◌∙◌}
 use Rattle.std.proofs.lemmas.Result.{on_ok_weaker}
 use Rattle.design_data.specs.Crosses.{picks, is_left}
-use Rattle.elab_values.specs.declared.made.Made.{Made}
 use Rattle.elab_crosses.proofs.left.keep_left.Goals as goal
 
 pub returns-clause-kept : goal.returns-clause-kept

@@ -1,4 +1,4 @@
-use Rattle.std.proofs.Common.{◌≡◌, ℕ, List, length, filter, ap, sym, ◌∙◌}
+use Rattle.std.proofs.Common.{◌≡◌, ℕ, List, length, filter, ap, ◌∙◌}
 use Rattle.std.specs.Prelude.{ℤ, not, eqb}
 use Rattle.cov_base.specs.Sets.{written, is_in}
 use Rattle.elab_crosses.proofs.Lists.{some_kept}

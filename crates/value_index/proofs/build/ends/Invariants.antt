@@ -1,10 +1,6 @@
-use Rattle.std.proofs.Common.{take}
-use Rattle.std.specs.List.{Contains}
-use Rattle.value_index.specs.Built.{HasAllEnds}
+use Rattle.std.proofs.Common.{◌≡◌, take}
+use Rattle.value_index.specs.Sizes.{all_ends}
 use Rattle.value_index.proofs.build.ends.Given as goal
 
 abbrev pub invariant-loop-set : goal.invariant-loop-set
-invariant-loop-set l = record {
-  zero : Contains l.cuts.items 0;
-  ends : HasAllEnds l.cuts.items (take l.set-index l.sets);
-}
+invariant-loop-set l = l.cuts.items ≡ all_ends (take l.set-index l.sets)

@@ -1,10 +1,7 @@
-use Rattle.std.proofs.Common.{ℕ, take, All}
-use Rattle.std.specs.List.{Contains}
-use Rattle.value_index.specs.Built.{HasEnds}
+use Rattle.std.proofs.Common.{◌≡◌, ◌++◌, take}
+use Rattle.std.specs.List.{flat_map}
+use Rattle.value_index.specs.Sizes.{ends_of}
 use Rattle.value_index.proofs.build.push_all_ends.Given as goal
 
 abbrev pub invariant-loop-span : goal.invariant-loop-span
-invariant-loop-span l = record {
-  ends : All (HasEnds l.cuts.items) (take l.span-index l.spans);
-  kept : (x : ℕ) → Contains l.initial.cuts.items x → Contains l.cuts.items x;
-}
+invariant-loop-span l = l.cuts.items ≡ l.initial.cuts.items ++ flat_map ends_of (take l.span-index l.spans)

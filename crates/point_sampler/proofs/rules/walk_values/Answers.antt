@@ -1,9 +1,8 @@
 use Rattle.std.proofs.Common.{◌≡◌, ap, sym, ◌∙◌, List, ◌++◌, ◌∷◌, [], length, get_or, Bool, cond, take, ℕ, arith, ◌<◌}
 use Rattle.design_data.specs.declared.infos.BinInfo.{BinInfo}
-use Rattle.point_sampler.specs.Plans.{places_from}
-use Rattle.point_sampler.specs.Met.{has_value}
+use Rattle.point_sampler.specs.Plans.{places_from, has_value}
 use Rattle.point_sampler.proofs.Places.{places_more, noted_more}
-use Rattle.point_sampler.proofs.rules.add_values.Goals as goal
+use Rattle.point_sampler.proofs.rules.walk_values.Goals as goal
 
 pub loop-place-preserved : goal.loop-place-preserved
 loop-place-preserved c =
