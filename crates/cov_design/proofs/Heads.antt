@@ -27,11 +27,11 @@ use Rattle.elab_values.specs.declared.domain.Domain.{Domain}
 use Rattle.elab_values.specs.declared.made.Settings.{Settings}
 use Rattle.elab_values.specs.Domains.{domain_of_constants}
 use Rattle.elab_points.specs.Automatic.{CanHaveBins}
-use Rattle.cov_design.specs.declared.points.Inside.{Inside}
+use Rattle.cov_design.specs.declared.items.Inside.{Inside}
 use Rattle.cov_design.specs.declared.points.Head.{Head}
 use Rattle.cov_design.specs.Domains.{named_enumeration, domain_of_enumeration, domain_by, domain_of_point}
 use Rattle.cov_design.specs.Points.{settings_of, head_of}
-use Rattle.cov_design.specs.Instances.{inside_in}
+use Rattle.cov_design.specs.Members.{inside_in}
 
 -- ---- the numbers of a point are of its type
 

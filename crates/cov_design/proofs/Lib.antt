@@ -1,5 +1,7 @@
 pub mod Heads
 pub mod Counted
+pub mod Naming
+pub mod Crossing
 pub mod Invariant
 pub mod Designs
 pub mod Stops

@@ -16,7 +16,7 @@ is_built_point p = list_all is_built_decl p.bins
 abbrev pub is_built_member : Member → Bool
 is_built_member (members.Opt option) = true
 is_built_member (members.Point p) = is_built_point p
-is_built_member (members.Cross c) = false
+is_built_member (members.Cross c) = true
 
 abbrev pub is_built : Decl → Bool
 is_built (decls.Enum name base names at) = true

@@ -20,13 +20,10 @@ use Rattle.elab_decls.specs.declared.outside.Outside.{Outside}
 use Rattle.elab_decls.specs.Formals.{args_fit, formals_of}
 use Rattle.elab_decls.specs.Options.{group_options}
 use Rattle.cov_design.specs.declared.counts.Counts.{Counts}
-use Rattle.cov_options.specs.declared.options.Options.{Options}
-use Rattle.cov_design.specs.declared.points.Inside.{Inside}
 use Rattle.cov_design.specs.declared.known.Known.{Known}
 use Rattle.cov_design.specs.declared.instances.Body.{Body}
 use Rattle.cov_design.specs.Groups.{group_info, named}
-use Rattle.cov_design.specs.Intersections.{intersected_in}
-use Rattle.cov_design.specs.Points.{members_walked}
+use Rattle.cov_design.specs.Members.{inside_in, members_walked}
 
 -- ---- the text of a group
 
@@ -70,10 +67,6 @@ group_meant groups other at = Err (kind.UnknownType, at)
 -- what is declared outside, behind the formals and sample arguments of an instance
 abbrev pub entered : Outside → Names → Outside
 entered outside inner = record outside { scope = record outside.scope { inner = inner } }
-
--- what the members of an instance have in common, behind formals and sample arguments of these names
-abbrev pub inside_in : Pairs What → Options → List Member → Inside
-inside_in names options ms = record { names = names; options = options; intersected = intersected_in ms }
 
 -- the options of the group and then its items, behind formals and sample arguments of these names
 unfoldable pub body_walked : Outside → Pairs What → Counts → List Member → Result Body Refusal

@@ -1,24 +1,19 @@
--- What is known of what was declared: all limits hold, each bin of a point has something left, and the counts are those
--- of what was declared.
+-- What is known of what was declared: all limits hold, each bin has something left, and the counts are those of what was
+-- declared.
 use Rattle.std.specs.Prelude.{◌≡◌, ℕ, ◌<◌, ◌≤◌, List, length}
 use Rattle.std.specs.List.{AllByRecursion}
 use Rattle.cov_ground.specs.Limits.{most_instances, most_items, most_design_bins, most_design_ranges}
-use Rattle.design_data.specs.declared.infos.ItemInfo.{ItemInfo}
 use Rattle.design_data.specs.declared.infos.InstInfo.{InstInfo}
 use Rattle.design_data.specs.Bins.{bins_in, items_in, total}
 use Rattle.design_data.specs.Limits.{IsItem, ranges_in}
 use Rattle.elab_decls.specs.Invariant.{IsOutside, AreArguments}
 use Rattle.cov_design.specs.declared.known.Known.{Known}
 
--- a point, which looks at no other item
-abbrev pub IsAlone : ItemInfo → Type 0
-IsAlone item = (items : List ItemInfo) → IsItem items item
-
--- an instance of one of so many groups, whose items are points
+-- an instance of one of so many groups
 pub record IsDeclared (groups : ℕ) (inst : InstInfo) : Type 0 where
   pub group : inst.group < groups
   pub args : AreArguments inst.args
-  pub items : AllByRecursion IsAlone inst.items
+  pub items : AllByRecursion (IsItem inst.items) inst.items
 
 pub record IsKnown (known : Known) : Type 0 where
   pub outside : IsOutside known.outside

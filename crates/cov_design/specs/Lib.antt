@@ -2,7 +2,10 @@ pub mod Built
 pub mod Counting
 pub mod Domains
 pub mod Intersections
+pub mod Items
 pub mod Points
+pub mod Crosses
+pub mod Members
 pub mod Groups
 pub mod Instances
 pub mod Walk

@@ -1,36 +1,34 @@
 -- The points of an instance (IEEE 1800-2017, 19.5).
-use Rattle.std.specs.Prelude.{ℕ, ◌+◌, List, [], ◌∷◌, ◌++◌, length, map, codes, nat_eq, nat_lt, Option, Some, None, is_some, Result, Ok, Err}
+use Rattle.std.specs.Prelude.{ℕ, List, [], ◌++◌, map, codes, nat_eq, Option, Some, None, is_some, Result, Ok}
 use Rattle.std.specs.Fmt.{decimal}
-use Rattle.cov_ground.specs.Limits.{most_items}
-use Rattle.name_map.specs.Names.{with_name, meaning_of}
+use Rattle.name_map.specs.Names.{meaning_of, with_names}
 use Rattle.cov_tree.specs.declared.expr.Expr.{Expr}
 use Rattle.cov_tree.specs.declared.expr.Expr.TheViews.{out-Expr}
 use Rattle.cov_tree.specs.declared.expr.Expr.TheOpen as expr
 use Rattle.cov_tree.specs.declared.expr.Expr.TheOpen.{Expr-F}
 use Rattle.cov_tree.specs.declared.groups.PointDecl.{PointDecl}
-use Rattle.cov_tree.specs.declared.groups.Member.{Member}
-use Rattle.cov_tree.specs.declared.groups.Member.TheVariants as members
 use Rattle.const_eval.specs.Terms.{typ_of}
 use Rattle.cov_options.specs.declared.values.Level.TheVariants as levels
 use Rattle.const_eval.specs.Binding.{has_width}
 use Rattle.design_data.specs.declared.infos.ItemInfo.{ItemInfo}
 use Rattle.design_data.specs.declared.infos.ItemShape.TheVariants.{Point}
 use Rattle.elab_base.specs.declared.fault.ElabKind.TheVariants as kind
-use Rattle.elab_base.specs.declared.names.What.TheVariants as what
-use Rattle.elab_base.specs.Gives.{Refusal, ◌>>=◌, needs, each}
+use Rattle.elab_base.specs.Gives.{Refusal, ◌>>=◌, needs}
 use Rattle.elab_base.specs.Steps.{unused, bound_in, guard_in}
 use Rattle.elab_decls.specs.declared.outside.Outside.{Outside}
 use Rattle.elab_decls.specs.Options.{options_set, point_defaults}
 use Rattle.elab_values.specs.declared.domain.Domain.{Domain}
+use Rattle.elab_values.specs.declared.made.ItemDecls.{ItemDecls}
 use Rattle.elab_values.specs.declared.made.PointBins.{PointBins}
 use Rattle.elab_values.specs.declared.made.Settings.{Settings}
 use Rattle.elab_points.specs.Left.{bins_of_point}
 use Rattle.cov_design.specs.declared.counts.Counts.{Counts}
-use Rattle.cov_design.specs.declared.points.Items.{Items}
-use Rattle.cov_design.specs.declared.points.Inside.{Inside}
+use Rattle.cov_design.specs.declared.items.Items.{Items}
+use Rattle.cov_design.specs.declared.items.Inside.{Inside}
 use Rattle.cov_design.specs.declared.points.Head.{Head}
 use Rattle.cov_design.specs.Counting.{bins_counted}
 use Rattle.cov_design.specs.Domains.{domain_of_point}
+use Rattle.cov_design.specs.Items.{has_room, with_item, places_from}
 
 -- `point_K`
 abbrev pub numbered_name : ℕ → List ℕ
@@ -71,12 +69,16 @@ point_item head found = record {
   illegal = found.illegal;
 }
 
-unfoldable pub with_point : Head → PointBins → Counts → Items → Items
-with_point head found counts s = record {
-  names = with_name s.names head.name (what.Item (length s.items));
-  items = s.items ++ point_item head found ∷ [];
-  counts = record counts { items = s.counts.items + 1 };
+-- what a cross has to know of a point's declarations
+abbrev pub point_decls : Domain → PointBins → ItemDecls
+point_decls domain found = record {
+  names = with_names [] (places_from 0 found.names);
+  from = map (λ made. made.declared) found.bins;
+  domain = Some domain;
 }
+
+unfoldable pub with_point : Head → Domain → PointBins → Counts → Items → Items
+with_point head domain found counts s = with_item (point_item head found) (point_decls domain found) counts s
 
 -- the expression, the guard and the options of a point; each point has 1 to 64 bits
 unfoldable pub head_of : Outside → Inside → List ℕ → PointDecl → Result Head Refusal
@@ -101,7 +103,7 @@ unfoldable pub bins_headed : Outside → Inside → Domain → Head → PointDec
 bins_headed outside inside domain head p s = do
   found ← bins_of_point outside.scope domain head.name (settings_of inside head) p.bins p.at
   counts ← bins_counted found.bins s.counts
-  Ok (with_point head found counts s)
+  Ok (with_point head domain found counts s)
 
 abbrev pub headed_point : Outside → Inside → Head → PointDecl → Items → Result Items Refusal
 headed_point outside inside head p s = bins_headed outside inside (domain_of_point outside inside.names p.expr (typ_of head.expr)) head p s
@@ -109,18 +111,6 @@ headed_point outside inside head p s = bins_headed outside inside (domain_of_poi
 unfoldable pub named_point : Outside → Inside → List ℕ → PointDecl → Items → Result Items Refusal
 named_point outside inside name p s = do
   _ ← unused s.names name p.at
-  _ ← needs (nat_lt s.counts.items most_items) kind.DesignLimit p.at
+  _ ← has_room s.counts p.at
   head ← head_of outside inside name p
   headed_point outside inside head p s
-
--- a member that is an item; the options of the group are set before
-abbrev pub member : Outside → Inside → Member → Items → Result Items Refusal
-member outside inside (members.Point p) s = named_point outside inside (point_name p (length s.items)) p s
-member outside inside (members.Opt o) s = Ok s
-member outside inside (members.Cross c) s = Err (kind.NotBuiltYet, c.at)
-
-abbrev pub no_items : Counts → Items
-no_items counts = record { names = []; items = []; counts = counts }
-
-unfoldable pub members_walked : Outside → Inside → Counts → List Member → Result Items Refusal
-members_walked outside inside counts ms = each (member outside inside) ms (no_items counts)

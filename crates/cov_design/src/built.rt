@@ -27,7 +27,7 @@ fn is_member(member: &Member) -> bool
     match member {
         Member::Opt(_) => true,
         Member::Point(point) => is_point(point),
-        Member::Cross(_) => false,
+        Member::Cross(_) => true,
     }
 }
 

@@ -4,13 +4,13 @@ ghost use Rattle.cov_ground.specs.Limits.{most_instances};
 ghost use Rattle.elab_base.specs.declared.fault.ElabKind.TheVariants as kinds;
 ghost use Rattle.elab_base.specs.Gives.{Gives, Makes, needs};
 ghost use Rattle.elab_decls.specs.Formals.{args_fit};
-ghost use Rattle.cov_design.specs.Instances.{formals_in, samples_in, members_in, formals_at, samples_at, members_at, group_meant, inside_in, entered, body_walked, with_instance, instance_of, instance};
+ghost use Rattle.cov_design.specs.Instances.{formals_in, samples_in, members_in, formals_at, samples_at, members_at, group_meant, entered, body_walked, with_instance, instance_of, instance};
 
 use crate::counts::Counts;
 use crate::groups::with_options;
-use crate::intersections::intersected;
 use crate::known::Known;
-use crate::points::{Inside, Items, walk_members};
+use crate::items::{Inside, Items};
+use crate::members::{inside_of, walk_members};
 use const_eval::Meaning;
 use cov_ground::Memory;
 use cov_ground::limits::MOST_INSTANCES;
@@ -131,22 +131,6 @@ fn check_instances(known: &Known, at: u32) -> Result<(), ElabFault>
     Ok(())
 }
 
-/// What the members of an instance have in common.
-fn inside_of(
-    alloc: Global,
-    names: NameMap<What>,
-    options: Options,
-    members: &[Member],
-) -> Result<Inside, Memory>
-    ensures { IfOk result (λ inside. inside ≡ inside_in names options members.now) }
-{
-    Ok(Inside {
-        names,
-        options,
-        intersected: intersected(alloc, members)?,
-    })
-}
-
 /// The options and the items of a group behind the names of an instance.
 #[tactic(auto, using(crate::proofs::Heads::inside_range), unfolding(crate::specs::Instances::body_walked))]
 fn walk_inside(
@@ -166,6 +150,7 @@ fn walk_inside(
         names: _,
         options,
         intersected: _,
+        points: _,
     } = inside;
     Ok(Body { options, items })
 }
@@ -209,6 +194,7 @@ fn keep_instance(
     let Items {
         names: _,
         items,
+        decls: _,
         counts,
     } = items;
     known.instances.push(InstInfo {

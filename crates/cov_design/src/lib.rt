@@ -4,14 +4,17 @@
 
 mod built;
 mod counts;
+mod crosses;
 mod domains;
 mod elaboration;
 mod events;
 mod groups;
 mod instances;
 mod intersections;
+mod items;
 mod known;
 pub mod laws;
+mod members;
 mod points;
 mod walk;
 

@@ -1,5 +1,7 @@
 //! Points of an instance.
-ghost use Rattle.std.specs.Prelude.{◌≡◌, ◌<◌, OnOk, IfOk, true, map, nat_lt};
+ghost use Rattle.std.specs.Prelude.{◌≡◌, ◌<◌, [], OnOk, IfOk, Some, map};
+ghost use Rattle.name_map.specs.Names.{with_names};
+ghost use Rattle.design_data.specs.declared.infos.ItemShape.TheVariants.{Point};
 ghost use Rattle.cov_ground.specs.Limits.{most_items};
 ghost use Rattle.const_eval.specs.Typs.{HasWidth};
 ghost use Rattle.const_eval.specs.Terms.{typ_of as typ_of_term};
@@ -9,40 +11,23 @@ ghost use Rattle.elab_base.specs.Gives.{Gives, Makes, needs};
 ghost use Rattle.elab_decls.specs.Invariant.{AreInRange};
 ghost use Rattle.elab_points.specs.Left.{bins_of_point};
 ghost use Rattle.cov_design.specs.Domains.{domain_of_point};
-ghost use Rattle.cov_design.specs.Points.{numbered_name as numbered_text, point_name, settings_of, with_point, head_of, bins_headed, headed_point, named_point, member, members_walked};
+ghost use Rattle.cov_design.specs.Points.{numbered_name as numbered_text, point_name, settings_of, with_point, head_of, bins_headed, headed_point, named_point};
+ghost use Rattle.cov_design.specs.Items.{places_from};
 
 use crate::counts::{Counts, count_bins};
 use crate::domains::point_domain;
+use crate::items::{Inside, Items, check_room, infos, keep_item, origins, places};
 use const_eval::{Bound, typ};
 use cov_ground::Memory;
-use cov_ground::limits::MOST_ITEMS;
 use cov_options::{Level, Options};
-use cov_tree::{Expr, List, Member, Name, PointDecl};
+use cov_tree::{Expr, List, Name, PointDecl};
 use design_data::{BinInfo, ItemInfo, ItemShape};
-use elab_base::{ElabFault, ElabKind, What, add_name, bind_in, check_unused, guard_in};
+use elab_base::{ElabFault, ElabKind, bind_in, check_unused, guard_in};
 use elab_decls::{Outside, has_width, point_defaults, set_options};
 use elab_points::point_bins;
-use elab_values::{Domain, Made, PointBins, Settings};
-use name_map::NameMap;
+use elab_values::{Domain, ItemDecls, Made, PointBins, Settings};
 use std::alloc::Global;
-
-/// The items of an instance on the way, and how much the design has with them.
-#[derive(Drop)]
-pub struct Items {
-    pub names: NameMap<What>,
-    pub items: List<ItemInfo>,
-    pub counts: Counts,
-}
-
-/// What the members of an instance have in common: the names of its formals and sample arguments, the options of its
-/// group, and what its crosses intersect.
-#[derive(Drop)]
-pub struct Inside {
-    pub names: NameMap<What>,
-    pub options: Options,
-    /// The names on which a cross of the group has `intersect`, each with the place of the first.
-    pub intersected: NameMap<u32>,
-}
+use trans_seq::Seq;
 
 /// What stands at the head of a point.
 #[derive(Drop)]
@@ -61,8 +46,9 @@ fn numbered_name(alloc: Global, k: usize) -> Result<Name, Memory>
     Ok(Name::from_vec(text))
 }
 
+/// The name of a point that has so many items before it.
 #[tactic(auto, unfolding(crate::specs::Points::point_name))]
-fn name_of(alloc: Global, point: &PointDecl, k: usize) -> Result<Name, Memory>
+pub(crate) fn name_of(alloc: Global, point: &PointDecl, k: usize) -> Result<Name, Memory>
     ensures { IfOk result (λ name. name ≡ point_name point.now k) }
 {
     match &point.label {
@@ -75,17 +61,6 @@ fn name_of(alloc: Global, point: &PointDecl, k: usize) -> Result<Name, Memory>
 }
 
 #[tactic(auto, unfolding(elab_base::specs::Gives::needs))]
-fn check_items(counts: &Counts, at: u32) -> Result<(), ElabFault>
-    ensures gives { Gives result (needs (nat_lt counts.now.items most_items) kinds.DesignLimit at) }
-    ensures few { OnOk result (counts.now.items < most_items) }
-{
-    if counts.items as usize >= MOST_ITEMS {
-        return Err(ElabKind::DesignLimit.at(at));
-    }
-    Ok(())
-}
-
-#[tactic(auto, unfolding(elab_base::specs::Gives::needs))]
 fn check_width(expr: &Bound, at: u32) -> Result<(), ElabFault>
     ensures { Gives result (needs (tests_width (typ_of_term expr.now).width) kinds.TooWide at) }
 {
@@ -95,59 +70,35 @@ fn check_width(expr: &Bound, at: u32) -> Result<(), ElabFault>
     Ok(())
 }
 
-/// The bins themselves.
-fn infos(alloc: Global, bins: Vec<Made>) -> Result<List<BinInfo>, Memory>
-    ensures { IfOk result (λ infos. infos ≡ map (λ made. made.bin) bins.items) }
-{
-    let mut infos = List::new(alloc);
-    for made in bins {
-        let Made {
-            bin,
-            at: _,
-            declared: _,
-        } = made;
-        infos.push(bin)?;
-    }
-    Ok(infos)
-}
-
-/// The number as one of 32 bits. So many items as it doesn't hold don't fit into memory.
-fn index_of(place: usize) -> Result<u32, Memory>
-    ensures { IfOk result (λ same. same ≡ place) }
-{
-    match u32::try_from(place) {
-        Ok(place) => Ok(place),
-        Err(_) => Err(Memory),
-    }
-}
-
-#[tactic(auto, unfolding(crate::specs::Points::with_point))]
-fn keep_point(
+/// What a cross has to know of a point's declarations.
+fn decls_of(
     alloc: Global,
-    head: Head,
-    found: PointBins,
-    counts: Counts,
-    items: &mut Items,
-) -> Result<(), Memory>
-    requires { items.old.counts.items < most_items }
-    ensures { OnOk result (items.new ≡ with_point head found counts items.old) }
+    domain: Domain,
+    names: &[Name],
+    bins: &[Made],
+) -> Result<ItemDecls, Memory>
+    ensures { IfOk result (λ decls. decls ≡ record { names = with_names [] (places_from 0 names.now); from = map (λ made. made.declared) bins.now; domain = Some domain }) }
 {
-    let index = index_of(items.items.as_slice().len())?;
-    add_name(alloc, &mut items.names, &head.name, What::Item { index })?;
-    let PointBins {
-        bins,
-        names: _,
-        ignored,
-        illegal,
-    } = found;
-    let bins = infos(alloc, bins.into_vec())?;
+    let names = places(alloc, names)?;
+    let from = origins(alloc, bins)?;
+    Ok(ItemDecls {
+        names,
+        from,
+        domain: Some(domain),
+    })
+}
+
+/// A point with these bins and sequences.
+fn item_of(head: Head, bins: List<BinInfo>, ignored: List<Seq>, illegal: List<Seq>) -> ItemInfo
+    ensures { result ≡ record { name = head.name; weight = head.options.weight; type_weight = head.options.type_weight; goal = head.options.goal; at_least = head.options.at_least; guard = head.guard; shape = Point head.expr; first_bin = 0; bins = bins; ignored = ignored; illegal = illegal } }
+{
     let Head {
         name,
         expr,
         guard,
         options,
     } = head;
-    items.items.push(ItemInfo {
+    ItemInfo {
         name,
         weight: options.weight,
         type_weight: options.type_weight,
@@ -159,11 +110,31 @@ fn keep_point(
         bins,
         ignored,
         illegal,
-    })?;
-    let count = items.counts.items + 1;
-    items.counts = counts;
-    items.counts.items = count;
-    Ok(())
+    }
+}
+
+#[tactic(auto, unfolding(crate::specs::Points::with_point))]
+fn keep_point(
+    alloc: Global,
+    head: Head,
+    domain: Domain,
+    found: PointBins,
+    counts: Counts,
+    items: &mut Items,
+) -> Result<(), Memory>
+    requires { items.old.counts.items < most_items }
+    ensures { OnOk result (items.new ≡ with_point head domain found counts items.old) }
+{
+    let PointBins {
+        bins,
+        names,
+        ignored,
+        illegal,
+    } = found;
+    let decls = decls_of(alloc, domain, names.as_slice(), bins.as_slice())?;
+    let bins = infos(alloc, bins.into_vec())?;
+    let item = item_of(head, bins, ignored, illegal);
+    keep_item(alloc, item, decls, counts, items)
 }
 
 /// The expression, the guard and the options of a point.
@@ -244,20 +215,20 @@ fn add_bins(
     alloc: Global,
     outside: &Outside,
     inside: &Inside,
-    domain: &Domain,
+    domain: Domain,
     head: Head,
     point: &PointDecl,
     items: &mut Items,
 ) -> Result<(), ElabFault>
     requires room { items.old.counts.items < most_items }
-    requires width { HasWidth domain.now.typ }
+    requires width { HasWidth domain.typ }
     requires range { AreInRange head.options }
-    ensures { Makes result items.new (bins_headed outside.now inside.now domain.now head point.now items.old) }
+    ensures { Makes result items.new (bins_headed outside.now inside.now domain head point.now items.old) }
 {
-    let found = bins_in(alloc, outside, inside, domain, &head, point)?;
+    let found = bins_in(alloc, outside, inside, &domain, &head, point)?;
     let mut counts = items.counts;
     count_bins(found.bins.as_slice(), &mut counts)?;
-    keep_point(alloc, head, found, counts, items)?;
+    keep_point(alloc, head, domain, found, counts, items)?;
     Ok(())
 }
 
@@ -274,11 +245,13 @@ fn add_headed(
     ensures { Makes result items.new (headed_point outside.now inside.now head point.now items.old) }
 {
     let domain = domain_in(alloc, outside, inside, &head, point)?;
-    add_bins(alloc, outside, inside, &domain, head, point, items)
+    add_bins(alloc, outside, inside, domain, head, point, items)
 }
 
+/// Adds a point of this name: the name and the number of items are tried first, then follow its expression, its guard,
+/// its options and its bins, which are counted at last.
 #[tactic(auto, using(crate::proofs::Heads::head_range), unfolding(crate::specs::Points::named_point))]
-fn add_named(
+pub(crate) fn add_named(
     alloc: Global,
     outside: &mut Outside,
     inside: &Inside,
@@ -291,54 +264,8 @@ fn add_named(
     ensures same { outside.new ≡ outside.old }
 {
     check_unused(&items.names, &name, point.at)?;
-    check_items(&items.counts, point.at)?;
+    check_room(&items.counts, point.at)?;
     let head = read_head(alloc, outside, inside, name, point)?;
     add_headed(alloc, outside, inside, head, point, items)?;
     Ok(())
-}
-
-fn add_member(
-    alloc: Global,
-    outside: &mut Outside,
-    inside: &Inside,
-    found: &Member,
-    items: &mut Items,
-) -> Result<(), ElabFault>
-    requires { AreInRange inside.now.options }
-    ensures gives { Makes result items.new (member outside.old inside.now found.now items.old) }
-    ensures same { outside.new ≡ outside.old }
-{
-    match found {
-        Member::Point(point) => {
-            let name = name_of(alloc, point, items.items.as_slice().len())?;
-            add_named(alloc, outside, inside, name, point, items)
-        }
-        Member::Opt(_) => Ok(()),
-        Member::Cross(cross) => Err(ElabKind::NotBuiltYet.at(cross.at)),
-    }
-}
-
-/// The items of an instance. What is declared outside is lent, with the names of the instance entered, and as before
-/// afterwards.
-#[tactic(auto, unfolding(crate::specs::Points::members_walked))]
-pub(crate) fn walk_members(
-    alloc: Global,
-    outside: &mut Outside,
-    inside: &Inside,
-    counts: Counts,
-    members: &[Member],
-) -> Result<Items, ElabFault>
-    requires { AreInRange inside.now.options }
-    ensures gives { Gives result (members_walked outside.old inside.now counts members.now) }
-    ensures same { outside.new ≡ outside.old }
-{
-    let mut items = Items {
-        names: NameMap::new(alloc),
-        items: List::new(alloc),
-        counts,
-    };
-    for found in members {
-        add_member(alloc, outside, inside, found, &mut items)?;
-    }
-    Ok(items)
 }

@@ -3,9 +3,9 @@ use Rattle.std.proofs.lemmas.Result.{err_from_is_err_and}
 use Rattle.const_eval.specs.Scopes.{Levels}
 use Rattle.elab_base.specs.Gives.{Refusal, Fails}
 use Rattle.cov_design.specs.declared.instances.Body.{Body}
-use Rattle.cov_design.specs.declared.points.Items.{Items}
-use Rattle.cov_design.specs.declared.points.Inside.{Inside}
-use Rattle.cov_design.specs.Points.{members_walked}
+use Rattle.cov_design.specs.declared.items.Items.{Items}
+use Rattle.cov_design.specs.declared.items.Inside.{Inside}
+use Rattle.cov_design.specs.Members.{members_walked}
 use Rattle.cov_design.specs.Instances.{body_walked}
 use Rattle.cov_design.proofs.Heads.{inside_range}
 use Rattle.cov_design.proofs.Stops.{fails_bind}
