@@ -1,0 +1,7 @@
+pub mod Frames
+pub mod Given
+pub mod Limits
+pub mod Reading
+pub mod Replies
+pub mod Requests
+pub mod Spelled
