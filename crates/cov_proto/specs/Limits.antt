@@ -58,13 +58,13 @@ pub record IsRecordFault (code number : ℕ) : Type 0 where
   pub known : code ≤ 6
   pub magic : code ≡ 2 → number ≡ 0
 
-abbrev pub IsBody : Body → Type 0
-IsBody (body.Store a) = IsAnswer a
-IsBody (body.BadRecord code number) = IsRecordFault code number
-IsBody other = Unit {0}
+abbrev pub IsReplyBody : Body → Type 0
+IsReplyBody (body.Store a) = IsAnswer a
+IsReplyBody (body.BadRecord code number) = IsRecordFault code number
+IsReplyBody other = Unit {0}
 
 abbrev pub IsReply : Reply → Type 0
-IsReply r = IsBody r.body
+IsReply r = IsReplyBody r.body
 
 -- ---- what the types say: numbers of 32 and of 64 bits, digests of 32 bytes
 

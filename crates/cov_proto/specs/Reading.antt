@@ -3,7 +3,7 @@
 -- The bytes are read from left to right. A field that runs past the end, or is out of its range, is at fault at its first byte; in a
 -- text that doesn't run past the end it is the first byte that is out of its range. Behind the last field the bytes end; else the first
 -- byte too many is at fault. A fault is told by how many bytes are left at its place, its own among them.
-use Rattle.std.specs.Prelude.{ℕ, zero, suc, ◌-◌, ◌^◌, List, [], ◌∷◌, length, take, drop, Option, Some, None, Result, Ok, Err, Bool, nat_lt, nat_le, ◌==◌, ◌||◌, if◌then◌else◌}
+use Rattle.std.specs.Prelude.{ℕ, zero, suc, ◌-◌, ◌^◌, List, [], ◌∷◌, ◌++◌, length, take, drop, Option, Some, None, Result, Ok, Err, Bool, nat_lt, nat_le, ◌==◌, ◌||◌, if◌then◌else◌}
 use mathlib.Core.Bool.{◌&&◌}
 use Rattle.std.specs.List.{position}
 use Rattle.std.specs.Int.{Width, w8, w32, w64, byte_len, from_be_bytes}
@@ -125,6 +125,12 @@ rows_in read (suc n) bytes = if length bytes == 0 then Ok [] else (do
   first ← read bytes
   others ← rows_in read n first.1
   Ok (first.0 ∷ others))
+
+-- one more of what is read, behind those in front
+abbrev pub appended : {A : Type 0} → List A → Result (A × List ℕ) ℕ → Result (List A × List ℕ) ℕ
+appended front read = do
+  row ← read
+  Ok (front ++ row.0 ∷ [], row.1)
 
 abbrev pub rows : {A : Type 0} → Reader A → Form (List A)
 rows read bytes = rows_in read (length bytes) bytes
