@@ -62,7 +62,7 @@ request_spelled (request.Revise digest) = 0x0F ∷ digest
 request_spelled (request.Fetch place offset) = 0x10 ∷ (to_be_bytes w32 place ++ to_be_bytes w64 offset)
 
 -- bin, kind, whether it is excluded, count
-abbrev pub count_row : CountRow → List ℕ
+unfoldable pub count_row : CountRow → List ℕ
 count_row row = to_be_bytes w32 row.bin ++ (kind row.kind ++ (flag row.excluded ++ to_be_bytes w64 row.count))
 
 -- coverage in millionths, whether it is met, whether it is excluded, covered bins, bins
@@ -70,11 +70,11 @@ abbrev pub cover_row : CoverRow → List ℕ
 cover_row row = to_be_bytes w32 row.millionths ++ (flag row.met ++ (flag row.excluded ++ (to_be_bytes w32 row.covered ++ to_be_bytes w32 row.bins)))
 
 -- point, status, seed, time, digest, id, user
-abbrev pub test_row : HistoryNode → List ℕ
+unfoldable pub test_row : HistoryNode → List ℕ
 test_row row = to_be_bytes w64 row.point ++ (one_byte row.status ++ (to_be_bytes w64 row.seed ++ (to_be_bytes w64 row.time ++ (row.digest ++ (text row.id ++ text row.user)))))
 
 -- the test's place, gain
-abbrev pub rank_row : Ranked → List ℕ
+unfoldable pub rank_row : Ranked → List ℕ
 rank_row row = to_be_bytes w32 row.test ++ to_be_bytes w64 row.gain
 
 unfoldable pub answer_tag : Answer → ℕ

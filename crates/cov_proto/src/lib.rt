@@ -1,20 +1,22 @@
 //! Frames and messages between a store and those that speak with it.
 #![tactic(auto)]
 
-mod answering;
-mod asking;
 mod fault;
 mod fields;
 mod frames;
 mod replies;
+mod reply_reading;
+mod reply_writing;
+mod request_reading;
+mod request_writing;
 mod requests;
 mod rows;
-mod spelling;
 mod writing;
 
-pub use answering::read_reply;
-pub use asking::read_request;
 pub use frames::{FrameStep, next_frame};
 pub use replies::{Body, Reply};
+pub use reply_reading::read_reply;
+pub use reply_writing::write_reply;
+pub use request_reading::read_request;
+pub use request_writing::write_request;
 pub use requests::{Request, RequestFault};
-pub use spelling::write_request;

@@ -1,4 +1,4 @@
-//! Appending to a `Vec` that has room.
+//! Appending to a `Vec` that has room, which takes no memory.
 ghost use Rattle.std.specs.Prelude.{◌≡◌, ◌+◌, ◌≤◌, ◌++◌, ◌∷◌, length, vec_len, vec_capacity};
 ghost use Rattle.std.specs.Int.{w32, w64, to_be_bytes};
 
