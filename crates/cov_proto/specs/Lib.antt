@@ -1,5 +1,6 @@
 pub mod Frames
 pub mod Given
+pub mod Laws
 pub mod Limits
 pub mod Reading
 pub mod Replies

@@ -4,6 +4,7 @@
 mod fault;
 mod fields;
 mod frames;
+pub mod laws;
 mod replies;
 mod reply_reading;
 mod reply_writing;
