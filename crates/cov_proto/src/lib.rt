@@ -14,7 +14,7 @@ mod requests;
 mod rows;
 mod writing;
 
-pub use frames::{FrameStep, next_frame};
+pub use frames::{FrameStep, LONGEST_BODY, next_frame};
 pub use replies::{Body, Reply};
 pub use reply_reading::read_reply;
 pub use reply_writing::write_reply;
