@@ -206,7 +206,15 @@ fn bins_in(
 {
     let settings = settings(inside, head);
     let decls = point.bins.as_slice();
-    point_bins(alloc, &outside.scope, domain, &head.name, settings, decls, point.at)
+    point_bins(
+        alloc,
+        &outside.scope,
+        domain,
+        &head.name,
+        settings,
+        decls,
+        point.at,
+    )
 }
 
 /// Adds a point with these numbers.

@@ -1,9 +1,8 @@
 -- Sets of keys, and what an index of them finds.
-use Rattle.std.proofs.Common.{◌≡◌, ℤ, pos, ◌+ℤ◌, ◌≤ℤ◌, ◌<ℤ◌, ℕ, zero, suc, ◌+◌, ◌-◌, ◌^◌, ◌<◌, ◌≤◌, List, [], ◌∷◌, ◌++◌, length, get_or, map, take, All, Bool, true, false, cond, Some, None, not, refl, ap, sym, subst, ◌∙◌, arith, length-append, inl, inr}
-use Rattle.std.specs.Prelude.{AllPairs, int_le, nat_le}
-use Rattle.std.specs.List.{list_any}
+use Rattle.std.proofs.Common.{◌≡◌, ℤ, pos, ◌+ℤ◌, ◌≤ℤ◌, ℕ, zero, suc, ◌+◌, ◌-◌, ◌^◌, ◌<◌, ◌≤◌, List, [], ◌∷◌, ◌++◌, length, get_or, map, take, All, Bool, true, false, cond, Some, None, not, refl, ap, sym, subst, ◌∙◌, arith, length-append}
+use Rattle.std.specs.Prelude.{int_le, nat_le}
 use mathlib.Core.Bool.{◌&&◌, ◌||◌}
-use Rattle.std.proofs.lemmas.List.{append_assoc, length-take-le, take_all}
+use Rattle.std.proofs.lemmas.List.{length-take-le, take_all}
 use Rattle.std.proofs.lemmas.Grind.{common_steps}
 use Rattle.std.proofs.lemmas.Int.{ints}
 use Rattle.std.proofs.lemmas.List.Elements.{All-push}
@@ -18,8 +17,8 @@ use Rattle.design_data.specs.declared.infos.BinRule.TheVariants.{Values, Pattern
 use Rattle.design_data.specs.Laws.{lists, is_listed}
 use Rattle.value_index.specs.declared.sets.Span.{Span}
 use Rattle.value_index.specs.Found.{in_span, in_set, places, Apart}
-use Rattle.point_sampler.specs.Plans.{places_from, has_value}
-use Rattle.point_sampler.specs.Keys.{range_at, AreKeysOf, IsSetOf, HasOneMore, AreSetsOf}
+use Rattle.point_sampler.specs.Plans.{has_value}
+use Rattle.point_sampler.specs.Keys.{range_at, AreKeysOf, HasOneMore, AreSetsOf}
 use Rattle.point_sampler.proofs.Places.{places_more}
 
 -- ---- keys

@@ -1,7 +1,5 @@
 //! Keys of values: how far they stand above the least value of their point.
-ghost use Rattle.std.specs.Prelude.{◌≡◌, ◌↔◌, ℕ, ◌^◌, ◌<◌, pos, ◌+ℤ◌, ◌≤ℤ◌, IfOk, IfSome, Some, map};
-ghost use Rattle.cov_base.specs.Sets.{IsNormalForm};
-ghost use Rattle.value_index.specs.Found.{Apart};
+ghost use Rattle.std.specs.Prelude.{◌≡◌, ◌↔◌, ℕ, ◌^◌, ◌<◌, pos, ◌+ℤ◌, ◌≤ℤ◌, IfOk, IfSome, Some};
 ghost use Rattle.point_sampler.specs.Keys.{range_at, AreKeysOf};
 
 use const_eval::typ;

@@ -15,7 +15,7 @@ use design_data::{BinInfo, BinRule, ItemInfo};
 use std::alloc::Global;
 use value_index::{Index, Set};
 
-/// The most intervals that copies for bins `default` may have.
+/// The most intervals that copies for several bins `default` may have.
 const MOST_COPIES: usize = 0x10_0000;
 
 /// Appends the ranges of what a bin lists. False for a bin of patterns.
@@ -101,7 +101,7 @@ fn unlisted_of(
         return Ok(None);
     };
     let rest = without(alloc, least, ranges.as_slice())?;
-    if defaults.saturating_mul(rest.intervals().len()) > MOST_COPIES {
+    if defaults > 1 && defaults.saturating_mul(rest.intervals().len()) > MOST_COPIES {
         return Ok(None);
     }
     Ok(Some(rest))

@@ -1,8 +1,8 @@
 //! The cuts of sets, and for each segment the bins that have its values.
-ghost use Rattle.std.specs.Prelude.{◌≡◌, ℕ, ◌<◌, ◌≤◌, ◌+◌, ◌^◌, ◌++◌, ◌∷◌, [], length, slice_index, slice_index_or, IfOk, OnOk, All, IsTrue, nat_le, nat_lt, if◌then◌else◌, is_ok};
+ghost use Rattle.std.specs.Prelude.{◌≡◌, ℕ, ◌<◌, ◌≤◌, ◌+◌, ◌^◌, ◌++◌, ◌∷◌, [], length, slice_index, IfOk, OnOk, All};
 ghost use Rattle.std.specs.List.{Contains, AllPairs, flat_map};
-ghost use Rattle.value_index.specs.Found.{in_set, places, Apart};
-ghost use Rattle.value_index.specs.Segments.{Ascends, IsSegment};
+ghost use Rattle.value_index.specs.Found.{Apart};
+ghost use Rattle.value_index.specs.Segments.{Ascends};
 ghost use Rattle.value_index.specs.Built.{RangeAdded, SpansAdded, Holds};
 ghost use Rattle.value_index.specs.Sizes.{ends_of, all_ends, AreCuts};
 

@@ -1,0 +1,9 @@
+pub mod FrameLaws
+pub mod Heads
+pub mod Loops
+pub mod Readers
+pub mod ReplyLaws
+pub mod RequestLaws
+pub mod RowLaws
+pub mod Sizes
+pub mod Texts

@@ -1,0 +1,6 @@
+-- What laws say of bytes.
+use Rattle.std.specs.Prelude.{ℕ, ◌<◌, List, slice_index}
+
+-- numbers that fit in a byte
+abbrev pub AreBytes : List ℕ → Type 0
+AreBytes bytes = (at : ℕ) → slice_index bytes at < 256
