@@ -274,10 +274,10 @@ unfolding axis_placed
 axis_keeps outside inside at (axis.Item index) start p q e range is h =
     let count = length_push p.axes index in
     subst (IsStep start p) (ok_is (placed p.items (p.axes ++ index ∷ [])) q e) (record {
-        all = record { items = h.items; points = all_push (IsPointIndex p.items.items) p.axes index h.points is };
-        more = [];
-        behind = append-nil p.items.items;
-        longer = omega (arith, count);
+      all = record { items = h.items; points = all_push (IsPointIndex p.items.items) p.axes index h.points is };
+      more = [];
+      behind = append-nil p.items.items;
+      longer = omega (arith, count);
     })
 axis_keeps outside inside at (axis.Implicit name) start p q e range is h =
     let i = bind_ok (named_point outside inside name (implicit_decl name at) p.items) _ q e in
@@ -288,10 +288,10 @@ axis_keeps outside inside at (axis.Implicit name) start p q e range is h =
     let points = all_push (IsPointIndex new) p.axes (length old) (all_as (IsPointIndex old) (IsPointIndex new) (index_grown old (a.item ∷ [])) p.axes h.points) here in
     let count = length_push p.axes (length old) in
     subst (IsStep start p) (ok_is _ q i.2) (record {
-        all = record { items = a.all; points = subst (λ (items : List ItemInfo). AllByRecursion (IsPointIndex items) (p.axes ++ length old ∷ [])) a.behind points };
-        more = a.item ∷ [];
-        behind = a.behind;
-        longer = omega (arith, count);
+      all = record { items = a.all; points = subst (λ (items : List ItemInfo). AllByRecursion (IsPointIndex items) (p.axes ++ length old ∷ [])) a.behind points };
+      more = a.item ∷ [];
+      behind = a.behind;
+      longer = omega (arith, count);
     })
 
 pub record AreCrossed (start : Counts) (p q : Placed) (axes : List Axis) : Type 0 where

@@ -195,12 +195,7 @@ fn points_of(
 
 /// The numbers of coverage bins of the points, which have not too many products.
 #[tactic(auto, using(crate::proofs::Crossing::few_products))]
-fn sizes_of(
-    alloc: Global,
-    items: &Items,
-    axes: &[u32],
-    at: u32,
-) -> Result<List<u32>, ElabFault>
+fn sizes_of(alloc: Global, items: &Items, axes: &[u32], at: u32) -> Result<List<u32>, ElabFault>
     requires { HaveFewBins items.now.items }
     ensures gives { Gives result (sizes_fit items.now.items axes.now at) }
     ensures few { IfOk result (λ sizes. product_of sizes ≤ most_products) }
@@ -222,7 +217,13 @@ fn read_head(
 {
     let guard = guard_in(alloc, scope, &cross.guard)?;
     let mut options = cross_defaults(alloc, &inside.options);
-    set_options(alloc, Level::Cross, scope, cross.options.as_slice(), &mut options)?;
+    set_options(
+        alloc,
+        Level::Cross,
+        scope,
+        cross.options.as_slice(),
+        &mut options,
+    )?;
     Ok(CrossHead {
         name,
         guard,
@@ -248,7 +249,14 @@ fn bins_of(
         items: items.items.as_slice(),
         decls: items.decls.as_slice(),
     };
-    cross_bins(alloc, scope, crossed, sizes, cross.bins.as_slice(), cross.at)
+    cross_bins(
+        alloc,
+        scope,
+        crossed,
+        sizes,
+        cross.bins.as_slice(),
+        cross.at,
+    )
 }
 
 // ---- a cross
@@ -367,7 +375,16 @@ fn add_crossed(
     check_unused(&items.names, &name, cross.at)?;
     let sizes = sizes_of(alloc, items, axes.as_slice(), cross.at)?;
     check_room(&items.counts, cross.at)?;
-    add_bins(alloc, scope, inside, name, cross, axes, sizes.as_slice(), items)?;
+    add_bins(
+        alloc,
+        scope,
+        inside,
+        name,
+        cross,
+        axes,
+        sizes.as_slice(),
+        items,
+    )?;
     Ok(())
 }
 

@@ -8,8 +8,8 @@ ghost use Rattle.cov_design.specs.Instances.{formals_in, samples_in, members_in,
 
 use crate::counts::Counts;
 use crate::groups::with_options;
-use crate::known::Known;
 use crate::items::{Inside, Items};
+use crate::known::Known;
 use crate::members::{inside_of, walk_members};
 use const_eval::Meaning;
 use cov_ground::Memory;
