@@ -54,7 +54,7 @@ texts = {
     "lists": group("bit [7:0] v;", point("bins b[] = ([0:255] => [0:255]);")),
     "many_sequences": group("bit [15:0] v;", point("bins b[] = " + many(lambda k: "([0:65535]),", LONGEST - 200) + "(0);")),
     "repeated": group(
-        "bit [7:0] v;", point(many(lambda k: f"bins {'b' + digits(k)} = (1[*1:9] => [2:3][=1:9] => 4[->1:19]);", LONGEST - 200))
+        "bit [7:0] v;", point(many(lambda k: f"bins {'b_' + digits(k)} = (1[*1:9] => [2:3][=1:9] => 4[->1:19]);", LONGEST - 200))
     ),
     # crosses
     "declared_cross": group(
