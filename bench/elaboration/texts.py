@@ -47,6 +47,9 @@ texts = {
         point("bins b[] = {[0:49999]}; ignore_bins n = {[0:$]} with (item % 2 == 0 || item > 49999);"),
     ),
     "wildcards": group("bit [15:0] v;", point("wildcard bins b[] = {16'b?_????_????_????_???};")),
+    "patterns": group(
+        "bit [15:0] v;", point(many(lambda k: f"wildcard bins {'w_' + digits(k)} = {{16'h?{k % 4096:03x}}};", LONGEST - 200))
+    ),
     "filtered": group("bit [19:0] v;", point("bins b[64] = {[0:$]} with (item % 3 == 0);")),
     "default_array": group("bit [15:0] v;", point("bins a = {[0:999]}; bins d[] = default;")),
     "listed": group("bit [19:0] v;", point("bins b = {" + many(lambda k: f"{2 * k},", LONGEST - 200) + "0};")),

@@ -4,6 +4,3 @@
 mod ranges;
 
 pub use ranges::{Typ2, auto_ranges, ends};
-
-#[cfg(test)]
-mod tests;

@@ -4,7 +4,7 @@ use Rattle.std.specs.Prelude.{◌&&◌, ◌||◌}
 use Rattle.std.proofs.lemmas.Grind.{common_steps}
 use Rattle.std.proofs.lemmas.Int.{ints}
 use Rattle.std.proofs.lemmas.List.{get_or_default}
-use Rattle.cov_spec.specs.Coverage.{InRanges}
+use Rattle.cov_spec.specs.Ranges.{InRanges}
 use Rattle.cov_base.specs.Sets.{is_within, covers, is_in, written, IsNormalFrom, IsNormalForm, least}
 use Rattle.cov_base.specs.Intervals.{low_at, Ascends}
 use Rattle.cov_base.proofs.Normal.{covers-below}

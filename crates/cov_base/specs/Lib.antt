@@ -7,6 +7,6 @@ pub mod Stored
 pub use Rattle.bin_spec.specs.Types
 pub use Rattle.cov_ground.specs.Limits
 pub use Rattle.cov_spec.specs.Causes
-pub use Rattle.cov_spec.specs.Coverage
+pub use Rattle.cov_spec.specs.Ranges
 pub use Rattle.cov_spec.specs.Files
 pub use Rattle.cov_spec.specs.Told

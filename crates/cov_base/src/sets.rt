@@ -1,6 +1,6 @@
 //! Sets of whole numbers, as intervals in normal form.
 ghost use Rattle.std.specs.Prelude.{◌≡◌, ℤ, ℕ, List, [], ◌++◌, ◌≤◌, ◌*◌, ◌^◌, ◌↔◌, ◌&&◌, ◌||◌, not, IsTrue, IfOk, length, slice_get};
-ghost use Rattle.cov_spec.specs.Coverage.{InRanges};
+ghost use Rattle.cov_spec.specs.Ranges.{InRanges};
 ghost use Rattle.cov_base.specs.Sets.{written, set_of, is_in, without, IsNormalForm};
 
 mod counts;

@@ -1,4 +1,5 @@
 pub mod Compiling
+pub mod Texts
 pub use Rattle.cov_design.specs.Elaboration
 pub use Rattle.cov_grammar.specs.Fault
 pub use Rattle.cov_grammar.specs.Marking

@@ -1,9 +1,11 @@
 //! From the bytes of a design text to its design: tokens, syntax tree, elaboration.
 #![tactic(auto)]
 
+mod compiled;
 mod compiling;
 mod fault;
 pub mod laws;
 
+pub use compiled::Compiled;
 pub use compiling::compile;
 pub use fault::CompileFault;

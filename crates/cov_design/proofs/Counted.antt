@@ -137,7 +137,7 @@ ranges-infos (made ∷ bins) = ap (λ (n : ℕ). ranges_of made.bin.rule + n) (r
 -- a rule that has something left, with short sets, is one of a point
 point_rule : (item : ItemInfo) (kind : BinKind) (rule : BinRule) → has_some rule ≡ true → HasSeq (removing_seqs item kind) rule → IsShort rule → IsPointRule item kind rule
 point_rule item kind (Values set) some seq short = let one : 1 ≤ length set = grind (arith, some) in (one, short)
-point_rule item kind (Patterns patterns) some seq short = absurd seq
+point_rule item kind (Patterns patterns) some seq short = seq
 point_rule item kind (Trans seqs) some seq short = (seq.0, short, seq.1)
 point_rule item kind Default some seq short = tt
 point_rule item kind (DefaultValues set) some seq short = let one : 1 ≤ length set = grind (arith, some) in (one, short)

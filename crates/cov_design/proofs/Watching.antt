@@ -28,7 +28,6 @@ use Rattle.cov_design.specs.Instances.{formals_at, samples_at, members_at, group
 use Rattle.cov_design.specs.Walk.{outside_step, declared, nothing, walked}
 use Rattle.cov_design.specs.Events.{formals_here, formals_if, instance_seen, known_seen, seen, nothing_seen, all_seen, levels_of, event_levels}
 use Rattle.cov_design.specs.Elaboration.{Parts, Elaborates}
-use Rattle.cov_design.specs.Built.{all_built}
 
 -- what the walk knows outside groups, it has seen
 pub record Follows (k : Known) (s : Seen) : Type 0 where
@@ -146,8 +145,7 @@ begins = record { outside = refl; groups = refl; instances = refl }
 pub scopes_stand : (text : DesignText) (parts : Parts) (n : ℕ) → Elaborates text ≡ Ok parts → (levels : Levels) × (event_levels text.decls n ≡ Ok levels)
 unfolding Elaborates walked event_levels all_seen
 scopes_stand text parts n e =
-    let b = bind_ok (all_built text.decls) _ parts e in
-    let w = bind_ok (walked text.decls) _ parts b.2 in
+    let w = bind_ok (walked text.decls) _ parts e in
     let s = each_follows text.decls n 0 text.decls nothing w.0 nothing_seen w.1 begins in
     let made = s.1 in
     (levels_of text.decls s.0, rw made refl)

@@ -9,7 +9,6 @@ use Rattle.elab_base.specs.declared.fault.ElabFault.{ElabFault}
 use Rattle.elab_base.specs.Gives.{Refusal, ◌>>=◌, Fails}
 use Rattle.elab_order.specs.Order.{numbered}
 use Rattle.cov_design.specs.declared.known.Known.{Known}
-use Rattle.cov_design.specs.Built.{all_built}
 use Rattle.cov_design.specs.Walk.{walked}
 
 -- the parts of a design, without what is known of them
@@ -29,7 +28,6 @@ parts_known known = record { signals = known.outside.signals; groups = known.gro
 -- the design of a text, or its first fault
 unfoldable pub Elaborates : DesignText → Result Parts Refusal
 Elaborates text = do
-  _ ← all_built text.decls
   known ← walked text.decls
   Ok (parts_known known)
 

@@ -1,4 +1,3 @@
-pub mod Built
 pub mod Counting
 pub mod Domains
 pub mod Intersections

@@ -10,6 +10,7 @@ ghost use Rattle.elab_crosses.specs.declared.axes.Axis.TheVariants as axis;
 ghost use Rattle.elab_crosses.specs.Axes.{axes_named, sizes_fit};
 ghost use Rattle.elab_crosses.specs.Selections.{crossed};
 ghost use Rattle.elab_crosses.specs.Removal.{bins_of_cross};
+ghost use Rattle.cov_design.specs.Points.{named_point};
 ghost use Rattle.cov_design.specs.Crosses.{cross_name as name_meant, label_unused, implicit_decl as decl_meant, placed, axis_placed, axes_placed, cross_head, cross_decls, with_cross, headed_cross, bins_crossed, named_cross, placed_cross, around_cross, cross as cross_meant};
 
 use crate::counts::{Counts, count_bins};
@@ -84,6 +85,24 @@ fn implicit_decl(alloc: Global, name: &Name, at: u32) -> Result<PointDecl, Memor
     })
 }
 
+/// Adds the point of a signal that only a cross names.
+fn add_implicit(
+    alloc: Global,
+    outside: &mut Outside,
+    inside: &Inside,
+    at: u32,
+    name: &Name,
+    items: &mut Items,
+) -> Result<(), ElabFault>
+    requires { AreInRange inside.now.options }
+    ensures gives { Makes result items.new (named_point outside.old inside.now name.now (decl_meant name.now at) items.old) }
+    ensures same { outside.new ≡ outside.old }
+{
+    let label = name.copy(alloc)?;
+    let decl = implicit_decl(alloc, name, at)?;
+    add_named(alloc, outside, inside, label, &decl, items)
+}
+
 #[tactic(auto, unfolding(crate::specs::Crosses::axis_placed))]
 fn place_implicit(
     alloc: Global,
@@ -99,8 +118,7 @@ fn place_implicit(
     ensures same { outside.new ≡ outside.old }
 {
     let index = index_of(items.items.as_slice().len())?;
-    let decl = implicit_decl(alloc, name, at)?;
-    add_named(alloc, outside, inside, name.copy(alloc)?, &decl, items)?;
+    add_implicit(alloc, outside, inside, at, name, items)?;
     axes.push(index)?;
     Ok(())
 }

@@ -5,7 +5,6 @@ ghost use Rattle.cov_design.specs.Walk.{walked};
 ghost use Rattle.cov_design.specs.Elaboration.{parts_of, parts_known, Elaborates, GivesDesign};
 ghost use Rattle.cov_design.specs.Invariant.{IsKnown};
 
-use crate::built::check_built;
 use crate::known::Known;
 use crate::walk::walk_all;
 use cov_ground::Memory;
@@ -53,7 +52,6 @@ fn design_of(alloc: Global, known: Known) -> Result<Design, Memory>
 pub fn elaborate(alloc: Global, text: &DesignText) -> Result<Design, ElabFault>
     ensures { GivesDesign result (Elaborates text.now) }
 {
-    check_built(text.decls.as_slice())?;
     let known = known_of(alloc, text.decls.as_slice())?;
     let design = design_of(alloc, known)?;
     Ok(design)

@@ -2,7 +2,6 @@
 //! constructs that stops at the first fault, and each construct has one definition and one function.
 #![tactic(auto)]
 
-mod built;
 mod counts;
 mod crosses;
 mod domains;

@@ -13,6 +13,3 @@ mod words;
 pub use lexing::lex;
 pub use literals::literal;
 pub use token::{LexFault, Token, TokenKind};
-
-#[cfg(test)]
-mod tests;

@@ -8,6 +8,3 @@ mod values;
 
 pub use options::Options;
 pub use values::{Level, OptFault, OptValue};
-
-#[cfg(test)]
-mod tests;

@@ -436,6 +436,13 @@ module _ (text : List ℕ) (ts : List Marked) where
   unfolding bins_right
   default_part wildcard s d p e h = default_allowed (may_default wildcard s) s (not (is_fixed s)) d p e h
 
+  -- the right side by an equal size
+  pub right_reads_by : (wildcard : Bool) {s z : Size} → s ≡ z → {d : Room} {p : Place} {t : Right} {q : Place} → Reads (bins_right text ts wildcard s) d p t q → Reads (bins_right text ts wildcard z) d p t q
+  right_reads_by wildcard e {d = d} {p = p} {t = t} {q = q} r = subst (λ (s : Size). Reads (bins_right text ts wildcard s) d p t q) e r
+
+  pub right_fails_by : (wildcard : Bool) {s z : Size} → s ≡ z → {d : Room} {p : Place} {e : Stop} → Fails (bins_right text ts wildcard s) d p e → Fails (bins_right text ts wildcard z) d p e
+  right_fails_by wildcard same {d = d} {p = p} {e = e} f = subst (λ (s : Size). Fails (bins_right text ts wildcard s) d p e) same f
+
   pub not_default : (wildcard : Bool) (s : Size) (d : Room) (p : Place) → may_default wildcard s ≡ false → Leads (λ r. either (values text ts r) (allow (not (is_fixed s)) (map_to Trans (seqs text ts r)))) d p (bins_right text ts wildcard s) d p (λ x. x)
   unfolding bins_right
   not_default wildcard s d p e = no_default_allowed (may_default wildcard s) s (not (is_fixed s)) d p e

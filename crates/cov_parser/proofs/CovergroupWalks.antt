@@ -33,7 +33,7 @@ use Rattle.cov_grammar.proofs.BinsLaws.{ident_lawful}
 use Rattle.cov_grammar.proofs.GroupLaws.{option_words, item_firsts, label_lawful, member_lawful}
 use Rattle.cov_grammar.proofs.DesignLaws.{append, directions, type_text_lawful, value_lawful, formal_rest_lawful, formal_lawful, formal_list_lawful, formal_parens_lawful, formals_lawful, edge_lawful, event_lawful, argument_type_lawful, argument_rest_lawful, argument_lawful, argument_list_lawful, argument_parens_lawful, sample_lawful, function_lawful, sampled_lawful, event_or_sampled_lawful, sampling_lawful, members_lawful, group_end_lawful, group_head_lawful, group_body_lawful, group_rest_lawful}
 use Rattle.cov_parser.proofs.DesignWalks.{Members}
-use Rattle.cov_parser.proofs.Chains.{Chain, chain_first, chain_fails, chain_next, chain_breaks, chain_ends}
+use Rattle.cov_parser.proofs.Chains.{Chain, chain_fails, chain_breaks, chain_ends}
 
 -- a list of kinds without its first
 or_rest : (a b : Bool) → (a || b) ≡ true → ((a || false) ≡ true → ⊥) → b ≡ true

@@ -8,6 +8,7 @@ ghost use Rattle.cov_grammar.specs.Parses.{Reads, Fails, Parses};
 ghost use Rattle.cov_grammar.specs.Bins.{bins, bins_head, size, right, bins_word, bins_word_of, is_some, is_fixed, is_scalar, default_of, values, seqs};
 
 use crate::expr::whole_expr;
+use crate::held::Held;
 use crate::options::guard;
 use crate::ranges::values;
 use crate::reader::{ident, start_at, take, word};
@@ -32,13 +33,13 @@ pub(crate) fn bins(
     tokens: &[Marked],
     place: Place,
     room: Room,
-) -> Result<(BinsDecl, Place), Stop>
+) -> Result<(Held<BinsDecl>, Place), Stop>
     ensures { Parses (bins text.now tokens.now) room place result }
 {
     let (head, at) = bins_head(alloc, text, tokens, place)?;
     let (size, at) = size(alloc, text, tokens, at, room)?;
     let (_, at) = word(tokens, at, Kind::Assign)?;
-    let (right, at) = right(alloc, text, tokens, at, room, head.wildcard, &size)?;
+    let (right, at) = right(alloc, text, tokens, at, room, head.wildcard, size.get())?;
     let (guard, at) = guard(alloc, text, tokens, at, room)?;
     let (_, after) = word(tokens, at, Kind::Semi)?;
     let Head {
@@ -51,12 +52,12 @@ pub(crate) fn bins(
         wildcard,
         word,
         name,
-        size,
-        right,
-        guard,
+        size: size.put(),
+        right: right.put(),
+        guard: guard.put(),
         at: start,
     };
-    Ok((declaration, after))
+    Ok((Held::of(declaration), after))
 }
 
 /// `wildcard` or not, the word of bins and their name.
@@ -124,18 +125,18 @@ fn size(
     tokens: &[Marked],
     place: Place,
     room: Room,
-) -> Result<(Size, Place), Stop>
+) -> Result<(Held<Size>, Place), Stop>
     ensures { Parses (size text.now tokens.now) room place result }
 {
     let Some((_, next)) = take(tokens, place, &[Kind::OpenIndex, Kind::OpenSquare]) else {
-        return Ok((Size::Scalar, place));
+        return Ok((Held::of(Size::Scalar), place));
     };
     if let Some((_, after)) = take(tokens, next, &[Kind::CloseSquare]) {
-        return Ok((Size::Open, after));
+        return Ok((Held::of(Size::Open), after));
     }
     let (count, at) = whole_expr(alloc, text, tokens, next, room, Standing::Plain)?;
     let (_, after) = word(tokens, at, Kind::CloseSquare)?;
-    Ok((Size::Fixed(count), after))
+    Ok((Held::of(Size::Fixed(count.put())), after))
 }
 
 /// What bins count. Wildcard bins and bins of a given number have no `default`.
@@ -147,7 +148,7 @@ fn right(
     room: Room,
     wildcard: bool,
     size: &Size,
-) -> Result<(Right, Place), Stop>
+) -> Result<(Held<Right>, Place), Stop>
     ensures { Parses (right text.now tokens.now wildcard size.now) room place result }
 {
     if !may_default(wildcard, size) {
@@ -167,7 +168,7 @@ fn listed(
     place: Place,
     room: Room,
     size: &Size,
-) -> Result<(Right, Place), Stop>
+) -> Result<(Held<Right>, Place), Stop>
     ensures { Parses (λ r. either (values text.now tokens.now r) (allow (not (is_fixed size.now)) (map_to Trans (seqs text.now tokens.now r)))) room place result }
 {
     if is_fixed(size) {
@@ -177,7 +178,7 @@ fn listed(
         return values(alloc, text, tokens, place, room);
     };
     let (sequences, after) = sequences(alloc, text, tokens, place, room)?;
-    Ok((Right::Trans(sequences), after))
+    Ok((Held::of(Right::Trans(sequences)), after))
 }
 
 fn may_default(wildcard: bool, size: &Size) -> bool
@@ -210,14 +211,14 @@ fn is_scalar(size: &Size) -> bool
 }
 
 /// What stands behind `default`: `sequence`, where there is one bin, or nothing.
-fn default_end(tokens: &[Marked], place: Place, size: &Size) -> (Right, Place)
+fn default_end(tokens: &[Marked], place: Place, size: &Size) -> (Held<Right>, Place)
     ensures { (r : Room) → (found : Option Marked) × (default_of found ≡ result.0) × Reads (λ _. maybe (allow (is_scalar size.now) (word tokens.now SequenceWord))) r place found result.1 }
 {
     if !is_scalar(size) {
-        return (Right::Default, place);
+        return (Held::of(Right::Default), place);
     }
     match take(tokens, place, &[Kind::SequenceWord]) {
-        Some((_, after)) => (Right::DefaultSequence, after),
-        None => (Right::Default, place),
+        Some((_, after)) => (Held::of(Right::DefaultSequence), after),
+        None => (Held::of(Right::Default), place),
     }
 }

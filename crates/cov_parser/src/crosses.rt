@@ -3,6 +3,7 @@ ghost use Rattle.cov_grammar.specs.Parses.{Parses};
 ghost use Rattle.cov_grammar.specs.Groups.{body, cross, crossed, cross_bins};
 
 use crate::bins::bins_word_of;
+use crate::held::{Held, add};
 use crate::options::{guard, option};
 use crate::reader::{ident, take, word};
 use crate::selections::selection;
@@ -18,8 +19,8 @@ pub(crate) fn cross(
     place: Place,
     room: Room,
     start: u32,
-    label: Option<Name>,
-) -> Result<(Member, Place), Stop>
+    label: Held<Option<Name>>,
+) -> Result<(Held<Member>, Place), Stop>
     ensures { Parses (cross text.now tokens.now start label) room place result }
 {
     let (_, at) = word(tokens, place, Kind::CrossWord)?;
@@ -27,14 +28,14 @@ pub(crate) fn cross(
     let (guard, at) = guard(alloc, text, tokens, at, room)?;
     let ((options, bins), after) = body(alloc, text, tokens, at, room)?;
     let cross = CrossDecl {
-        label,
+        label: label.put(),
         points,
-        guard,
+        guard: guard.put(),
         options,
         bins,
         at: start,
     };
-    Ok((Member::Cross(cross), after))
+    Ok((Held::of(Member::Cross(cross)), after))
 }
 
 /// Two names or more with commas between them.
@@ -46,7 +47,7 @@ fn crossed(
 ) -> Result<(List<Name>, Place), Stop>
     ensures { (r : Room) → Parses (λ _. crossed text.now tokens.now) r place result }
 {
-    let mut names = Vec::new(alloc);
+    let mut names = List::new(alloc);
     let (first, at) = ident(alloc, text, tokens, place)?;
     let (_, at) = word(tokens, at, Kind::Comma)?;
     let (second, mut at) = ident(alloc, text, tokens, at)?;
@@ -57,7 +58,7 @@ fn crossed(
         names.push(name)?;
         at = after;
     }
-    Ok((List::of(names), at))
+    Ok((names, at))
 }
 
 /// `;`, or options and bins in braces.
@@ -70,10 +71,10 @@ fn body(
 ) -> Result<((List<OptDecl>, List<CrossBins>), Place), Stop>
     ensures { Parses (λ r. body text.now tokens.now (cross_bins text.now tokens.now r) r) room place result }
 {
-    let mut options = Vec::new(alloc);
-    let mut declarations = Vec::new(alloc);
+    let mut options = List::new(alloc);
+    let mut declarations = List::new(alloc);
     if let Some((_, after)) = take(tokens, place, &[Kind::Semi]) {
-        return Ok(((List::of(options), List::of(declarations)), after));
+        return Ok(((options, declarations), after));
     }
     let (_, mut at) = word(tokens, place, Kind::OpenBrace)?;
     while let Some((token, _)) = take(tokens, at, &ENTRY_KINDS) {
@@ -82,16 +83,16 @@ fn body(
             .is_one_of(&[Kind::OptionWord, Kind::TypeOptionWord])
         {
             let (option, after) = option(alloc, text, tokens, at, room)?;
-            options.push(option)?;
+            add(&mut options, option)?;
             at = after;
         } else {
             let (declaration, after) = cross_bins(alloc, text, tokens, at, room)?;
-            declarations.push(declaration)?;
+            add(&mut declarations, declaration)?;
             at = after;
         }
     }
     let (_, after) = word(tokens, at, Kind::CloseBrace)?;
-    Ok(((List::of(options), List::of(declarations)), after))
+    Ok(((options, declarations), after))
 }
 
 /// What options and bins of a cross begin with.
@@ -110,7 +111,7 @@ fn cross_bins(
     tokens: &[Marked],
     place: Place,
     room: Room,
-) -> Result<(CrossBins, Place), Stop>
+) -> Result<(Held<CrossBins>, Place), Stop>
     ensures { Parses (cross_bins text.now tokens.now) room place result }
 {
     let Some((token, next)) = take(
@@ -128,9 +129,9 @@ fn cross_bins(
     let declaration = CrossBins {
         word: bins_word_of(token.kind),
         name,
-        sel,
-        guard,
+        sel: sel.put(),
+        guard: guard.put(),
         at: token.at,
     };
-    Ok((declaration, after))
+    Ok((Held::of(declaration), after))
 }

@@ -7,6 +7,7 @@ ghost use Rattle.cov_grammar.specs.Expressions.{snoc, expr, list_in};
 ghost use Rattle.cov_grammar.specs.Designs.{vector, enum_name, enum_names, enum_decl, built_in_decl, named_decl, named_type, variables, instance_of, arguments, arguments_or};
 
 use crate::expr::whole_expr;
+use crate::held::{Held, add, alone};
 use crate::reader::{ident, name_of, take, word};
 use crate::types::{built_in, vector};
 use cov_grammar::{Kind, Marked, Place, Room, Standing, Stop};
@@ -48,7 +49,7 @@ fn more_names(
 ) -> Result<(List<Marked>, Place), Stop>
     ensures { (r : Room) → Parses (λ _. many snoc (word tokens.now Comma ▸ word tokens.now Ident) (first ∷ [])) r place result }
 {
-    let mut names = Vec::new(alloc);
+    let mut names = List::new(alloc);
     names.push(first)?;
     let mut at = place;
     while let Some((_, next)) = take(tokens, at, &[Kind::Comma]) {
@@ -56,20 +57,25 @@ fn more_names(
         names.push(name)?;
         at = after;
     }
-    Ok((List::of(names), at))
+    Ok((names, at))
 }
 
 /// A variable of this type for each name.
-fn typed(alloc: Global, text: &[u8], typ: TypeText, names: &[Marked]) -> Result<List<Decl>, Memory>
+fn typed(
+    alloc: Global,
+    text: &[u8],
+    typ: Held<TypeText>,
+    names: &[Marked],
+) -> Result<List<Decl>, Memory>
     ensures { IfOk result (λ decls. decls ≡ variables text.now typ names.now) }
 {
-    let shared = Shared::of(alloc, typ)?;
-    let mut decls = Vec::new(alloc);
+    let shared = Shared::of(alloc, typ.put())?;
+    let mut decls = List::new(alloc);
     for token in names {
         let decl = variable(alloc, text, &shared, *token)?;
-        decls.push(decl)?;
+        add(&mut decls, decl)?;
     }
-    Ok(List::of(decls))
+    Ok(decls)
 }
 
 fn variable(
@@ -77,13 +83,13 @@ fn variable(
     text: &[u8],
     shared: &Shared<TypeText>,
     token: Marked,
-) -> Result<Decl, Memory>
+) -> Result<Held<Decl>, Memory>
     ensures { IfOk result (λ decl. decl ∷ [] ≡ variables text.now shared.now (token ∷ [])) }
 {
     let name = name_of(alloc, text, token)?;
     let typ = shared.share()?;
     let at = token.at;
-    Ok(Decl::Var { typ, name, at })
+    Ok(Held::of(Decl::Var { typ, name, at }))
 }
 
 /// A variable for each name, of the type that this token names.
@@ -97,7 +103,7 @@ fn of_named_type(
 {
     let name = name_of(alloc, text, token)?;
     let at = token.at;
-    typed(alloc, text, TypeText::Named { name, at }, names)
+    typed(alloc, text, Held::of(TypeText::Named { name, at }), names)
 }
 
 /// An instance, or variables whose type is a name.
@@ -138,17 +144,13 @@ fn instance(
     let group = name_of(alloc, text, first)?;
     let name = name_of(alloc, text, second)?;
     let at = first.at;
-    let mut decls = Vec::new(alloc);
-    let instance = Decl::Instance {
+    let instance = Held::of(Decl::Instance {
         group,
         name,
         args,
         at,
-    };
-    if decls.push(instance).is_err() {
-        return Err(Memory);
-    }
-    Ok(List::of(decls))
+    });
+    alone(alloc, instance)
 }
 
 /// Arguments in parentheses, or nothing; both none and empty parentheses give the empty list.
@@ -163,10 +165,10 @@ fn maybe_arguments(
     ensures fails { IfErr result (λ stop. Fails (λ r. maybe (arguments text.now tokens.now r)) room place stop) }
 {
     let Some((_, next)) = take(tokens, place, &[Kind::OpenParen]) else {
-        return Ok((List::of(Vec::new(alloc)), place));
+        return Ok((List::new(alloc), place));
     };
     if let Some((_, after)) = take(tokens, next, &[Kind::CloseParen]) {
-        return Ok((List::of(Vec::new(alloc)), after));
+        return Ok((List::new(alloc), after));
     }
     let (args, at) = arguments(alloc, text, tokens, next, room)?;
     let (_, end) = word(tokens, at, Kind::CloseParen)?;
@@ -184,14 +186,13 @@ fn arguments(
     ensures { Parses (λ r. list_in text.now tokens.now (expr text.now tokens.now r)) room place result }
 {
     let (first, mut at) = whole_expr(alloc, text, tokens, place, room, Standing::Plain)?;
-    let mut args = Vec::new(alloc);
-    args.push(first)?;
+    let mut args = alone(alloc, first)?;
     while let Some((_, next)) = take(tokens, at, &[Kind::Comma]) {
         let (arg, after) = whole_expr(alloc, text, tokens, next, room, Standing::Plain)?;
-        args.push(arg)?;
+        add(&mut args, arg)?;
         at = after;
     }
-    Ok((List::of(args), at))
+    Ok((args, at))
 }
 
 /// An enumeration.
@@ -212,14 +213,13 @@ pub(crate) fn enumeration(
     let (_, closed) = word(tokens, at, Kind::CloseBrace)?;
     let (name, at) = ident(alloc, text, tokens, closed)?;
     let (_, after) = word(tokens, at, Kind::Semi)?;
-    let mut decls = Vec::new(alloc);
-    decls.push(Decl::Enum {
+    let enumeration = Held::of(Decl::Enum {
         name,
-        base,
+        base: base.put(),
         names,
         at: typedef.at,
-    })?;
-    Ok((List::of(decls), after))
+    });
+    Ok((alone(alloc, enumeration)?, after))
 }
 
 fn maybe_vector(
@@ -228,7 +228,7 @@ fn maybe_vector(
     tokens: &[Marked],
     place: Place,
     room: Room,
-) -> Result<(Option<TypeText>, Place), Stop>
+) -> Result<(Held<Option<TypeText>>, Place), Stop>
     ensures { Parses (λ r. maybe (vector text.now tokens.now r)) room place result }
 {
     let Some(_) = take(
@@ -236,10 +236,10 @@ fn maybe_vector(
         place,
         &[Kind::BitWord, Kind::LogicWord, Kind::RegWord],
     ) else {
-        return Ok((None, place));
+        return Ok((Held::of(None), place));
     };
     let (base, after) = vector(alloc, text, tokens, place, room)?;
-    Ok((Some(base), after))
+    Ok((Held::of(Some(base.put())), after))
 }
 
 /// Constants with commas between them.
@@ -253,14 +253,13 @@ fn constants(
     ensures { Parses (enum_names text.now tokens.now) room place result }
 {
     let (first, mut at) = constant(alloc, text, tokens, place, room)?;
-    let mut constants = Vec::new(alloc);
-    constants.push(first)?;
+    let mut constants = alone(alloc, first)?;
     while let Some((_, next)) = take(tokens, at, &[Kind::Comma]) {
         let (constant, after) = constant(alloc, text, tokens, next, room)?;
-        constants.push(constant)?;
+        add(&mut constants, constant)?;
         at = after;
     }
-    Ok((List::of(constants), at))
+    Ok((constants, at))
 }
 
 fn constant(
@@ -269,12 +268,12 @@ fn constant(
     tokens: &[Marked],
     place: Place,
     room: Room,
-) -> Result<((Name, Option<Expr>), Place), Stop>
+) -> Result<(Held<(Name, Option<Expr>)>, Place), Stop>
     ensures { Parses (enum_name text.now tokens.now) room place result }
 {
     let (name, at) = ident(alloc, text, tokens, place)?;
     let (value, after) = maybe_value(alloc, text, tokens, at, room)?;
-    Ok(((name, value), after))
+    Ok((Held::of((name, value.put())), after))
 }
 
 /// `= value`, or nothing.
@@ -284,12 +283,12 @@ pub(crate) fn maybe_value(
     tokens: &[Marked],
     place: Place,
     room: Room,
-) -> Result<(Option<Expr>, Place), Stop>
+) -> Result<(Held<Option<Expr>>, Place), Stop>
     ensures { Parses (λ r. maybe (word tokens.now Assign ▸ expr text.now tokens.now r)) room place result }
 {
     let Some((_, next)) = take(tokens, place, &[Kind::Assign]) else {
-        return Ok((None, place));
+        return Ok((Held::of(None), place));
     };
     let (value, after) = whole_expr(alloc, text, tokens, next, room, Standing::Plain)?;
-    Ok((Some(value), after))
+    Ok((Held::of(Some(value.put())), after))
 }

@@ -9,6 +9,7 @@ ghost use Rattle.cov_grammar.specs.Expressions.{inner_at, index_in, primary_in, 
 ghost use Rattle.cov_tree.specs.Exprs.{number, concatenation, choice, unary};
 ghost use Rattle.cov_lexer.specs.Literals.{literal_of};
 
+use crate::held::{Held, add, alone};
 use crate::operators::{LEVELS, UNARY, binary_op, operators, unary_op};
 use crate::reader::{name_of, number_of, operator, start_at, take, word};
 use cov_grammar::{Kind, Marked, Place, Room, Standing, Stop};
@@ -23,7 +24,7 @@ pub(crate) fn whole_expr(
     place: Place,
     room: Room,
     standing: Standing,
-) -> Result<(Expr, Place), Stop>
+) -> Result<(Held<Expr>, Place), Stop>
     ensures { Parses (whole_expr text.now tokens.now standing) room place result }
 {
     let start = Place {
@@ -47,7 +48,7 @@ fn part_expr(
     place: Place,
     room: Room,
     standing: Standing,
-) -> Result<(Expr, Place), Stop>
+) -> Result<(Held<Expr>, Place), Stop>
     ensures { Parses (part_expr text.now tokens.now standing) room place result }
 {
     let start = start_at(tokens, place.at);
@@ -78,7 +79,7 @@ fn binary(
     room: Room,
     standing: Standing,
     level: usize,
-) -> Result<(Expr, Place), Stop>
+) -> Result<(Held<Expr>, Place), Stop>
     ensures { Parses (λ r. binary_in text.now tokens.now r.operators standing (inner_at text.now tokens.now r.operators standing r.levels) level) room place result }
 {
     if level == 0 {
@@ -104,7 +105,7 @@ fn unary(
     place: Place,
     room: Room,
     standing: Standing,
-) -> Result<(Expr, Place), Stop>
+) -> Result<(Held<Expr>, Place), Stop>
     ensures { Parses (λ r. unary_in text.now tokens.now standing (inner_at text.now tokens.now r.operators standing r.levels)) room place result }
 {
     let Some((op, next)) = take(tokens, place, &UNARY) else {
@@ -129,11 +130,11 @@ fn primary(
     place: Place,
     room: Room,
     standing: Standing,
-) -> Result<(Expr, Place), Stop>
+) -> Result<(Held<Expr>, Place), Stop>
     ensures { Parses (λ r. primary_in text.now tokens.now standing (inner_at text.now tokens.now r.operators standing r.levels)) room place result }
 {
     if let Some((token, after)) = take(tokens, place, &[Kind::Numeral]) {
-        return Ok((number(text, token), after));
+        return Ok((Held::of(number(text, token)), after));
     }
     if let Some((name, after)) = take(tokens, place, &[Kind::Ident]) {
         let (index, after) = index(alloc, text, tokens, after, room, standing)?;
@@ -163,7 +164,7 @@ fn primary(
     };
     let (parts, at) = parts(alloc, text, tokens, next, inner)?;
     let (_, after) = word(tokens, at, Kind::CloseBrace)?;
-    Ok((concatenation(parts, open.at), after))
+    Ok((Held::of(concatenation(parts, open.at)), after))
 }
 
 /// What stands behind a name: an index, the two ends of a part, or nothing.
@@ -175,11 +176,11 @@ fn index(
     place: Place,
     room: Room,
     standing: Standing,
-) -> Result<(Option<(Expr, Option<Expr>)>, Place), Stop>
+) -> Result<(Held<Option<(Expr, Option<Expr>)>>, Place), Stop>
     ensures { Parses (λ r. maybe (index_in text.now tokens.now standing (inner_at text.now tokens.now r.operators standing r.levels))) room place result }
 {
     let Some((_, next)) = take(tokens, place, index_kinds(standing)) else {
-        return Ok((None, place));
+        return Ok((Held::of(None), place));
     };
     if room.levels == 0 {
         return Err(Stop::TooDeep(place.at));
@@ -191,7 +192,7 @@ fn index(
     let (high, at) = part_expr(alloc, text, tokens, next, inner, Standing::Plain)?;
     let (low, at) = second_end(alloc, text, tokens, at, inner)?;
     let (_, after) = word(tokens, at, Kind::CloseSquare)?;
-    Ok((Some((high, low)), after))
+    Ok((Held::of(Some((high.put(), low.put()))), after))
 }
 
 /// `: expression`, or nothing.
@@ -202,14 +203,14 @@ fn second_end(
     tokens: &[Marked],
     place: Place,
     room: Room,
-) -> Result<(Option<Expr>, Place), Stop>
+) -> Result<(Held<Option<Expr>>, Place), Stop>
     ensures { Parses (λ r. maybe (word tokens.now Colon ▸ part_expr text.now tokens.now Plain r)) room place result }
 {
     let Some((_, next)) = take(tokens, place, &[Kind::Colon]) else {
-        return Ok((None, place));
+        return Ok((Held::of(None), place));
     };
     let (low, after) = part_expr(alloc, text, tokens, next, room, Standing::Plain)?;
-    Ok((Some(low), after))
+    Ok((Held::of(Some(low.put())), after))
 }
 
 /// The parts of a concatenation.
@@ -224,14 +225,13 @@ fn parts(
     ensures { Parses (λ r. list_in text.now tokens.now (part_expr text.now tokens.now Plain r)) room place result }
 {
     let (first, mut at) = part_expr(alloc, text, tokens, place, room, Standing::Plain)?;
-    let mut parts = Vec::new(alloc);
-    parts.push(first)?;
+    let mut parts = alone(alloc, first)?;
     while let Some((_, next)) = take(tokens, at, &[Kind::Comma]) {
         let (part, after) = part_expr(alloc, text, tokens, next, room, Standing::Plain)?;
-        parts.push(part)?;
+        add(&mut parts, part)?;
         at = after;
     }
-    Ok((List::of(parts), at))
+    Ok((parts, at))
 }
 
 /// The kinds that open an index.
@@ -262,66 +262,75 @@ fn selected(
     alloc: Global,
     text: &[u8],
     token: Marked,
-    index: Option<(Expr, Option<Expr>)>,
-) -> Result<Expr, Memory>
+    index: Held<Option<(Expr, Option<Expr>)>>,
+) -> Result<Held<Expr>, Memory>
     ensures { IfOk result (λ e. e ≡ selected text.now token index) }
 {
     let name = name_of(alloc, text, token)?;
     let at = token.at;
-    let Some(ends) = index else {
-        return Ok(Expr::Name { name, at });
+    let Some(ends) = index.put() else {
+        return Ok(Held::of(Expr::Name { name, at }));
     };
     let (high, low) = ends;
-    let high = Boxed::of(alloc, high)?;
-    match low {
-        None => Ok(Expr::Bit {
-            name,
-            index: high,
-            at,
-        }),
+    let low = Held::of(low);
+    let index = Boxed::of(alloc, high)?;
+    match low.put() {
+        None => Ok(Held::of(Expr::Bit { name, index, at })),
         Some(low) => {
             let low = Boxed::of(alloc, low)?;
-            Ok(Expr::Part {
+            let high = index;
+            Ok(Held::of(Expr::Part {
                 name,
                 high,
                 low,
                 at,
-            })
+            }))
         }
     }
 }
 
-fn choice(alloc: Global, test: Expr, yes: Expr, no: Expr, at: u32) -> Result<Expr, Memory>
+fn choice(
+    alloc: Global,
+    test: Held<Expr>,
+    yes: Held<Expr>,
+    no: Held<Expr>,
+    at: u32,
+) -> Result<Held<Expr>, Memory>
     ensures { IfOk result (λ e. e ≡ choice test yes no at) }
 {
-    let test = Boxed::of(alloc, test)?;
-    let yes = Boxed::of(alloc, yes)?;
-    let no = Boxed::of(alloc, no)?;
-    Ok(Expr::Cond { test, yes, no, at })
+    let test = Boxed::of(alloc, test.put())?;
+    let yes = Boxed::of(alloc, yes.put())?;
+    let no = Boxed::of(alloc, no.put())?;
+    Ok(Held::of(Expr::Cond { test, yes, no, at }))
 }
 
 /// An operator before an operand.
-fn before_one(alloc: Global, op: Marked, arg: Expr) -> Result<Expr, Memory>
+fn before_one(alloc: Global, op: Marked, arg: Held<Expr>) -> Result<Held<Expr>, Memory>
     ensures { IfOk result (λ e. e ≡ unary (unary_of op.kind) arg op.at) }
 {
-    let arg = Boxed::of(alloc, arg)?;
-    Ok(Expr::Unary {
+    let arg = Boxed::of(alloc, arg.put())?;
+    Ok(Held::of(Expr::Unary {
         op: unary_op(op.kind),
         arg,
         at: op.at,
-    })
+    }))
 }
 
 /// Two operands joined by an operator.
-fn joined(alloc: Global, op: Marked, left: Expr, right: Expr) -> Result<Expr, Memory>
+fn joined(
+    alloc: Global,
+    op: Marked,
+    left: Held<Expr>,
+    right: Held<Expr>,
+) -> Result<Held<Expr>, Memory>
     ensures { IfOk result (λ e. e ≡ joined left (op, right)) }
 {
-    let left = Boxed::of(alloc, left)?;
-    let right = Boxed::of(alloc, right)?;
-    Ok(Expr::Binary {
+    let left = Boxed::of(alloc, left.put())?;
+    let right = Boxed::of(alloc, right.put())?;
+    Ok(Held::of(Expr::Binary {
         op: binary_op(op.kind),
         left,
         right,
         at: op.at,
-    })
+    }))
 }

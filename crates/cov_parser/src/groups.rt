@@ -10,6 +10,7 @@ ghost use Rattle.cov_grammar.specs.Designs.{Written, with_formal, last_is_ref, i
 use crate::crosses::cross;
 use crate::declarations::maybe_value;
 use crate::expr::whole_expr;
+use crate::held::{Held, add, alone};
 use crate::options::option;
 use crate::points::point;
 use crate::reader::{ident, name_of, spelled, start_at, take, word};
@@ -36,16 +37,15 @@ pub(crate) fn group(
     let (members, at) = members(alloc, text, tokens, at, room)?;
     let (_, after) = group_end(text, tokens, token, at)?;
     let name = name_of(alloc, text, token)?;
-    let mut decls = Vec::new(alloc);
-    decls.push(Decl::Group {
+    let group = Held::of(Decl::Group {
         name,
         formals,
         event,
         args,
         members,
         at: covergroup.at,
-    })?;
-    Ok((List::of(decls), after))
+    });
+    Ok((alone(alloc, group)?, after))
 }
 
 /// `endgroup`, with `: name` behind it or nothing, where `name` is that of the group.
@@ -95,10 +95,10 @@ fn formals(
     ensures { Parses (formals text.now tokens.now) room place result }
 {
     let Some((_, next)) = take(tokens, place, &[Kind::OpenParen]) else {
-        return Ok((List::of(Vec::new(alloc)), place));
+        return Ok((List::new(alloc), place));
     };
     if let Some((_, after)) = take(tokens, next, &[Kind::CloseParen]) {
-        return Ok((List::of(Vec::new(alloc)), after));
+        return Ok((List::new(alloc), after));
     }
     let (formals, at) = formal_list(alloc, text, tokens, next, room)?;
     let (_, after) = word(tokens, at, Kind::CloseParen)?;
@@ -115,17 +115,16 @@ fn formal_list(
 ) -> Result<(List<Formal>, Place), Stop>
     ensures { Parses (formal_list text.now tokens.now) room place result }
 {
-    let mut formals = Vec::new(alloc);
     let (first, mut at) = formal(alloc, text, tokens, place, room, false)?;
-    let mut by_ref = first.by_ref;
-    formals.push(first)?;
+    let mut by_ref = first.get().by_ref;
+    let mut formals = alone(alloc, first)?;
     while let Some((_, next)) = take(tokens, at, &[Kind::Comma]) {
         let (formal, after) = formal(alloc, text, tokens, next, room, by_ref)?;
-        by_ref = formal.by_ref;
-        formals.push(formal)?;
+        by_ref = formal.get().by_ref;
+        add(&mut formals, formal)?;
         at = after;
     }
-    Ok((List::of(formals), at))
+    Ok((formals, at))
 }
 
 /// A formal. `by_ref` is the direction of the formal before it, which it has where it gives none (13.3).
@@ -136,7 +135,7 @@ fn formal(
     place: Place,
     room: Room,
     by_ref: bool,
-) -> Result<(Formal, Place), Stop>
+) -> Result<(Held<Formal>, Place), Stop>
     ensures read { IfOk result (λ x. (w : Written) × Reads (formal text.now tokens.now) room place w x.1 × ((before : List Formal) → last_is_ref before ≡ by_ref → before ++ x.0 ∷ [] ≡ with_formal before w)) }
     ensures fault { IfErr result (λ stop. Fails (formal text.now tokens.now) room place stop) }
 {
@@ -147,12 +146,12 @@ fn formal(
     let (default, after) = maybe_value(alloc, text, tokens, at, room)?;
     let formal = Formal {
         by_ref,
-        typ,
+        typ: typ.put(),
         name,
-        default,
+        default: default.put(),
         at: start,
     };
-    Ok((formal, after))
+    Ok((Held::of(formal), after))
 }
 
 /// Whether a formal is `ref`, as the formal before it where it gives no direction.
@@ -177,13 +176,13 @@ fn sampling(
 {
     if let Some((_, next)) = take(tokens, place, &[Kind::AtSign]) {
         let (edges, after) = event(alloc, text, tokens, next, room)?;
-        return Ok(((edges, List::of(Vec::new(alloc))), after));
+        return Ok(((edges, List::new(alloc)), after));
     }
     if let Some((_, next)) = take(tokens, place, &[Kind::WithWord]) {
         let (args, after) = sample_function(alloc, text, tokens, next, room)?;
-        return Ok(((List::of(Vec::new(alloc)), args), after));
+        return Ok(((List::new(alloc), args), after));
     }
-    let nothing = (List::of(Vec::new(alloc)), List::of(Vec::new(alloc)));
+    let nothing = (List::new(alloc), List::new(alloc));
     Ok((nothing, place))
 }
 
@@ -214,7 +213,7 @@ fn argument_parens(
 {
     let (_, next) = word(tokens, place, Kind::OpenParen)?;
     if let Some((_, after)) = take(tokens, next, &[Kind::CloseParen]) {
-        return Ok((List::of(Vec::new(alloc)), after));
+        return Ok((List::new(alloc), after));
     }
     let (args, at) = arguments(alloc, text, tokens, next, room)?;
     let (_, after) = word(tokens, at, Kind::CloseParen)?;
@@ -231,15 +230,14 @@ fn arguments(
 ) -> Result<(List<Formal>, Place), Stop>
     ensures { Parses (argument_list text.now tokens.now) room place result }
 {
-    let mut args = Vec::new(alloc);
     let (first, mut at) = argument(alloc, text, tokens, place, room)?;
-    args.push(first)?;
+    let mut args = alone(alloc, first)?;
     while let Some((_, next)) = take(tokens, at, &[Kind::Comma]) {
         let (arg, after) = argument(alloc, text, tokens, next, room)?;
-        args.push(arg)?;
+        add(&mut args, arg)?;
         at = after;
     }
-    Ok((List::of(args), at))
+    Ok((args, at))
 }
 
 /// An argument of a sample function. It is `input`, whether it says so or not.
@@ -249,7 +247,7 @@ fn argument(
     tokens: &[Marked],
     place: Place,
     room: Room,
-) -> Result<(Formal, Place), Stop>
+) -> Result<(Held<Formal>, Place), Stop>
     ensures { Parses (argument text.now tokens.now) room place result }
 {
     let start = start_at(tokens, place.at);
@@ -257,12 +255,12 @@ fn argument(
     let (name, after) = ident(alloc, text, tokens, at)?;
     let arg = Formal {
         by_ref: false,
-        typ,
+        typ: typ.put(),
         name,
         default: None,
         at: start,
     };
-    Ok((arg, after))
+    Ok((Held::of(arg), after))
 }
 
 /// The place behind `input`, where it stands.
@@ -301,15 +299,14 @@ fn edges(
 ) -> Result<(List<EdgeText>, Place), Stop>
     ensures { Parses (λ r. fold snoc (map_to (λ x. x ∷ []) (edge text.now tokens.now r)) (one tokens.now (OrWord ∷ Comma ∷ []) ▸ edge text.now tokens.now r)) room place result }
 {
-    let mut edges = Vec::new(alloc);
     let (first, mut at) = edge(alloc, text, tokens, place, room)?;
-    edges.push(first)?;
+    let mut edges = alone(alloc, first)?;
     while let Some((_, next)) = take(tokens, at, &[Kind::OrWord, Kind::Comma]) {
         let (edge, after) = edge(alloc, text, tokens, next, room)?;
-        edges.push(edge)?;
+        add(&mut edges, edge)?;
         at = after;
     }
-    Ok((List::of(edges), at))
+    Ok((edges, at))
 }
 
 /// A part of an event.
@@ -319,13 +316,14 @@ fn edge(
     tokens: &[Marked],
     place: Place,
     room: Room,
-) -> Result<(EdgeText, Place), Stop>
+) -> Result<(Held<EdgeText>, Place), Stop>
     ensures { Parses (edge text.now tokens.now) room place result }
 {
     let (kind, at) = edge_word(tokens, place);
     let (name, at) = ident(alloc, text, tokens, at)?;
     let (guard, after) = edge_guard(alloc, text, tokens, at, room)?;
-    Ok((EdgeText { kind, name, guard }, after))
+    let guard = guard.put();
+    Ok((Held::of(EdgeText { kind, name, guard }), after))
 }
 
 /// Which changes a part of an event tells.
@@ -359,14 +357,14 @@ fn edge_guard(
     tokens: &[Marked],
     place: Place,
     room: Room,
-) -> Result<(Option<Expr>, Place), Stop>
+) -> Result<(Held<Option<Expr>>, Place), Stop>
     ensures { Parses (λ r. maybe (word tokens.now IffWord ▸ expr text.now tokens.now r)) room place result }
 {
     let Some((_, next)) = take(tokens, place, &[Kind::IffWord]) else {
-        return Ok((None, place));
+        return Ok((Held::of(None), place));
     };
     let (condition, after) = whole_expr(alloc, text, tokens, next, room, Standing::Plain)?;
-    Ok((Some(condition), after))
+    Ok((Held::of(Some(condition.put())), after))
 }
 
 /// What a member begins with.
@@ -389,18 +387,18 @@ fn members(
 ) -> Result<(List<Member>, Place), Stop>
     ensures { Parses (members text.now tokens.now) room place result }
 {
-    let mut members = Vec::new(alloc);
+    let mut members = List::new(alloc);
     let mut at = place;
     while let Some((token, next)) = take(tokens, at, &MEMBER_KINDS) {
         if token.kind.is_one_of(&[Kind::Semi]) {
             at = next;
         } else {
             let (member, after) = member(alloc, text, tokens, at, room)?;
-            members.push(member)?;
+            add(&mut members, member)?;
             at = after;
         }
     }
-    Ok((List::of(members), at))
+    Ok((members, at))
 }
 
 /// A member that isn't a lone `;`.
@@ -410,14 +408,14 @@ fn member(
     tokens: &[Marked],
     place: Place,
     room: Room,
-) -> Result<(Member, Place), Stop>
+) -> Result<(Held<Member>, Place), Stop>
     requires { In tokens.now place.at (OptionWord ∷ TypeOptionWord ∷ Ident ∷ CoverpointWord ∷ CrossWord ∷ []) }
     ensures read { IfOk result (λ x. Reads (member text.now tokens.now) room place (x.0 ∷ []) x.1) }
     ensures fault { IfErr result (λ stop. Fails (member text.now tokens.now) room place stop) }
 {
     if let Some((_, _)) = take(tokens, place, &[Kind::OptionWord, Kind::TypeOptionWord]) {
         let (option, after) = option(alloc, text, tokens, place, room)?;
-        return Ok((Member::Opt(option), after));
+        return Ok((Held::of(Member::Opt(option.put())), after));
     }
     item(alloc, text, tokens, place, room)
 }
@@ -429,7 +427,7 @@ fn item(
     tokens: &[Marked],
     place: Place,
     room: Room,
-) -> Result<(Member, Place), Stop>
+) -> Result<(Held<Member>, Place), Stop>
     ensures { Parses (item text.now tokens.now) room place result }
 {
     let start = start_at(tokens, place.at);
@@ -446,12 +444,13 @@ fn maybe_label(
     text: &[u8],
     tokens: &[Marked],
     place: Place,
-) -> Result<(Option<Name>, Place), Stop>
+) -> Result<(Held<Option<Name>>, Place), Stop>
     ensures { (r : Room) → Parses (λ _. maybe (label text.now tokens.now)) r place result }
 {
     let Some((token, next)) = take(tokens, place, &[Kind::Ident]) else {
-        return Ok((None, place));
+        return Ok((Held::of(None), place));
     };
     let (_, after) = word(tokens, next, Kind::Colon)?;
-    Ok((Some(name_of(alloc, text, token)?), after))
+    let name = name_of(alloc, text, token)?;
+    Ok((Held::of(Some(name)), after))
 }

@@ -7,6 +7,7 @@ mod declarations;
 mod expr;
 mod fault;
 mod groups;
+mod held;
 mod marks;
 mod operators;
 mod options;

@@ -5,6 +5,7 @@ ghost use Rattle.cov_grammar.specs.Parses.{Parses};
 ghost use Rattle.cov_grammar.specs.Bins.{guard, option_value, optset};
 
 use crate::expr::whole_expr;
+use crate::held::Held;
 use crate::ranges::in_parens;
 use crate::reader::{between, ident, take, word};
 use cov_grammar::{Kind, Marked, Place, Room, Standing, Stop};
@@ -18,7 +19,7 @@ pub(crate) fn option(
     tokens: &[Marked],
     place: Place,
     room: Room,
-) -> Result<(OptDecl, Place), Stop>
+) -> Result<(Held<OptDecl>, Place), Stop>
     ensures { Parses (optset text.now tokens.now) room place result }
 {
     let Some((token, next)) = take(tokens, place, &[Kind::OptionWord, Kind::TypeOptionWord]) else {
@@ -32,10 +33,10 @@ pub(crate) fn option(
     let option = OptDecl {
         on_type: token.kind.is_one_of(&[Kind::TypeOptionWord]),
         name,
-        value,
+        value: value.put(),
         at: token.at,
     };
-    Ok((option, after))
+    Ok((Held::of(option), after))
 }
 
 /// A string or a number.
@@ -45,14 +46,15 @@ fn option_value(
     tokens: &[Marked],
     place: Place,
     room: Room,
-) -> Result<(OptText, Place), Stop>
+) -> Result<(Held<OptText>, Place), Stop>
     ensures { Parses (option_value text.now tokens.now) room place result }
 {
     if let Some((token, after)) = take(tokens, place, &[Kind::Quoted]) {
-        return Ok((OptText::Text(inside_quotes(alloc, text, token)?), after));
+        let inside = inside_quotes(alloc, text, token)?;
+        return Ok((Held::of(OptText::Text(inside)), after));
     }
     let (number, after) = whole_expr(alloc, text, tokens, place, room, Standing::Plain)?;
-    Ok((OptText::Number(number), after))
+    Ok((Held::of(OptText::Number(number.put())), after))
 }
 
 /// What stands between the quotes of a string.
@@ -70,12 +72,12 @@ pub(crate) fn guard(
     tokens: &[Marked],
     place: Place,
     room: Room,
-) -> Result<(Option<Expr>, Place), Stop>
+) -> Result<(Held<Option<Expr>>, Place), Stop>
     ensures { Parses (λ r. maybe (guard text.now tokens.now r)) room place result }
 {
     let Some((_, next)) = take(tokens, place, &[Kind::IffWord]) else {
-        return Ok((None, place));
+        return Ok((Held::of(None), place));
     };
     let (condition, after) = in_parens(alloc, text, tokens, next, room)?;
-    Ok((Some(condition), after))
+    Ok((Held::of(Some(condition.put())), after))
 }

@@ -52,14 +52,14 @@ fn design(alloc: Global, text: &[u8], tokens: &[Marked]) -> Result<List<Decl>, S
     ensures read { IfOk result (λ decls. DerivesWithin limits text.now tokens.now decls) }
     ensures cause { IfErr result (λ stop. IsCause limits text.now tokens.now stop) }
 {
-    let mut decls = Vec::new(alloc);
+    let mut decls = List::new(alloc);
     let mut place = Place { at: 0, used: 0 };
     while place.at < tokens.len() {
         let (more, after) = declaration(alloc, text, tokens, place, LIMITS)?;
-        decls.append(&mut more.into_vec())?;
+        decls.append(more)?;
         place = after;
     }
-    Ok(List::of(decls))
+    Ok(decls)
 }
 
 /// A declaration.

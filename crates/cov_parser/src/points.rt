@@ -5,6 +5,7 @@ ghost use Rattle.cov_grammar.specs.Groups.{body, point};
 
 use crate::bins::bins;
 use crate::expr::whole_expr;
+use crate::held::{Held, add};
 use crate::options::{guard, option};
 use crate::reader::{take, word};
 use cov_grammar::{Kind, Marked, Place, Room, Standing, Stop};
@@ -19,8 +20,8 @@ pub(crate) fn point(
     place: Place,
     room: Room,
     start: u32,
-    label: Option<Name>,
-) -> Result<(Member, Place), Stop>
+    label: Held<Option<Name>>,
+) -> Result<(Held<Member>, Place), Stop>
     ensures { Parses (point text.now tokens.now start label) room place result }
 {
     let (_, at) = word(tokens, place, Kind::CoverpointWord)?;
@@ -28,14 +29,14 @@ pub(crate) fn point(
     let (guard, at) = guard(alloc, text, tokens, at, room)?;
     let ((options, bins), after) = body(alloc, text, tokens, at, room)?;
     let point = PointDecl {
-        label,
-        expr,
-        guard,
+        label: label.put(),
+        expr: expr.put(),
+        guard: guard.put(),
         options,
         bins,
         at: start,
     };
-    Ok((Member::Point(point), after))
+    Ok((Held::of(Member::Point(point)), after))
 }
 
 /// `;`, or options and bins in braces.
@@ -48,10 +49,10 @@ fn body(
 ) -> Result<((List<OptDecl>, List<BinsDecl>), Place), Stop>
     ensures { Parses (λ r. body text.now tokens.now (bins text.now tokens.now r) r) room place result }
 {
-    let mut options = Vec::new(alloc);
-    let mut declarations = Vec::new(alloc);
+    let mut options = List::new(alloc);
+    let mut declarations = List::new(alloc);
     if let Some((_, after)) = take(tokens, place, &[Kind::Semi]) {
-        return Ok(((List::of(options), List::of(declarations)), after));
+        return Ok(((options, declarations), after));
     }
     let (_, mut at) = word(tokens, place, Kind::OpenBrace)?;
     while let Some((token, _)) = take(tokens, at, &ENTRY_KINDS) {
@@ -60,16 +61,16 @@ fn body(
             .is_one_of(&[Kind::OptionWord, Kind::TypeOptionWord])
         {
             let (option, after) = option(alloc, text, tokens, at, room)?;
-            options.push(option)?;
+            add(&mut options, option)?;
             at = after;
         } else {
             let (declaration, after) = bins(alloc, text, tokens, at, room)?;
-            declarations.push(declaration)?;
+            add(&mut declarations, declaration)?;
             at = after;
         }
     }
     let (_, after) = word(tokens, at, Kind::CloseBrace)?;
-    Ok(((List::of(options), List::of(declarations)), after))
+    Ok(((options, declarations), after))
 }
 
 /// What options and bins begin with.

@@ -8,6 +8,7 @@ ghost use Rattle.cov_grammar.specs.Bins.{ident, elems};
 ghost use Rattle.cov_grammar.specs.Groups.{bins_of_token, binsof_in, sunary_in, sand_in, sel_in, sel_inner_at, part_sel, sel};
 ghost use Rattle.cov_tree.specs.Exprs.{none_of, both_of, either_of};
 
+use crate::held::Held;
 use crate::ranges::elems;
 use crate::reader::{deeper, ident, operator, take, word};
 use cov_grammar::{Kind, Marked, Place, Room, Standing, Stop};
@@ -21,7 +22,7 @@ pub(crate) fn selection(
     tokens: &[Marked],
     place: Place,
     room: Room,
-) -> Result<(Sel, Place), Stop>
+) -> Result<(Held<Sel>, Place), Stop>
     ensures { Parses (sel text.now tokens.now) room place result }
 {
     let start = Place {
@@ -44,7 +45,7 @@ fn part_selection(
     tokens: &[Marked],
     place: Place,
     room: Room,
-) -> Result<(Sel, Place), Stop>
+) -> Result<(Held<Sel>, Place), Stop>
     ensures { Parses (part_sel text.now tokens.now) room place result }
 {
     let (mut left, mut at) = conjunction(alloc, text, tokens, place, room)?;
@@ -64,7 +65,7 @@ fn conjunction(
     tokens: &[Marked],
     place: Place,
     room: Room,
-) -> Result<(Sel, Place), Stop>
+) -> Result<(Held<Sel>, Place), Stop>
     ensures { Parses (λ r. sand_in text.now tokens.now r (sel_inner_at text.now tokens.now r.operators r.levels)) room place result }
 {
     let (mut left, mut at) = simple(alloc, text, tokens, place, room)?;
@@ -84,7 +85,7 @@ fn simple(
     tokens: &[Marked],
     place: Place,
     room: Room,
-) -> Result<(Sel, Place), Stop>
+) -> Result<(Held<Sel>, Place), Stop>
     ensures { Parses (λ r. sunary_in text.now tokens.now r (sel_inner_at text.now tokens.now r.operators r.levels)) room place result }
 {
     if let Some((_, next)) = take(tokens, place, &[Kind::Bang]) {
@@ -112,7 +113,7 @@ fn bins_of(
     tokens: &[Marked],
     place: Place,
     room: Room,
-) -> Result<(Sel, Place), Stop>
+) -> Result<(Held<Sel>, Place), Stop>
     ensures { Parses (binsof_in text.now tokens.now) room place result }
 {
     let (binsof, at) = word(tokens, place, Kind::BinsofWord)?;
@@ -160,37 +161,42 @@ fn maybe_meets(
     Ok((Some(meets), after))
 }
 
-fn bins_of_token(binsof: Marked, point: Name, bin: Option<Name>, meets: Option<List<Elem>>) -> Sel
+fn bins_of_token(
+    binsof: Marked,
+    point: Name,
+    bin: Option<Name>,
+    meets: Option<List<Elem>>,
+) -> Held<Sel>
     ensures { result ≡ bins_of_token binsof ((point, bin), meets) }
 {
     let at = binsof.at;
-    Sel::BinsOf {
+    Held::of(Sel::BinsOf {
         point,
         bin,
         meets,
         at,
-    }
+    })
 }
 
-fn none_of(alloc: Global, sel: Sel) -> Result<Sel, Memory>
+fn none_of(alloc: Global, sel: Held<Sel>) -> Result<Held<Sel>, Memory>
     ensures { IfOk result (λ made. made ≡ none_of sel) }
 {
-    let sel = Boxed::of(alloc, sel)?;
-    Ok(Sel::Not(sel))
+    let sel = Boxed::of(alloc, sel.put())?;
+    Ok(Held::of(Sel::Not(sel)))
 }
 
-fn either_of(alloc: Global, left: Sel, right: Sel) -> Result<Sel, Memory>
+fn either_of(alloc: Global, left: Held<Sel>, right: Held<Sel>) -> Result<Held<Sel>, Memory>
     ensures { IfOk result (λ sel. sel ≡ either_of left right) }
 {
-    let left = Boxed::of(alloc, left)?;
-    let right = Boxed::of(alloc, right)?;
-    Ok(Sel::Or(left, right))
+    let left = Boxed::of(alloc, left.put())?;
+    let right = Boxed::of(alloc, right.put())?;
+    Ok(Held::of(Sel::Or(left, right)))
 }
 
-fn both_of(alloc: Global, left: Sel, right: Sel) -> Result<Sel, Memory>
+fn both_of(alloc: Global, left: Held<Sel>, right: Held<Sel>) -> Result<Held<Sel>, Memory>
     ensures { IfOk result (λ sel. sel ≡ both_of left right) }
 {
-    let left = Boxed::of(alloc, left)?;
-    let right = Boxed::of(alloc, right)?;
-    Ok(Sel::And(left, right))
+    let left = Boxed::of(alloc, left.put())?;
+    let right = Boxed::of(alloc, right.put())?;
+    Ok(Held::of(Sel::And(left, right)))
 }

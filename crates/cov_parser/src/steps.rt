@@ -8,6 +8,7 @@ ghost use Rattle.cov_grammar.specs.Expressions.{snoc, expr};
 ghost use Rattle.cov_grammar.specs.Bins.{repetition, step, seq, seqs, high_or, times_or_once, times_of};
 
 use crate::expr::whole_expr;
+use crate::held::{Held, add, alone};
 use crate::ranges::elems;
 use crate::reader::{start_at, take, word};
 use cov_grammar::{Kind, Marked, Place, Room, Standing, Stop};
@@ -25,14 +26,14 @@ pub(crate) fn sequences(
     ensures { Parses (seqs text.now tokens.now) room place result }
 {
     let (first, mut at) = sequence(alloc, text, tokens, place, room)?;
-    let mut sequences = Vec::new(alloc);
+    let mut sequences = List::new(alloc);
     sequences.push(first)?;
     while let Some((_, next)) = take(tokens, at, &[Kind::Comma]) {
         let (sequence, after) = sequence(alloc, text, tokens, next, room)?;
         sequences.push(sequence)?;
         at = after;
     }
-    Ok((List::of(sequences), at))
+    Ok((sequences, at))
 }
 
 /// Steps in parentheses.
@@ -62,14 +63,13 @@ fn steps(
     ensures { Parses (λ r. fold snoc (map_to (λ x. x ∷ []) (step text.now tokens.now r)) (word tokens.now FatArrow ▸ step text.now tokens.now r)) room place result }
 {
     let (first, mut at) = step(alloc, text, tokens, place, room)?;
-    let mut steps = Vec::new(alloc);
-    steps.push(first)?;
+    let mut steps = alone(alloc, first)?;
     while let Some((_, next)) = take(tokens, at, &[Kind::FatArrow]) {
         let (step, after) = step(alloc, text, tokens, next, room)?;
-        steps.push(step)?;
+        add(&mut steps, step)?;
         at = after;
     }
-    Ok((List::of(steps), at))
+    Ok((steps, at))
 }
 
 /// Values, and how often they follow one another.
@@ -79,7 +79,7 @@ fn step(
     tokens: &[Marked],
     place: Place,
     room: Room,
-) -> Result<(Step, Place), Stop>
+) -> Result<(Held<Step>, Place), Stop>
     ensures { Parses (step text.now tokens.now) room place result }
 {
     let start = start_at(tokens, place.at);
@@ -87,7 +87,7 @@ fn step(
     let (repeated, after) = repetition(alloc, text, tokens, at, room)?;
     let times = times_or_once(repeated);
     let at = start;
-    Ok((Step { elems, times, at }, after))
+    Ok((Held::of(Step { elems, times, at }), after))
 }
 
 /// A repetition, or nothing.
@@ -97,11 +97,11 @@ fn repetition(
     tokens: &[Marked],
     place: Place,
     room: Room,
-) -> Result<(Option<Times>, Place), Stop>
+) -> Result<(Held<Option<Times>>, Place), Stop>
     ensures { Parses (λ r. maybe (repetition text.now tokens.now r)) room place result }
 {
     let Some((_, next)) = take(tokens, place, &[Kind::OpenSquare]) else {
-        return Ok((None, place));
+        return Ok((Held::of(None), place));
     };
     let Some((way, ends)) = take(tokens, next, &[Kind::Star, Kind::ThinArrow, Kind::Assign]) else {
         return Err(Stop::Syntax(next.at));
@@ -110,7 +110,7 @@ fn repetition(
     let (second, at) = second_end(alloc, text, tokens, at, room)?;
     let (_, after) = word(tokens, at, Kind::CloseSquare)?;
     let high = high_end(alloc, text, tokens, ends, room, second)?;
-    Ok((Some(times_of(way.kind, low, high)), after))
+    Ok((Held::of(Some(times_of(way.kind, low, high))), after))
 }
 
 /// `: number`, or nothing.
@@ -120,14 +120,14 @@ fn second_end(
     tokens: &[Marked],
     place: Place,
     room: Room,
-) -> Result<(Option<Expr>, Place), Stop>
+) -> Result<(Held<Option<Expr>>, Place), Stop>
     ensures { Parses (λ r. maybe (word tokens.now Colon ▸ expr text.now tokens.now r)) room place result }
 {
     let Some((_, next)) = take(tokens, place, &[Kind::Colon]) else {
-        return Ok((None, place));
+        return Ok((Held::of(None), place));
     };
     let (high, after) = whole_expr(alloc, text, tokens, next, room, Standing::Plain)?;
-    Ok((Some(high), after))
+    Ok((Held::of(Some(high.put())), after))
 }
 
 /// The greatest number of a repetition: its second end, or else the expression at this place, which is its first end.
@@ -137,13 +137,13 @@ fn high_end(
     tokens: &[Marked],
     place: Place,
     room: Room,
-    second: Option<Expr>,
-) -> Result<Expr, Stop>
+    second: Held<Option<Expr>>,
+) -> Result<Held<Expr>, Stop>
     ensures same { IfOk result (λ high. (low : _) (q : _) → Reads (expr text.now tokens.now) room place low q → high ≡ high_or low second) }
     ensures only_memory { IfErr result (λ stop. (low : _) (q : _) → Reads (expr text.now tokens.now) room place low q → stop ≡ Memory) }
 {
-    if let Some(high) = second {
-        return Ok(high);
+    if let Some(high) = second.put() {
+        return Ok(Held::of(high));
     }
     match whole_expr(alloc, text, tokens, place, room, Standing::Plain) {
         Ok((low, _)) => Ok(low),
@@ -151,18 +151,19 @@ fn high_end(
     }
 }
 
-fn times_or_once(repeated: Option<Times>) -> Times
+fn times_or_once(repeated: Held<Option<Times>>) -> Times
     ensures { result ≡ times_or_once repeated }
 {
-    match repeated {
+    match repeated.put() {
         None => Times::Once,
         Some(times) => times,
     }
 }
 
-fn times_of(way: Kind, low: Expr, high: Expr) -> Times
+fn times_of(way: Kind, low: Held<Expr>, high: Held<Expr>) -> Times
     ensures { result ≡ times_of way low high }
 {
+    let (low, high) = (low.put(), high.put());
     match way {
         Kind::Star => Times::Consec { low, high },
         Kind::ThinArrow => Times::Goto { low, high },

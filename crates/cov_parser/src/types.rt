@@ -5,6 +5,7 @@ ghost use Rattle.cov_grammar.specs.Parses.{Reads, Parses};
 ghost use Rattle.cov_grammar.specs.Designs.{sign, signed_or, vector, vector_span, built_in, type_text, width_of};
 
 use crate::expr::whole_expr;
+use crate::held::Held;
 use crate::reader::{name_of, take, word};
 use cov_grammar::{Kind, Marked, Place, Room, Standing, Stop};
 use cov_tree::{Expr, TypeText};
@@ -17,7 +18,7 @@ pub(crate) fn type_text(
     tokens: &[Marked],
     place: Place,
     room: Room,
-) -> Result<(TypeText, Place), Stop>
+) -> Result<(Held<TypeText>, Place), Stop>
     ensures { Parses (type_text text.now tokens.now) room place result }
 {
     let Some((token, after)) = take(tokens, place, &[Kind::Ident]) else {
@@ -25,7 +26,7 @@ pub(crate) fn type_text(
     };
     let name = name_of(alloc, text, token)?;
     let at = token.at;
-    Ok((TypeText::Named { name, at }, after))
+    Ok((Held::of(TypeText::Named { name, at }), after))
 }
 
 /// A type that has a word of its own.
@@ -35,7 +36,7 @@ pub(crate) fn built_in(
     tokens: &[Marked],
     place: Place,
     room: Room,
-) -> Result<(TypeText, Place), Stop>
+) -> Result<(Held<TypeText>, Place), Stop>
     ensures { Parses (built_in text.now tokens.now) room place result }
 {
     let Some((token, next)) = take(
@@ -53,7 +54,7 @@ pub(crate) fn built_in(
     };
     let (signed, after) = sign(tokens, next, true);
     let width = width_of(token.kind);
-    Ok((TypeText::Fixed { width, signed }, after))
+    Ok((Held::of(TypeText::Fixed { width, signed }), after))
 }
 
 /// A vector.
@@ -63,7 +64,7 @@ pub(crate) fn vector(
     tokens: &[Marked],
     place: Place,
     room: Room,
-) -> Result<(TypeText, Place), Stop>
+) -> Result<(Held<TypeText>, Place), Stop>
     ensures { Parses (vector text.now tokens.now) room place result }
 {
     let Some((token, next)) = take(
@@ -76,7 +77,8 @@ pub(crate) fn vector(
     let (signed, at) = sign(tokens, next, false);
     let (span, after) = span(alloc, text, tokens, at, room)?;
     let at = token.at;
-    Ok((TypeText::Vector { signed, span, at }, after))
+    let span = span.put();
+    Ok((Held::of(TypeText::Vector { signed, span, at }), after))
 }
 
 /// `[high:low]`, or nothing.
@@ -86,17 +88,17 @@ fn span(
     tokens: &[Marked],
     place: Place,
     room: Room,
-) -> Result<(Option<(Expr, Expr)>, Place), Stop>
+) -> Result<(Held<Option<(Expr, Expr)>>, Place), Stop>
     ensures { Parses (λ r. maybe (vector_span text.now tokens.now r)) room place result }
 {
     let Some((_, next)) = take(tokens, place, &[Kind::OpenIndex, Kind::OpenSquare]) else {
-        return Ok((None, place));
+        return Ok((Held::of(None), place));
     };
     let (high, at) = whole_expr(alloc, text, tokens, next, room, Standing::Plain)?;
     let (_, at) = word(tokens, at, Kind::Colon)?;
     let (low, at) = whole_expr(alloc, text, tokens, at, room, Standing::Plain)?;
     let (_, after) = word(tokens, at, Kind::CloseSquare)?;
-    Ok((Some((high, low)), after))
+    Ok((Held::of(Some((high.put(), low.put()))), after))
 }
 
 /// Whether a type is signed, by its sign, and without one.

@@ -1,9 +1,9 @@
 -- What a stated length and the bytes behind it are.
-use Rattle.std.proofs.Common.{◌≡◌, ◌⊎◌, inl, inr, ℕ, ◌+◌, ◌-◌, ◌<◌, ◌≤◌, List, [], ◌∷◌, ◌++◌, length, take, drop, refl, sym, ap, ◌∙◌, append_assoc, arith, length-append, length-take}
+use Rattle.std.proofs.Common.{◌≡◌, ◌⊎◌, inr, ℕ, ◌-◌, ◌<◌, ◌≤◌, List, ◌++◌, length, take, drop, sym, ap, ◌∙◌, append_assoc, arith, length-append, length-take}
 use Rattle.std.specs.Prelude.{replicate}
 use Rattle.std.specs.Int.{w32, to_be_bytes}
 use Rattle.std.proofs.lemmas.List.{length-replicate, take-append-drop}
-use Rattle.cov_proto.specs.Frames.{IsBody, frame, IsFront, IsTorn, HasBadLength, HasFrame}
+use Rattle.cov_proto.specs.Frames.{IsTorn, HasBadLength, HasFrame}
 
 pub torn : (len : ℕ) (bytes rest : List ℕ) → bytes ≡ to_be_bytes w32 len ++ rest → 0 < len → len ≤ 1048640 → length rest < len → IsTorn bytes
 torn len bytes rest e low high less =

@@ -1,7 +1,10 @@
+pub mod Behind
+pub mod Early
 pub mod FrameLaws
 pub mod Heads
 pub mod Loops
 pub mod Readers
+pub mod ReplyFaults
 pub mod ReplyLaws
 pub mod RequestLaws
 pub mod RowLaws

@@ -1,11 +1,11 @@
 -- Rows that are read in a loop, each put behind those before.
 use Rattle.std.proofs.Common.{◌≡◌, ℕ, zero, suc, ◌+◌, ◌-◌, ◌<◌, ◌≤◌, eqb, Bool, true, false, cond, List, [], ◌∷◌, ◌++◌, length, Result, Ok, Err, refl, sym, ap, subst, ◌∙◌, append_assoc, arith, inl, inr}
 use Rattle.std.proofs.lemmas.Bool.{cases_lt, eqb-true}
-use Rattle.std.proofs.lemmas.List.{append-nil, nil_from_length}
+use Rattle.std.proofs.lemmas.List.{append-nil}
 use Rattle.cov_proto.specs.declared.fault.Fault.{Fault}
 use Rattle.cov_proto.specs.declared.fault.Fault.TheVariants.{At, Memory}
 use Rattle.cov_proto.specs.Given.{GivesOrLacks}
-use Rattle.cov_proto.specs.Reading.{◌>>=◌, Reader, ended, nothing, appended, rows_in}
+use Rattle.cov_proto.specs.Reading.{◌>>=◌, Reader, nothing, appended, rows_in}
 
 -- rows behind others
 abbrev pub with_front : {A : Type 0} → List A → Result (List A) ℕ → Result (List A) ℕ

@@ -1,5 +1,5 @@
 -- How long rows are, and what is appended part by part.
-use Rattle.std.proofs.Common.{◌≡◌, ℕ, zero, suc, ◌+◌, ◌*◌, ◌<◌, ◌≤◌, Bool, true, false, List, [], ◌∷◌, ◌++◌, length, take, get_or, refl, sym, ap, ◌∙◌, append_assoc, arith, length-append}
+use Rattle.std.proofs.Common.{◌≡◌, ℕ, zero, suc, ◌+◌, ◌*◌, ◌<◌, ◌≤◌, Bool, true, false, List, [], ◌∷◌, ◌++◌, length, take, get_or, refl, ap, append_assoc, arith, length-append}
 use Rattle.std.specs.List.{flat_map}
 use Rattle.std.specs.Int.{w32, w64, to_be_bytes}
 use Rattle.tally.specs.declared.ranked.Ranked.{Ranked}

@@ -1,5 +1,5 @@
 -- Frames on a stream: the length of a body, of 1 to 1,048,640 bytes, in four bytes with the highest first, and the body.
-use Rattle.std.specs.Prelude.{◌≡◌, ◌⊎◌, ℕ, ◌+◌, ◌<◌, ◌≤◌, ◌^◌, List, [], ◌∷◌, ◌++◌, length}
+use Rattle.std.specs.Prelude.{◌≡◌, ◌⊎◌, ℕ, ◌<◌, ◌≤◌, List, ◌++◌, length}
 use Rattle.std.specs.List.{flat_map}
 use Rattle.std.specs.Int.{w32, to_be_bytes}
 use Rattle.cov_proto.specs.declared.frames.FrameStep.{FrameStep}

@@ -1,5 +1,5 @@
 -- What a function of the readers returned, seen by view, is what reading gives.
-use Rattle.std.specs.Prelude.{◌≡◌, ℕ, Result, Ok, Err}
+use Rattle.std.specs.Prelude.{◌≡◌, ℕ, Result, Ok, Err, Bool, true}
 use Rattle.cov_proto.specs.declared.fault.BadAt.{BadAt}
 use Rattle.cov_proto.specs.declared.fault.Fault.{Fault}
 use Rattle.cov_proto.specs.declared.fault.Fault.TheVariants.{At, Memory}
@@ -21,3 +21,8 @@ abbrev pub Asks : Result Request Fault → Result Request ℕ → Type 0
 Asks (Ok r) read = read ≡ Ok r
 Asks (Err (At left)) read = read ≡ Err left
 Asks (Err Memory) read = WantsMemory read
+
+-- Memory runs out only where it may be taken.
+abbrev pub MayLack : Bool → Fault → Type 0
+MayLack takes (At left) = Unit {0}
+MayLack takes Memory = takes ≡ true

@@ -3,10 +3,10 @@
 -- The bytes are read from left to right. A field that runs past the end, or is out of its range, is at fault at its first byte; in a
 -- text that doesn't run past the end it is the first byte that is out of its range. Behind the last field the bytes end; else the first
 -- byte too many is at fault. A fault is told by how many bytes are left at its place, its own among them.
-use Rattle.std.specs.Prelude.{ℕ, zero, suc, ◌-◌, ◌^◌, List, [], ◌∷◌, ◌++◌, length, take, drop, Option, Some, None, Result, Ok, Err, Bool, nat_lt, nat_le, ◌==◌, ◌||◌, if◌then◌else◌}
+use Rattle.std.specs.Prelude.{ℕ, zero, suc, ◌-◌, List, [], ◌∷◌, ◌++◌, length, take, drop, Option, Some, None, Result, Ok, Err, Bool, nat_lt, nat_le, ◌==◌, ◌||◌, if◌then◌else◌}
 use mathlib.Core.Bool.{◌&&◌}
 use Rattle.std.specs.List.{position}
-use Rattle.std.specs.Int.{Width, w8, w32, w64, byte_len, from_be_bytes}
+use Rattle.std.specs.Int.{Width, w8, byte_len, from_be_bytes}
 use Rattle.design_data.specs.declared.infos.BinKind.{BinKind}
 use Rattle.design_data.specs.declared.infos.BinKind.TheVariants.{CvgBin, IllegalBin, IgnoreBin, DefaultBin}
 use Rattle.ucis_model.specs.declared.answers.Which.{Which}

@@ -1,5 +1,5 @@
 -- What a body answers: one row for each tag.
-use Rattle.std.specs.Prelude.{◌≡◌, ℕ, suc, ◌-◌, ◌^◌, List, [], ◌∷◌, length, Result, Ok, Err, Bool, nat_le, ◌==◌, ◌||◌, if◌then◌else◌}
+use Rattle.std.specs.Prelude.{◌≡◌, ℕ, suc, ◌^◌, List, [], ◌∷◌, length, Result, Ok, Err, Bool, true, false, nat_le, ◌==◌, ◌||◌, if◌then◌else◌}
 use mathlib.Core.Bool.{◌&&◌}
 use Rattle.std.specs.Int.{w8, w32, w64}
 use Rattle.tally.specs.declared.ranked.Ranked.{Ranked}
@@ -79,19 +79,49 @@ number_replies =
     ∷ (0xD4, made (λ x. Store (answer.Moved x)) (only (number_at w64)))
     ∷ []
 
+abbrev pub counts_at : Form Body
+counts_at = made (λ x. Store (answer.Rows x.0 x.1)) (before (number_at w32) (rows count_row_at))
+
+abbrev pub coverage_at : Form Body
+coverage_at = made (λ x. Store (answer.CoverageIs x)) (only cover_row_at)
+
+abbrev pub tests_at : Form Body
+tests_at = made (λ x. Store (answer.TestRows x.0 x.1)) (before (number_at w32) (rows test_row_at))
+
+abbrev pub ranks_at : Form Body
+ranks_at = made (λ x. Store (answer.RankRows x)) (rows rank_row_at)
+
+abbrev pub path_is_at : Form Body
+path_is_at = made (λ x. Store (answer.PathIs x)) path
+
+abbrev pub chunk_at : Form Body
+chunk_at = made (λ x. Store (answer.Chunk x.0 x.1)) (before (number_at w64) any_bytes)
+
+abbrev pub outside_at : Form Body
+outside_at = made (λ x. Outside x.0 x.1) (only (pair (number_at w64) (number_at w64)))
+
+abbrev pub bad_record_at : Form Body
+bad_record_at = made (λ x. BadRecord x.0 x.1) (only record_fault_at)
+
+abbrev pub full_at : Form Body
+full_at = made (λ x. Store (answer.Full x.0 x.1.0 x.1.1)) (only (pair limit_at (pair (number_at w64) (number_at w64))))
+
+abbrev pub bad_design_at : Form Body
+bad_design_at = made (λ x. BadDesign x.0 x.1) (before (number_at w32) any_bytes)
+
 -- those with several fields, or a text or rows to the end
 abbrev pub long_replies : Table Body
 long_replies =
-    (0x84, made (λ x. Store (answer.Rows x.0 x.1)) (before (number_at w32) (rows count_row_at)))
-    ∷ (0x85, made (λ x. Store (answer.CoverageIs x)) (only cover_row_at))
-    ∷ (0x86, made (λ x. Store (answer.TestRows x.0 x.1)) (before (number_at w32) (rows test_row_at)))
-    ∷ (0x87, made (λ x. Store (answer.RankRows x)) (rows rank_row_at))
-    ∷ (0x88, made (λ x. Store (answer.PathIs x)) path)
-    ∷ (0x8B, made (λ x. Store (answer.Chunk x.0 x.1)) (before (number_at w64) any_bytes))
-    ∷ (0xC4, made (λ x. Outside x.0 x.1) (only (pair (number_at w64) (number_at w64))))
-    ∷ (0xC8, made (λ x. BadRecord x.0 x.1) (only record_fault_at))
-    ∷ (0xCB, made (λ x. Store (answer.Full x.0 x.1.0 x.1.1)) (only (pair limit_at (pair (number_at w64) (number_at w64)))))
-    ∷ (0xD2, made (λ x. BadDesign x.0 x.1) (before (number_at w32) any_bytes))
+    (0x84, counts_at)
+    ∷ (0x85, coverage_at)
+    ∷ (0x86, tests_at)
+    ∷ (0x87, ranks_at)
+    ∷ (0x88, path_is_at)
+    ∷ (0x8B, chunk_at)
+    ∷ (0xC4, outside_at)
+    ∷ (0xC8, bad_record_at)
+    ∷ (0xCB, full_at)
+    ∷ (0xD2, bad_design_at)
     ∷ []
 
 abbrev pub bare_at : ℕ → Form Body
@@ -106,6 +136,14 @@ body_at tag = found tag long_replies (number_reply_at tag)
 -- the tags of replies: 80 to 8B and C0 to D6
 abbrev pub is_reply_tag : ℕ → Bool
 is_reply_tag tag = (nat_le 0x80 tag && nat_le tag 0x8B) || (nat_le 0xC0 tag && nat_le tag 0xD6)
+
+-- the tags of replies that hold a text or rows, which are copied
+abbrev pub takes_memory : ℕ → Bool
+takes_memory tag = (tag == 0x84) || (tag == 0x86) || (tag == 0x87) || (tag == 0x88) || (tag == 0x8B) || (tag == 0xD2)
+
+abbrev pub begins_with_text : List ℕ → Bool
+begins_with_text [] = false
+begins_with_text (tag ∷ rest) = takes_memory tag
 
 -- the point and the body behind a tag
 unfoldable pub tagged_at : ℕ → Form Reply
@@ -122,6 +160,11 @@ reply_left (tag ∷ rest) = if is_reply_tag tag then tagged_at tag rest else Err
 -- the reply that is all of the body, or the place of the first fault
 abbrev pub reply_read : Form Reply
 reply_read body = from_front (length body) (reply_left body)
+
+-- A fault is told, or memory ran out behind a tag whose reply holds a text or rows.
+abbrev pub MayWant : List ℕ → RequestFault → Type 0
+MayWant body (fault.BadMessage at) = Unit {0}
+MayWant body fault.Memory = begins_with_text body ≡ true
 
 -- A call read this; want of memory alone is free.
 abbrev pub HasReadReply : Result Reply RequestFault → Result Reply ℕ → Type 0

@@ -1,5 +1,5 @@
 -- What a body asks: one row for each tag.
-use Rattle.std.specs.Prelude.{◌≡◌, ℕ, ◌-◌, List, [], ◌∷◌, length, Result, Ok, Err, Bool, true, false}
+use Rattle.std.specs.Prelude.{◌≡◌, ℕ, ◌-◌, [], ◌∷◌, length, Result, Ok, Err, Bool, true, false}
 use Rattle.std.specs.Int.{w32, w64}
 use Rattle.cov_proto.specs.declared.requests.Request.{Request}
 use Rattle.cov_proto.specs.declared.requests.Request.TheVariants.{Hello, Begin, Piece, Commit, Counts, Coverage, Illegal, Tests, TestCounts, Rank, Exclude, Include, NameOf, Bye, Revise, Fetch}
@@ -7,13 +7,25 @@ use Rattle.cov_proto.specs.declared.requests.RequestFault.{RequestFault}
 use Rattle.cov_proto.specs.declared.requests.RequestFault.TheVariants.{BadMessage, Memory}
 use Rattle.cov_proto.specs.Reading.{Form, Table, number_at, digest_at, text_at, pair, nothing, only, before, any_bytes, path, made, found, unknown}
 
+abbrev pub piece_at : Form Request
+piece_at = made (λ x. Piece x.0 x.1) (before (number_at w64) any_bytes)
+
+abbrev pub counts_at : Form Request
+counts_at = made (λ x. Counts x.0 x.1) (before (number_at w32) path)
+
+abbrev pub test_counts_at : Form Request
+test_counts_at = made (λ x. TestCounts x.0 x.1.0 x.1.1) (before (number_at w32) (before (text_at 1 33) path))
+
+abbrev pub fetch_at : Form Request
+fetch_at = made (λ x. Fetch x.0 x.1) (only (pair (number_at w32) (number_at w64)))
+
 -- requests that end with a text
 abbrev pub text_requests : Table Request
 text_requests =
-    (0x03, made (λ x. Piece x.0 x.1) (before (number_at w64) any_bytes))
-    ∷ (0x05, made (λ x. Counts x.0 x.1) (before (number_at w32) path))
+    (0x03, piece_at)
+    ∷ (0x05, counts_at)
     ∷ (0x06, made (λ x. Coverage x) path)
-    ∷ (0x09, made (λ x. TestCounts x.0 x.1.0 x.1.1) (before (number_at w32) (before (text_at 1 33) path)))
+    ∷ (0x09, test_counts_at)
     ∷ (0x0B, made (λ x. Exclude x) path)
     ∷ (0x0C, made (λ x. Include x) path)
     ∷ []
@@ -30,7 +42,7 @@ plain_requests =
     ∷ (0x0D, made (λ x. NameOf x) (only (number_at w32)))
     ∷ (0x0E, made (λ x. Bye) nothing)
     ∷ (0x0F, made (λ x. Revise x) (only digest_at))
-    ∷ (0x10, made (λ x. Fetch x.0 x.1) (only (pair (number_at w32) (number_at w64))))
+    ∷ (0x10, fetch_at)
     ∷ []
 
 abbrev pub plain_at : ℕ → Form Request

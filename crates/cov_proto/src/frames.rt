@@ -19,7 +19,8 @@ pub const LONGEST_BODY: u32 = 1_048_640;
 
 // The number in the first four bytes, and what follows them.
 fn split_length(bytes: &[u8]) -> Option<(u32, &[u8])>
-    ensures { MatchOption result (length bytes.now < 4) (λ r. (r.0 < 2 ^ 32) × (bytes.now ≡ to_be_bytes w32 r.0 ++ r.1.now)) }
+    ensures { MatchOption result (length bytes.now < 4)
+        (λ r. (r.0 < 2 ^ 32) × (bytes.now ≡ to_be_bytes w32 r.0 ++ r.1.now)) }
 {
     if bytes.len() < 4 {
         return None;

@@ -1,13 +1,15 @@
 //! Replies from their bodies.
-ghost use Rattle.std.specs.Prelude.{◌≡◌, ◌≤◌, ◌^◌, length};
-ghost use Rattle.std.specs.Int.{w32, w64};
-ghost use Rattle.ucis_model.specs.declared.answers.Answer.TheVariants as answers;
-ghost use Rattle.cov_proto.specs.declared.replies.Body.TheVariants.{Store, Outside, BadRecord, BadDesign};
+ghost use Rattle.std.specs.Prelude.{◌≡◌, ◌≤◌, ◌^◌, length, IfOk, IfErr, false};
+ghost use Rattle.std.specs.Int.{w64};
 ghost use Rattle.cov_proto.specs.Frames.{longest_body};
-ghost use Rattle.cov_proto.specs.Given.{Gives, GivesOrLacks};
-ghost use Rattle.cov_proto.specs.Reading.{number_at, number_within, limit_at, pair, only, before, any_bytes, path, rows, made};
-ghost use Rattle.cov_proto.specs.Replies.{count_row_at, cover_row_at, test_row_at, rank_row_at, record_fault_at, number_limit};
-ghost use Rattle.cov_proto.specs.Replies.{bare_at, number_reply_at, body_at, is_reply_tag, tagged_at, reply_left, reply_read, HasReadReply};
+ghost use Rattle.cov_proto.specs.Given.{Gives, GivesOrLacks, MayLack};
+ghost use Rattle.cov_proto.specs.Laws.{SpellsReply, HasNoReply};
+ghost use Rattle.cov_proto.specs.Reading.{number_within};
+ghost use Rattle.cov_proto.specs.Replies.{counts_at, coverage_at, tests_at, ranks_at, path_is_at, chunk_at};
+ghost use Rattle.cov_proto.specs.Replies.{outside_at, bad_record_at, full_at, bad_design_at, number_limit};
+ghost use Rattle.cov_proto.specs.Replies.{bare_at, number_reply_at, body_at, is_reply_tag, tagged_at};
+ghost use Rattle.cov_proto.specs.Replies.{takes_memory, begins_with_text, MayWant};
+ghost use Rattle.cov_proto.specs.Replies.{reply_left, reply_read, HasReadReply};
 
 use crate::fault::{BadAt, Fault, place};
 use crate::fields::{end, only_digest, only_u32, only_u64, path, u8_within, u32_at, u64_at};
@@ -93,7 +95,7 @@ fn number_reply(tag: u8, bytes: &[u8]) -> Result<Body, BadAt>
 }
 
 fn outside(bytes: &[u8]) -> Result<Body, BadAt>
-    ensures { Gives (λ x. x) result (made (λ x. Outside x.0 x.1) (only (pair (number_at w64) (number_at w64))) bytes.now) }
+    ensures { Gives (λ x. x) result (outside_at bytes.now) }
 {
     let (offset, rest) = u64_at(bytes)?;
     let len = only_u64(rest)?;
@@ -133,7 +135,7 @@ fn fault_number(code: u8, bytes: &[u8]) -> Result<(u64, &[u8]), BadAt>
 
 #[tactic(auto, unfolding(crate::specs::Replies::record_fault_at))]
 fn bad_record(bytes: &[u8]) -> Result<Body, BadAt>
-    ensures { Gives (λ x. x) result (made (λ x. BadRecord x.0 x.1) (only record_fault_at) bytes.now) }
+    ensures { Gives (λ x. x) result (bad_record_at bytes.now) }
 {
     let (code, rest) = u8_within(1, 7, bytes)?;
     let (number, rest) = fault_number(code, rest)?;
@@ -142,7 +144,7 @@ fn bad_record(bytes: &[u8]) -> Result<Body, BadAt>
 }
 
 fn full(bytes: &[u8]) -> Result<Body, BadAt>
-    ensures { Gives (λ x. x) result (made (λ x. Store (answers.Full x.0 x.1.0 x.1.1)) (only (pair limit_at (pair (number_at w64) (number_at w64)))) bytes.now) }
+    ensures { Gives (λ x. x) result (full_at bytes.now) }
 {
     let (which, rest) = limit_at(bytes)?;
     let (have, rest) = u64_at(rest)?;
@@ -151,7 +153,7 @@ fn full(bytes: &[u8]) -> Result<Body, BadAt>
 }
 
 fn coverage(bytes: &[u8]) -> Result<Body, BadAt>
-    ensures { Gives (λ x. x) result (made (λ x. Store (answers.CoverageIs x)) (only cover_row_at) bytes.now) }
+    ensures { Gives (λ x. x) result (coverage_at bytes.now) }
 {
     let (row, rest) = cover_row(bytes)?;
     end(rest)?;
@@ -159,7 +161,7 @@ fn coverage(bytes: &[u8]) -> Result<Body, BadAt>
 }
 
 fn counts(alloc: Global, bytes: &[u8]) -> Result<Body, Fault>
-    ensures { GivesOrLacks (λ x. x) result (made (λ x. Store (answers.Rows x.0 x.1)) (before (number_at w32) (rows count_row_at)) bytes.now) }
+    ensures { GivesOrLacks (λ x. x) result (counts_at bytes.now) }
 {
     let (total, rest) = u32_at(bytes)?;
     let rows = all_rows(alloc, &CountRows, rest)?;
@@ -167,7 +169,7 @@ fn counts(alloc: Global, bytes: &[u8]) -> Result<Body, Fault>
 }
 
 fn tests(alloc: Global, bytes: &[u8]) -> Result<Body, Fault>
-    ensures { GivesOrLacks (λ x. x) result (made (λ x. Store (answers.TestRows x.0 x.1)) (before (number_at w32) (rows test_row_at)) bytes.now) }
+    ensures { GivesOrLacks (λ x. x) result (tests_at bytes.now) }
 {
     let (total, rest) = u32_at(bytes)?;
     let rows = all_rows(alloc, &TestRows, rest)?;
@@ -175,14 +177,14 @@ fn tests(alloc: Global, bytes: &[u8]) -> Result<Body, Fault>
 }
 
 fn ranks(alloc: Global, bytes: &[u8]) -> Result<Body, Fault>
-    ensures { GivesOrLacks (λ x. x) result (made (λ x. Store (answers.RankRows x)) (rows rank_row_at) bytes.now) }
+    ensures { GivesOrLacks (λ x. x) result (ranks_at bytes.now) }
 {
     let rows = all_rows(alloc, &RankRows, bytes)?;
     Ok(Body::Store(Answer::RankRows(rows)))
 }
 
 fn path_is(alloc: Global, bytes: &[u8]) -> Result<Body, Fault>
-    ensures { GivesOrLacks (λ x. x) result (made (λ x. Store (answers.PathIs x)) path bytes.now) }
+    ensures { GivesOrLacks (λ x. x) result (path_is_at bytes.now) }
 {
     let path = path(bytes)?;
     let path = Name::of(alloc, path)?;
@@ -190,7 +192,7 @@ fn path_is(alloc: Global, bytes: &[u8]) -> Result<Body, Fault>
 }
 
 fn chunk(alloc: Global, bytes: &[u8]) -> Result<Body, Fault>
-    ensures { GivesOrLacks (λ x. x) result (made (λ x. Store (answers.Chunk x.0 x.1)) (before (number_at w64) any_bytes) bytes.now) }
+    ensures { GivesOrLacks (λ x. x) result (chunk_at bytes.now) }
 {
     let (len, rest) = u64_at(bytes)?;
     let bytes = Name::of(alloc, rest)?;
@@ -198,7 +200,7 @@ fn chunk(alloc: Global, bytes: &[u8]) -> Result<Body, Fault>
 }
 
 fn bad_design(alloc: Global, bytes: &[u8]) -> Result<Body, Fault>
-    ensures { GivesOrLacks (λ x. x) result (made (λ x. BadDesign x.0 x.1) (before (number_at w32) any_bytes) bytes.now) }
+    ensures { GivesOrLacks (λ x. x) result (bad_design_at bytes.now) }
 {
     let (at, rest) = u32_at(bytes)?;
     let kind = Name::of(alloc, rest)?;
@@ -207,7 +209,8 @@ fn bad_design(alloc: Global, bytes: &[u8]) -> Result<Body, Fault>
 
 // What this tag says where it takes no memory.
 fn lean(tag: u8, bytes: &[u8]) -> Result<Body, Fault>
-    ensures { GivesOrLacks (λ x. x) result (number_reply_at tag bytes.now) }
+    ensures given { GivesOrLacks (λ x. x) result (number_reply_at tag bytes.now) }
+    ensures never { IfErr result (λ fault. MayLack false fault) }
 {
     match number_reply(tag, bytes) {
         Ok(body) => Ok(body),
@@ -217,7 +220,8 @@ fn lean(tag: u8, bytes: &[u8]) -> Result<Body, Fault>
 
 // What this tag says, one short reply with several fields or one that takes memory.
 fn body_of(alloc: Global, tag: u8, bytes: &[u8]) -> Result<Body, Fault>
-    ensures { GivesOrLacks (λ x. x) result (body_at tag bytes.now) }
+    ensures given { GivesOrLacks (λ x. x) result (body_at tag bytes.now) }
+    ensures lacks { IfErr result (λ fault. MayLack (takes_memory tag) fault) }
 {
     match tag {
         0x84 => counts(alloc, bytes),
@@ -242,7 +246,8 @@ fn is_reply_tag(tag: u8) -> bool
 
 #[tactic(auto, unfolding(crate::specs::Replies::tagged_at))]
 fn tagged(alloc: Global, tag: u8, bytes: &[u8]) -> Result<Reply, Fault>
-    ensures { GivesOrLacks (λ x. x) result (tagged_at tag bytes.now) }
+    ensures given { GivesOrLacks (λ x. x) result (tagged_at tag bytes.now) }
+    ensures lacks { IfErr result (λ fault. MayLack (takes_memory tag) fault) }
 {
     let (point, rest) = u64_at(bytes)?;
     let body = body_of(alloc, tag, rest)?;
@@ -251,7 +256,8 @@ fn tagged(alloc: Global, tag: u8, bytes: &[u8]) -> Result<Reply, Fault>
 
 #[tactic(auto, unfolding(crate::specs::Replies::reply_left))]
 fn reply_left(alloc: Global, body: &[u8]) -> Result<Reply, Fault>
-    ensures { GivesOrLacks (λ x. x) result (reply_left body.now) }
+    ensures given { GivesOrLacks (λ x. x) result (reply_left body.now) }
+    ensures lacks { IfErr result (λ fault. MayLack (begins_with_text body.now) fault) }
 {
     let Some((tag, rest)) = body.split_first() else {
         return Err(Fault::At { left: 0 });
@@ -266,7 +272,10 @@ fn reply_left(alloc: Global, body: &[u8]) -> Result<Reply, Fault>
 /// too many. An unknown tag is at 0.
 pub fn read_reply(alloc: Global, body: &[u8]) -> Result<Reply, RequestFault>
     requires { length body.now ≤ longest_body }
-    ensures { HasReadReply result (reply_read body.now) }
+    ensures told { HasReadReply result (reply_read body.now) }
+    ensures spelled { IfOk result (λ r. SpellsReply r body.now) }
+    ensures none { IfErr result (λ fault. HasNoReply body.now fault) }
+    ensures wants { IfErr result (λ fault. MayWant body.now fault) }
 {
     match reply_left(alloc, body) {
         Ok(reply) => Ok(reply),

@@ -44,6 +44,20 @@ fn flag_byte(set: bool) -> u8
 }
 
 #[inline]
+#[tactic(auto, unfolding(crate::specs::Spelled::count_row))]
+fn count_row_bytes(row: &CountRow) -> [u8; 14]
+    ensures { result ≡ count_row row.now }
+{
+    let mut bytes = [0u8; 14];
+    let (bin, rest) = bytes.split_at_mut(4);
+    let (marks, count) = rest.split_at_mut(2);
+    bin.copy_from_slice(&row.bin.to_be_bytes());
+    marks.copy_from_slice(&[kind_byte(row.kind), flag_byte(row.excluded)]);
+    count.copy_from_slice(&row.count.to_be_bytes());
+    bytes
+}
+
+#[inline]
 #[tactic(auto, unfolding(crate::specs::Spelled::count_row), using(crate::proofs::Sizes::size_of_count_row))]
 fn append_count_row(out: &mut Vec<u8>, row: &CountRow)
     requires { vec_len out.old + 14 ≤ vec_capacity out.old }
@@ -51,11 +65,7 @@ fn append_count_row(out: &mut Vec<u8>, row: &CountRow)
     ensures items { out.new.items ≡ out.old.items ++ count_row row.now }
     ensures room { vec_capacity out.old ≤ vec_capacity out.new }
 {
-    let [a, b, c, d] = row.bin.to_be_bytes();
-    let [e, f, g, h, i, j, k, l] = row.count.to_be_bytes();
-    let kind = kind_byte(row.kind);
-    let excluded = flag_byte(row.excluded);
-    append(out, &[a, b, c, d, kind, excluded, e, f, g, h, i, j, k, l]);
+    append(out, &count_row_bytes(row));
 }
 
 #[tactic(auto, using(crate::proofs::Sizes::size_of_count_rows))]
@@ -277,7 +287,8 @@ fn body_size(body: &Body) -> usize
 
 fn append_counts(out: &mut Vec<u8>, total: u32, rows: &[CountRow])
     requires { vec_len out.old + (4 + length (flat_map count_row rows.now)) ≤ vec_capacity out.old }
-    ensures items { out.new.items ≡ out.old.items ++ (to_be_bytes w32 total ++ flat_map count_row rows.now) }
+    ensures items { out.new.items
+        ≡ out.old.items ++ (to_be_bytes w32 total ++ flat_map count_row rows.now) }
     ensures room { vec_capacity out.old ≤ vec_capacity out.new }
 {
     append(out, &total.to_be_bytes());
@@ -286,8 +297,10 @@ fn append_counts(out: &mut Vec<u8>, total: u32, rows: &[CountRow])
 
 fn append_tests(out: &mut Vec<u8>, total: u32, rows: &[HistoryNode])
     requires fit { AllByRecursion IsTestRow rows.now }
-    requires room { vec_len out.old + (4 + length (flat_map test_row rows.now)) ≤ vec_capacity out.old }
-    ensures items { out.new.items ≡ out.old.items ++ (to_be_bytes w32 total ++ flat_map test_row rows.now) }
+    requires room { vec_len out.old + (4 + length (flat_map test_row rows.now))
+        ≤ vec_capacity out.old }
+    ensures items { out.new.items
+        ≡ out.old.items ++ (to_be_bytes w32 total ++ flat_map test_row rows.now) }
     ensures room { vec_capacity out.old ≤ vec_capacity out.new }
 {
     append(out, &total.to_be_bytes());
@@ -296,7 +309,8 @@ fn append_tests(out: &mut Vec<u8>, total: u32, rows: &[HistoryNode])
 
 fn append_full(out: &mut Vec<u8>, which: Which, have: u64, want: u64)
     requires { vec_len out.old + 17 ≤ vec_capacity out.old }
-    ensures items { out.new.items ≡ out.old.items ++ (limit which ++ (to_be_bytes w64 have ++ to_be_bytes w64 want)) }
+    ensures items { out.new.items
+        ≡ out.old.items ++ (limit which ++ (to_be_bytes w64 have ++ to_be_bytes w64 want)) }
     ensures room { vec_capacity out.old ≤ vec_capacity out.new }
 {
     append(out, &[limit_byte(which)]);
@@ -357,7 +371,8 @@ fn append_body(out: &mut Vec<u8>, body: &Body)
 pub fn write_reply(reply: &Reply, out: &mut Vec<u8>)
     requires spelled { IsReply reply.now }
     requires short { length (reply_spelled reply.now) ≤ longest_body }
-    requires room { vec_len out.old + length (frame (reply_spelled reply.now)) ≤ vec_capacity out.old }
+    requires room { vec_len out.old + length (frame (reply_spelled reply.now))
+        ≤ vec_capacity out.old }
     ensures items { out.new.items ≡ out.old.items ++ frame (reply_spelled reply.now) }
     ensures room { vec_capacity out.old ≤ vec_capacity out.new }
 {

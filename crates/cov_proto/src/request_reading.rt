@@ -1,10 +1,11 @@
 //! Requests from their bodies.
 ghost use Rattle.std.specs.Prelude.{◌≡◌, ◌≤◌, length, IfOk, IfErr, Ok};
-ghost use Rattle.std.specs.Int.{w32, w64};
-ghost use Rattle.cov_proto.specs.declared.requests.Request.TheVariants.{Piece, Counts, TestCounts, Fetch};
+ghost use Rattle.cov_proto.specs.declared.requests.Request.TheVariants.{TestCounts};
 ghost use Rattle.cov_proto.specs.Frames.{longest_body};
 ghost use Rattle.cov_proto.specs.Given.{Gives, GivesOrLacks, Asks};
-ghost use Rattle.cov_proto.specs.Reading.{number_at, text_at, pair, only, before, any_bytes, path, made};
+ghost use Rattle.cov_proto.specs.Laws.{SpellsRequest, HasNoRequest};
+ghost use Rattle.cov_proto.specs.Reading.{path};
+ghost use Rattle.cov_proto.specs.Requests.{piece_at, counts_at, test_counts_at, fetch_at};
 ghost use Rattle.cov_proto.specs.Requests.{plain_at, request_at, request_left, request_read, HasRead};
 
 use crate::fault::{BadAt, Fault, place};
@@ -14,7 +15,7 @@ use cov_tree::Name;
 use std::alloc::Global;
 
 fn fetch(bytes: &[u8]) -> Result<Request, BadAt>
-    ensures { Gives (λ x. x) result (made (λ x. Fetch x.0 x.1) (only (pair (number_at w32) (number_at w64))) bytes.now) }
+    ensures { Gives (λ x. x) result (fetch_at bytes.now) }
 {
     let (place, rest) = u32_at(bytes)?;
     let offset = only_u64(rest)?;
@@ -63,7 +64,7 @@ fn plain_request(tag: u8, bytes: &[u8]) -> Result<Request, BadAt>
 }
 
 fn piece(alloc: Global, bytes: &[u8]) -> Result<Request, Fault>
-    ensures { Asks result (made (λ x. Piece x.0 x.1) (before (number_at w64) any_bytes) bytes.now) }
+    ensures { Asks result (piece_at bytes.now) }
 {
     let (offset, rest) = u64_at(bytes)?;
     let bytes = Name::of(alloc, rest)?;
@@ -71,7 +72,7 @@ fn piece(alloc: Global, bytes: &[u8]) -> Result<Request, Fault>
 }
 
 fn counts(alloc: Global, bytes: &[u8]) -> Result<Request, Fault>
-    ensures { Asks result (made (λ x. Counts x.0 x.1) (before (number_at w32) path) bytes.now) }
+    ensures { Asks result (counts_at bytes.now) }
 {
     let (first, rest) = u32_at(bytes)?;
     let path = path(rest)?;
@@ -94,7 +95,7 @@ fn test_counts_of(
 }
 
 fn test_counts(alloc: Global, bytes: &[u8]) -> Result<Request, Fault>
-    ensures { Asks result (made (λ x. TestCounts x.0 x.1.0 x.1.1) (before (number_at w32) (before (text_at 1 33) path)) bytes.now) }
+    ensures { Asks result (test_counts_at bytes.now) }
 {
     let (first, rest) = u32_at(bytes)?;
     let (id, rest) = text_at(1, 33, rest)?;
@@ -150,7 +151,9 @@ fn request_left(alloc: Global, body: &[u8]) -> Result<Request, Fault>
 /// too many. An unknown tag is at 0. Memory is taken for a path, an id or the bytes of a Piece, and each is copied once.
 pub fn read_request(alloc: Global, body: &[u8]) -> Result<Request, RequestFault>
     requires { length body.now ≤ longest_body }
-    ensures { HasRead result (request_read body.now) }
+    ensures told { HasRead result (request_read body.now) }
+    ensures spelled { IfOk result (λ r. SpellsRequest r body.now) }
+    ensures none { IfErr result (λ fault. HasNoRequest body.now fault) }
 {
     match request_left(alloc, body) {
         Ok(request) => Ok(request),

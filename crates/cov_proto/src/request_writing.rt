@@ -52,8 +52,10 @@ fn test_counts_size(id: &Name, path: &Name) -> usize
 
 fn append_test_counts(out: &mut Vec<u8>, first: u32, id: &Name, path: &Name)
     requires short { length id.now < 256 }
-    requires room { vec_len out.old + length (9 ∷ (to_be_bytes w32 first ++ (text id.now ++ path.now))) ≤ vec_capacity out.old }
-    ensures items { out.new.items ≡ out.old.items ++ (9 ∷ (to_be_bytes w32 first ++ (text id.now ++ path.now))) }
+    requires room { vec_len out.old
+        + length (9 ∷ (to_be_bytes w32 first ++ (text id.now ++ path.now))) ≤ vec_capacity out.old }
+    ensures items { out.new.items
+        ≡ out.old.items ++ (9 ∷ (to_be_bytes w32 first ++ (text id.now ++ path.now))) }
     ensures room { vec_capacity out.old ≤ vec_capacity out.new }
 {
     append_tagged(out, 0x09, &first.to_be_bytes());
@@ -116,7 +118,8 @@ fn append_request(out: &mut Vec<u8>, request: &Request)
 pub fn write_request(request: &Request, out: &mut Vec<u8>) -> Result<(), Memory>
     requires spelled { IsRequest request.now }
     requires short { length (request_spelled request.now) ≤ longest_body }
-    ensures written { OnOk result (out.new.items ≡ out.old.items ++ frame (request_spelled request.now)) }
+    ensures written { OnOk result
+        (out.new.items ≡ out.old.items ++ frame (request_spelled request.now)) }
     ensures kept { OnErr result (out.new.items ≡ out.old.items) }
 {
     let size = request_size(request);

@@ -12,6 +12,9 @@ use std::alloc::Global;
 use tally::Ranked;
 use ucis_model::{CountRow, CoverRow, HistoryKind, HistoryNode, Which};
 
+// How many kinds of bins there are.
+const KINDS: u8 = 4;
+
 #[inline]
 #[tactic(auto, unfolding(crate::specs::Reading::flag_at))]
 fn flag_at(bytes: &[u8]) -> Result<(bool, &[u8]), BadAt>
@@ -26,7 +29,7 @@ fn flag_at(bytes: &[u8]) -> Result<(bool, &[u8]), BadAt>
 fn kind_at(bytes: &[u8]) -> Result<(BinKind, &[u8]), BadAt>
     ensures { Gives (λ x. (x.0, x.1.now)) result (kind_at bytes.now) }
 {
-    let (number, rest) = u8_within(0, 4, bytes)?;
+    let (number, rest) = u8_within(0, KINDS, bytes)?;
     match number {
         0 => Ok((BinKind::CvgBin, rest)),
         1 => Ok((BinKind::IllegalBin, rest)),
@@ -185,7 +188,8 @@ fn push_row<'a, R: Rows>(
     bytes: &'a [u8],
     rows: &mut Vec<R::Row>,
 ) -> Result<&'a [u8], Fault>
-    ensures { GivesOrLacks (λ rest. (rows.new.items, rest.now)) result (appended rows.old.items (R.row_at reader.now bytes.now)) }
+    ensures { GivesOrLacks (λ rest. (rows.new.items, rest.now)) result
+        (appended rows.old.items (R.row_at reader.now bytes.now)) }
 {
     let (row, rest) = reader.row(alloc, bytes)?;
     rows.push(row)?;

@@ -1,5 +1,5 @@
 pub mod Causes
-pub mod Coverage
 pub mod Files
 pub mod Number
+pub mod Ranges
 pub mod Told

@@ -1,3 +1,3 @@
-//! Definitions that the contracts of all crates cite: causes of failures, what the outside tells, and when a bin
-//! is hit. It has no code.
+//! Definitions that the contracts of all crates cite: causes of failures, what the outside tells, how often a
+//! property holds, and when a number is in ranges. It has no code.
 #![tactic(auto)]

@@ -23,6 +23,3 @@ pub use list::List;
 pub use literal::Literal;
 pub use name::Name;
 pub use shared::Shared;
-
-#[cfg(test)]
-mod tests;

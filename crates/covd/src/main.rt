@@ -3,11 +3,13 @@
 
 mod ending;
 mod help;
+mod hints;
 
 use cov_net::{FileShelf, StdSink, StdSource};
 use covd_core::{Status, run};
 use ending::{ended, given};
 use help::early_text;
+use hints::print_hint;
 use std::process::ExitCode;
 use std::rt::Files;
 use std::thread::Threads;
@@ -23,14 +25,16 @@ fn words_of(rt: &HostRuntime) -> io::Result<Vec<String>> {
 }
 
 /// Does what the words say over the files of the system and the standard streams.
-fn run_words<R: Threads + Sync + Files + Input + Print + AllocGlobal>(
+fn run_words<R: Threads + Sync + Files + Input + Print + Eprint + AllocGlobal>(
     rt: &R,
     words: &[String],
 ) -> Status {
     let mut shelf = FileShelf::new(rt);
     let mut source = StdSource::new(rt.reader());
     let mut sink = StdSink::new(io::writer(rt));
-    run(rt, rt.alloc(), words, &mut shelf, &mut source, &mut sink)
+    let status = run(rt, rt.alloc(), words, &mut shelf, &mut source, &mut sink);
+    print_hint(rt, words, status);
+    status
 }
 
 fn main(rt: HostRuntime) -> ExitCode {

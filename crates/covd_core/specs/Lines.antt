@@ -129,7 +129,6 @@ fault_word kinds.WrongLevel = codes "WrongLevel"
 fault_word kinds.OutOfRange = codes "OutOfRange"
 fault_word kinds.SetTwice = codes "SetTwice"
 fault_word kinds.DesignLimit = codes "DesignLimit"
-fault_word kinds.NotBuiltYet = codes "NotBuiltYet"
 
 -- The line of a fault of a design text. Want of memory has no line.
 abbrev pub IsDesignFaultText : CompileFault → List ℕ → Type 0

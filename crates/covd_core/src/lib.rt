@@ -11,6 +11,8 @@ mod status;
 mod texts;
 mod writing;
 
+pub use cov_compile::{CompileFault, compile};
+pub use loading::{Refusal, refusal_of};
 pub use running::run;
 pub use status::Status;
 

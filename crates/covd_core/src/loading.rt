@@ -1,5 +1,6 @@
 //! Files, and designs from their files.
-ghost use Rattle.std.specs.Prelude.{◌≡◌, ◌≤◌, IfOk};
+ghost use Rattle.std.specs.Prelude.{◌≡◌, ◌≤◌, IfOk, IfSome, IfNone};
+ghost use Rattle.cov_compile.specs.Compiling.{is_memory};
 ghost use Rattle.covd_core.specs.Lines.{IsDesignFaultText, design_refused_text, fault_word};
 ghost use Rattle.covd_core.specs.declared.status.Status.TheVariants.{DesignRefused};
 ghost use Rattle.cov_compile.specs.declared.fault.CompileFault.TheVariants.{Lex, Parse, Elab};
@@ -54,40 +55,41 @@ pub(crate) fn load<F: Shelf>(
     }
 }
 
-fn refused(alloc: Global, kind: &str, at: u32) -> Result<Answer, Memory>
-    ensures { IfOk result (λ a. (a.status ≡ DesignRefused) × (a.text.items ≡ design_refused_text kind.now at)) }
-{
-    let text = design_refused(alloc, kind, at)?;
-    Ok(Answer {
-        status: Status::DesignRefused,
-        text,
-    })
+/// Why a design text is refused: the word of the kind of its fault, and the byte at which it stands.
+#[derive(Clone, Copy, Debug)]
+pub struct Refusal {
+    pub kind: &'static str,
+    pub at: u32,
 }
 
-// The answer to a text without tokens.
-fn unlexed(alloc: Global, fault: LexFault) -> Result<Answer, Memory>
-    ensures { IfOk result (λ a. (a.status ≡ DesignRefused) × IsDesignFaultText (Lex fault) a.text.items) }
+// Why a text has no tokens.
+fn unlexed(fault: LexFault) -> Option<Refusal>
+    ensures told { IfSome result (λ r. IsDesignFaultText (Lex fault) (design_refused_text r.kind.now r.at)) }
+    ensures memory { IfNone result (is_memory (Lex fault)) }
 {
-    match fault {
-        LexFault::BadByte { at } => refused(alloc, "BadByte", at),
-        LexFault::OpenComment { at } => refused(alloc, "OpenComment", at),
-        LexFault::OpenString { at } => refused(alloc, "OpenString", at),
-        LexFault::LiteralTooWide { at } => refused(alloc, "LiteralTooWide", at),
-        LexFault::NameTooLong { at } => refused(alloc, "NameTooLong", at),
-        LexFault::Memory => Err(Memory),
-    }
+    let (kind, at) = match fault {
+        LexFault::BadByte { at } => ("BadByte", at),
+        LexFault::OpenComment { at } => ("OpenComment", at),
+        LexFault::OpenString { at } => ("OpenString", at),
+        LexFault::LiteralTooWide { at } => ("LiteralTooWide", at),
+        LexFault::NameTooLong { at } => ("NameTooLong", at),
+        LexFault::Memory => return None,
+    };
+    Some(Refusal { kind, at })
 }
 
-// The answer to tokens without a syntax tree.
-fn unparsed(alloc: Global, fault: ParseFault) -> Result<Answer, Memory>
-    ensures { IfOk result (λ a. (a.status ≡ DesignRefused) × IsDesignFaultText (Parse fault) a.text.items) }
+// Why tokens have no syntax tree.
+fn unparsed(fault: ParseFault) -> Option<Refusal>
+    ensures told { IfSome result (λ r. IsDesignFaultText (Parse fault) (design_refused_text r.kind.now r.at)) }
+    ensures memory { IfNone result (is_memory (Parse fault)) }
 {
-    match fault {
-        ParseFault::Syntax { at } => refused(alloc, "Syntax", at),
-        ParseFault::NotSupported { at } => refused(alloc, "NotSupported", at),
-        ParseFault::TooDeep { at } => refused(alloc, "TooDeep", at),
-        ParseFault::Memory => Err(Memory),
-    }
+    let (kind, at) = match fault {
+        ParseFault::Syntax { at } => ("Syntax", at),
+        ParseFault::NotSupported { at } => ("NotSupported", at),
+        ParseFault::TooDeep { at } => ("TooDeep", at),
+        ParseFault::Memory => return None,
+    };
+    Some(Refusal { kind, at })
 }
 
 // The word of a kind of faults.
@@ -127,17 +129,32 @@ fn kind_name(kind: ElabKind) -> &'static str
         ElabKind::OutOfRange => "OutOfRange",
         ElabKind::SetTwice => "SetTwice",
         ElabKind::DesignLimit => "DesignLimit",
-        ElabKind::NotBuiltYet => "NotBuiltYet",
     }
 }
 
-// The answer to declarations that make no design.
-fn unelaborated(alloc: Global, fault: ElabFault) -> Result<Answer, Memory>
-    ensures { IfOk result (λ a. (a.status ≡ DesignRefused) × IsDesignFaultText (Elab fault) a.text.items) }
+// Why declarations make no design.
+fn unelaborated(fault: ElabFault) -> Option<Refusal>
+    ensures told { IfSome result (λ r. IsDesignFaultText (Elab fault) (design_refused_text r.kind.now r.at)) }
+    ensures memory { IfNone result (is_memory (Elab fault)) }
 {
     match fault {
-        ElabFault::Fault { kind, at } => refused(alloc, kind_name(kind), at),
-        ElabFault::Memory => Err(Memory),
+        ElabFault::Fault { kind, at } => Some(Refusal {
+            kind: kind_name(kind),
+            at,
+        }),
+        ElabFault::Memory => None,
+    }
+}
+
+/// The refusal that is printed for a fault of a design text; none for want of memory.
+pub fn refusal_of(fault: CompileFault) -> Option<Refusal>
+    ensures told { IfSome result (λ r. IsDesignFaultText fault (design_refused_text r.kind.now r.at)) }
+    ensures memory { IfNone result (is_memory fault) }
+{
+    match fault {
+        CompileFault::Lex(fault) => unlexed(fault),
+        CompileFault::Parse(fault) => unparsed(fault),
+        CompileFault::Elab(fault) => unelaborated(fault),
     }
 }
 
@@ -145,10 +162,15 @@ fn unelaborated(alloc: Global, fault: ElabFault) -> Result<Answer, Memory>
 fn uncompiled(alloc: Global, fault: CompileFault) -> Result<Answer, Memory>
     ensures { IfOk result (λ a. (a.status ≡ DesignRefused) × IsDesignFaultText fault a.text.items) }
 {
-    match fault {
-        CompileFault::Lex(fault) => unlexed(alloc, fault),
-        CompileFault::Parse(fault) => unparsed(alloc, fault),
-        CompileFault::Elab(fault) => unelaborated(alloc, fault),
+    match refusal_of(fault) {
+        None => Err(Memory),
+        Some(refusal) => {
+            let text = design_refused(alloc, refusal.kind, refusal.at)?;
+            Ok(Answer {
+                status: Status::DesignRefused,
+                text,
+            })
+        }
     }
 }
 

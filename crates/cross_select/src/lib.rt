@@ -6,6 +6,3 @@ mod select;
 
 pub use products::count_products;
 pub use select::{Select, selects};
-
-#[cfg(test)]
-mod tests;

@@ -74,8 +74,6 @@ pub enum ElabKind {
     SetTwice,
     /// The design has more signals, instances, items, bins or intervals than it may have.
     DesignLimit,
-    /// The declaration holds what isn't built yet.
-    NotBuiltYet,
 }
 
 /// The first fault of a design on the walk through it, at a place of its text, or want of memory.

@@ -169,10 +169,9 @@ fn keep_left(
     ensures picked { OnOk result ((meant : List ℕ → Bool) → Marks sizes.now meant picked.old
         → Marks sizes.now (λ product. meant product || picks product made.bin.rule) picked.new) }
 {
-    let mut bits = picked_by(alloc, sizes, count, &made.bin.rule)?;
+    let bits = picked_by(alloc, sizes, count, &made.bin.rule)?;
     picked.unite(&bits);
-    bits.meet(free);
-    keep_if(bits.has_some(count), made, kept)
+    keep_if(bits.shares(free, count), made, kept)
 }
 
 /// Keeps the bins that have something left, and answers which products they all select.

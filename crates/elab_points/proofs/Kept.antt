@@ -28,7 +28,9 @@ use Rattle.elab_values.specs.declared.elements.Listed.{Listed}
 use Rattle.elab_values.specs.declared.made.Made.{Made}
 use Rattle.elab_values.specs.declared.made.PointBins.{PointBins}
 use Rattle.elab_values.specs.declared.made.Settings.{Settings}
-use Rattle.elab_values.specs.Listed.{numbers_listed}
+use Rattle.design_data.specs.declared.infos.BinRule.{BinRule}
+use Rattle.elab_points.specs.declared.made.Manner.{Manner}
+use Rattle.elab_points.specs.Wildcards.{manner_of, is_kept, patterns_in, pattern_rule, numbers_in}
 use Rattle.elab_transitions.specs.Bins.{trans_bins_of, default_bin_of}
 use Rattle.elab_transitions.specs.Removal.{is_trans_left}
 use Rattle.elab_points.specs.declared.declared.Entry.{Entry}
@@ -40,7 +42,7 @@ use Rattle.elab_points.specs.declared.made.Plan.TheVariants as plans
 use Rattle.elab_points.specs.declared.made.Wanted.{Wanted}
 use Rattle.elab_points.specs.declared.made.Wanted.TheVariants as wants
 use Rattle.elab_points.specs.Automatic.{automatic, declares_coverage, automatic_added, automatic_binned, with_automatic}
-use Rattle.elab_points.specs.Declarations.{kind_of, default_kind, elements_in, entered, head_of, bins_added, values_binned, elements_binned, values_declared, one_added, rest_added, default_added, default_sized, default_declared, declared_by, bins_declared, no_bins, bins_walked}
+use Rattle.elab_points.specs.Declarations.{kind_of, default_kind, elements_in, entered, head_of, bins_added, values_binned, listed_binned, elements_binned, values_declared, one_added, rest_added, rule_added, default_sized, default_declared, declared_by, bins_declared, no_bins, bins_walked}
 use Rattle.elab_points.specs.Filter.{passes, keep_of, filter_in, kept_numbers}
 use Rattle.elab_points.specs.Left.{bin_left, has_some, some_of, left_of, bins_left, left_by, point_left, walked_left, bins_of_point}
 use Rattle.elab_points.specs.Transitions.{before, seqs_kept, trans_listed, trans_added, trans_declared, made_added, default_sequence_declared, in_array, transitions_left}
@@ -51,7 +53,7 @@ use Rattle.elab_points.specs.Rest.{unlisted, rest_bin, all_bins, entry_counted, 
 
 -- ---- how many bins a declaration makes
 
-length-map : {A B : Type 0} (f : A → B) (xs : List A) → length (map f xs) ≡ length xs
+pub length-map : {A B : Type 0} (f : A → B) (xs : List A) → length (map f xs) ≡ length xs
 length-map f [] = refl
 length-map f (x ∷ xs) = ap (λ (n : ℕ). suc n) (length-map f xs)
 
@@ -67,7 +69,7 @@ length-part_bins : (head : Head) (j : ℕ) (sets : List (List (ℤ × ℤ))) →
 length-part_bins head j [] = refl
 length-part_bins head j (set ∷ sets) = ap (λ (n : ℕ). suc n) (length-part_bins head (j + 1) sets)
 
-length-parts_kept : (distribute : Bool) (keep : Option Term) (n : ℕ) (numbers kept : List ℤ) → length (parts_kept distribute keep n numbers kept) ≡ n
+pub length-parts_kept : (distribute : Bool) (keep : Option Term) (n : ℕ) (numbers kept : List ℤ) → length (parts_kept distribute keep n numbers kept) ≡ n
 length-parts_kept distribute None n numbers kept = length-parts kept n
 length-parts_kept true (Some term) n numbers kept = length-map (filter (passes term)) (parts numbers n) ∙ length-parts numbers n
 length-parts_kept false (Some term) n numbers kept = length-parts kept n
@@ -127,20 +129,11 @@ added_counted head count bins kept w many room h =
 values_counted : (domain : Domain) (distribute : Bool) (keep : Option Term) (wanted : Wanted) (elements : List Listed) (head : Head) (w t : Walked) → values_binned domain distribute keep wanted elements head w ≡ Ok t → AreCounted w → AreCounted t
 unfolding values_binned
 values_counted domain distribute keep wanted elements head w t e h =
-    let n = bind_ok (numbers_listed domain elements head.at) _ t e in
+    let n = bind_ok (numbers_in domain keep elements head.at) _ t e in
     let k = bind_ok (kept_numbers keep n.0 head.at) _ t n.2 in
     let p = bind_ok (planned w.count wanted k.0 head.at) _ t k.2 in
     let many = length-made distribute keep p.0 head n.0 k.0 in
     subst AreCounted (ok_is _ t p.2) (added_counted head (plan_bins p.0) (bins_made distribute keep p.0 head n.0 k.0) k.0 w many (plan_fits w.count wanted k.0 head.at p.0 p.1) h)
-
-declared_values : (levels : Levels) (domain : Domain) (distribute : Bool) (b : BinsDecl) (w t : Walked) → values_declared levels domain distribute b w ≡ Ok t → AreCounted w → AreCounted t
-unfolding values_declared elements_binned
-declared_values levels domain distribute b w t e h =
-    let s = bind_ok (elements_in levels domain b.wildcard b.right) _ t e in
-    let k = bind_ok (filter_in levels domain.typ (keep_of b.right)) _ t s.2 in
-    let a = bind_ok (wanted_in levels b.size b.at) _ t k.2 in
-    let g = bind_ok (guard_in levels b.guard) _ t a.2 in
-    values_counted domain distribute k.0 a.0 s.0 (head_of b (kind_of b.word) g.0 w) w t g.2 h
 
 made_counted : (name : List ℕ) (made : Made) (w : Walked) → w.count + 1 ≤ most_bins → AreCounted w → AreCounted (made_added name made w)
 made_counted name made w room h =
@@ -148,12 +141,29 @@ made_counted name made w room h =
     let both = among-append w.entries (Bin made ∷ []) in
     record { few = room; is = omega (arith, was, both) }
 
-one_counted : (head : Head) (w t : Walked) → default_added head w ≡ Ok t → AreCounted w → AreCounted t
-unfolding default_added one_added
-one_counted head w t e h =
+one_counted : (head : Head) (rule : BinRule) (w t : Walked) → rule_added head rule w ≡ Ok t → AreCounted w → AreCounted t
+unfolding rule_added one_added
+one_counted head rule w t e h =
     let n = bind_ok (needs (nat_le (w.count + 1) most_bins) kind.TooManyBins head.at) _ t e in
     let fits = needs_ok (nat_le (w.count + 1) most_bins) kind.TooManyBins head.at n.0 n.1 in
-    subst AreCounted (ok_is _ t n.2) (made_counted head.name (named_bin head head.name Default) w (grind (arith, fits)) h)
+    subst AreCounted (ok_is _ t n.2) (made_counted head.name (named_bin head head.name rule) w (grind (arith, fits)) h)
+
+listed_counted : (domain : Domain) (manner : Manner) (keep : Option Term) (wanted : Wanted) (elements : List Listed) (head : Head) (w t : Walked) → listed_binned domain manner keep wanted elements head w ≡ Ok t → AreCounted w → AreCounted t
+unfolding listed_binned
+listed_counted domain manner keep wanted elements head w t e h = by (is_kept manner.patterns head.kind keep wanted elements) e
+  where
+    by : (b : Bool) → (if b then rule_added head (pattern_rule domain (patterns_in elements)) w else values_binned domain manner.distribute keep wanted elements head w) ≡ Ok t → AreCounted t
+    by true e = one_counted head (pattern_rule domain (patterns_in elements)) w t e h
+    by false e = values_counted domain manner.distribute keep wanted elements head w t e h
+
+declared_values : (levels : Levels) (domain : Domain) (manner : Manner) (b : BinsDecl) (w t : Walked) → values_declared levels domain manner b w ≡ Ok t → AreCounted w → AreCounted t
+unfolding values_declared elements_binned
+declared_values levels domain manner b w t e h =
+    let s = bind_ok (elements_in levels domain b.wildcard b.right) _ t e in
+    let k = bind_ok (filter_in levels domain.typ (keep_of b.right)) _ t s.2 in
+    let a = bind_ok (wanted_in levels b.size b.at) _ t k.2 in
+    let g = bind_ok (guard_in levels b.guard) _ t a.2 in
+    listed_counted domain manner k.0 a.0 s.0 (head_of b (kind_of b.word) g.0 w) w t g.2 h
 
 rest_counted : (head : Head) (w : Walked) → AreCounted w → AreCounted (rest_added head w)
 unfolding rest_added
@@ -164,8 +174,8 @@ rest_counted head w h =
 
 sized_counted : (size : Size) (head : Head) (w t : Walked) → default_sized size head w ≡ Ok t → AreCounted w → AreCounted t
 sized_counted sizes.Open head w t e h = subst AreCounted (ok_is (rest_added head w) t e) (rest_counted head w h)
-sized_counted sizes.Scalar head w t e h = one_counted head w t e h
-sized_counted (sizes.Fixed bins) head w t e h = one_counted head w t e h
+sized_counted sizes.Scalar head w t e h = one_counted head Default w t e h
+sized_counted (sizes.Fixed bins) head w t e h = one_counted head Default w t e h
 
 declared_default : (levels : Levels) (b : BinsDecl) (w t : Walked) → default_declared levels b w ≡ Ok t → AreCounted w → AreCounted t
 unfolding default_declared
@@ -196,26 +206,26 @@ declared_default_sequence levels b w t e h =
     let m = bind_ok (default_bin_of levels b (before w)) _ t e in
     subst AreCounted (ok_is _ t m.2) (made_counted b.name m.0 w (default_room levels b (before w) m.0 m.1) h)
 
-right_counted : (levels : Levels) (domain : Domain) (distribute : Bool) (b : BinsDecl) (right : Right) (w t : Walked) → declared_by levels domain distribute b w right ≡ Ok t → AreCounted w → AreCounted t
-right_counted levels domain distribute b (rights.Ranges elems keep) w t e h = declared_values levels domain distribute b w t e h
-right_counted levels domain distribute b (rights.Whole name keep) w t e h = declared_values levels domain distribute b w t e h
-right_counted levels domain distribute b (rights.Trans seqs) w t e h = declared_trans levels domain b seqs w t e h
-right_counted levels domain distribute b rights.Default w t e h = declared_default levels b w t e h
-right_counted levels domain distribute b rights.DefaultSequence w t e h = declared_default_sequence levels b w t e h
+right_counted : (levels : Levels) (domain : Domain) (manner : Manner) (b : BinsDecl) (right : Right) (w t : Walked) → declared_by levels domain manner b w right ≡ Ok t → AreCounted w → AreCounted t
+right_counted levels domain manner b (rights.Ranges elems keep) w t e h = declared_values levels domain manner b w t e h
+right_counted levels domain manner b (rights.Whole name keep) w t e h = declared_values levels domain manner b w t e h
+right_counted levels domain manner b (rights.Trans seqs) w t e h = declared_trans levels domain b seqs w t e h
+right_counted levels domain manner b rights.Default w t e h = declared_default levels b w t e h
+right_counted levels domain manner b rights.DefaultSequence w t e h = declared_default_sequence levels b w t e h
 
-declared_counted : (levels : Levels) (domain : Domain) (name : List ℕ) (distribute : Bool) (b : BinsDecl) (w t : Walked) → bins_declared levels domain name distribute b w ≡ Ok t → AreCounted w → AreCounted t
+declared_counted : (levels : Levels) (domain : Domain) (name : List ℕ) (manner : Manner) (b : BinsDecl) (w t : Walked) → bins_declared levels domain name manner b w ≡ Ok t → AreCounted w → AreCounted t
 unfolding bins_declared
-declared_counted levels domain name distribute b w t e h =
+declared_counted levels domain name manner b w t e h =
     let a = bind_ok (entered name b w) _ t e in
-    right_counted levels domain distribute b b.right w t a.2 h
+    right_counted levels domain manner b b.right w t a.2 h
 
 begins_counted : AreCounted no_bins
 begins_counted = record { few = omega arith; is = refl }
 
-walked_counted : (levels : Levels) (domain : Domain) (name : List ℕ) (distribute : Bool) (bs : List BinsDecl) (w : Walked) → bins_walked levels domain name distribute bs ≡ Ok w → AreCounted w
+walked_counted : (levels : Levels) (domain : Domain) (name : List ℕ) (manner : Manner) (bs : List BinsDecl) (w : Walked) → bins_walked levels domain name manner bs ≡ Ok w → AreCounted w
 unfolding bins_walked
-walked_counted levels domain name distribute bs w e =
-    each_keeps (λ k. bins_declared levels domain name distribute) AreCounted (λ k b s t e h. declared_counted levels domain name distribute b s t e h) 0 bs no_bins w e begins_counted
+walked_counted levels domain name manner bs w e =
+    each_keeps (λ k. bins_declared levels domain name manner) AreCounted (λ k b s t e h. declared_counted levels domain name manner b s t e h) 0 bs no_bins w e begins_counted
 
 -- ---- automatic bins
 
@@ -378,14 +388,14 @@ record IsWalked (levels : Levels) (domain : Domain) (name : List ℕ) (settings 
 point_walked : (levels : Levels) (domain : Domain) (name : List ℕ) (settings : Settings) (bs : List BinsDecl) (at : ℕ) (found : PointBins) → bins_of_point levels domain name settings bs at ≡ Ok found → IsWalked levels domain name settings bs found
 unfolding bins_of_point walked_left
 point_walked levels domain name settings bs at found e =
-    let d = bind_ok (bins_walked levels domain name settings.distribute_first bs) _ found e in
+    let d = bind_ok (bins_walked levels domain name (manner_of domain settings bs) bs) _ found e in
     let w = bind_ok (with_automatic domain settings bs at d.0) _ found d.2 in
     let all = bind_ok (all_filled domain w.0.listed w.0.entries w.0.count) _ found w.2 in
     record {
       w = w.0;
       bins = all.0;
-      counted = undeclared_counted domain settings bs at d.0 w.0 w.1 (walked_counted levels domain name settings.distribute_first bs d.0 d.1);
-      known = undeclared_known bs domain settings at d.0 w.0 w.1 (walked_known levels domain name settings.distribute_first bs d.0 d.1);
+      counted = undeclared_counted domain settings bs at d.0 w.0 w.1 (walked_counted levels domain name (manner_of domain settings bs) bs d.0 d.1);
+      known = undeclared_known bs domain settings at d.0 w.0 w.1 (walked_known levels domain name (manner_of domain settings bs) bs d.0 d.1);
       filled = all.1;
       is = ok_is (point_left bs w.0 all.0) found all.2;
     }

@@ -1,3 +1,4 @@
+pub mod Literals
 pub mod Filters
 pub mod Singles
 pub mod Removal
@@ -5,3 +6,8 @@ pub mod Rooms
 pub mod Sequences
 pub mod Kept
 pub mod Tracked
+pub mod Distinct
+pub mod Named
+pub mod Cuts
+pub mod Clean
+pub mod Exact

@@ -1,5 +1,5 @@
 -- A point has room for the bins that a declaration makes.
-use Rattle.std.proofs.Common.{◌≡◌, ℕ, ◌+◌, ◌≤◌, List, length, arith, Ok}
+use Rattle.std.proofs.Common.{◌≡◌, ◌+◌, ◌≤◌, List, length, arith, Ok}
 use Rattle.std.specs.Prelude.{nat_le}
 use Rattle.cov_ground.specs.Limits.{most_bins}
 use Rattle.cov_tree.specs.declared.bins.BinsDecl.{BinsDecl}

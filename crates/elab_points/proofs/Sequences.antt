@@ -1,6 +1,6 @@
 -- What is known of a point's sequences: those that take windows away have 120 cells at most together, and so has each bin
 -- of transitions, which has a sequence left.
-use Rattle.std.proofs.Common.{◌≡◌, ◌∙◌, ℕ, suc, zero, ◌+◌, ◌≤◌, ℤ, List, [], ◌∷◌, ◌++◌, length, map, filter, refl, sym, ap, subst, Bool, true, false, arith, Option, Some, None, Result, Ok, Err, slice_get}
+use Rattle.std.proofs.Common.{◌≡◌, ◌∙◌, ℕ, ◌+◌, ◌≤◌, ℤ, List, [], ◌∷◌, ◌++◌, length, map, refl, sym, ap, subst, Bool, true, false, arith, Option, Some, None, Ok, slice_get}
 use Rattle.std.specs.Prelude.{nat_le, Contains, if◌then◌else◌}
 use Rattle.std.specs.Option.{option_map_or}
 use Rattle.std.specs.List.{AllByRecursion, list_any}
@@ -19,13 +19,12 @@ use Rattle.const_eval.specs.declared.typs.Typ.{Typ}
 use Rattle.const_eval.specs.Terms.{Term}
 use Rattle.const_eval.specs.Scopes.{Levels}
 use Rattle.trans_seq.specs.declared.seq.Seq.{Seq}
-use Rattle.trans_seq.specs.Cells.{cells_of_items, cells_of_seqs}
+use Rattle.trans_seq.specs.Cells.{cells_of_seqs}
 use Rattle.trans_seq.specs.Lists.{listed_by_all}
 use Rattle.trans_seq.proofs.Members.{first_in, later_in}
 use Rattle.auto_bins.specs.Automatic.{automatic_ranges}
 use Rattle.design_data.specs.Bins.{seqs_of}
 use Rattle.design_data.specs.Left.{has_seq_left}
-use Rattle.design_data.specs.declared.infos.BinInfo.{BinInfo}
 use Rattle.design_data.specs.declared.infos.BinKind.{BinKind}
 use Rattle.design_data.specs.declared.infos.BinKind.TheVariants.{CvgBin, IllegalBin, IgnoreBin, DefaultBin}
 use Rattle.design_data.specs.declared.infos.BinRule.{BinRule}
@@ -39,7 +38,11 @@ use Rattle.elab_values.specs.declared.domain.Domain.{Domain}
 use Rattle.elab_values.specs.declared.elements.Listed.{Listed}
 use Rattle.elab_values.specs.declared.made.Made.{Made}
 use Rattle.elab_values.specs.declared.made.Settings.{Settings}
-use Rattle.elab_values.specs.Listed.{numbers_listed}
+use Rattle.design_data.specs.Limits.{HasWidth}
+use Rattle.elab_values.specs.Listed.{IsListed}
+use Rattle.elab_points.specs.declared.made.Manner.{Manner}
+use Rattle.elab_points.specs.Wildcards.{is_kept, patterns_in, has_number, pattern_rule, numbers_in}
+use Rattle.elab_points.proofs.Literals.{widths_in, some_first, elements_listed}
 use Rattle.elab_transitions.specs.declared.plans.Before.{Before}
 use Rattle.elab_transitions.specs.declared.bins.TransBins.{TransBins}
 use Rattle.elab_transitions.specs.Bins.{is_array, list_bin, made_bin, default_bin_of, trans_bins_of, removed_by}
@@ -55,20 +58,20 @@ use Rattle.elab_points.specs.declared.made.Plan.{Plan}
 use Rattle.elab_points.specs.declared.made.Wanted.{Wanted}
 use Rattle.elab_points.specs.declared.made.Plan.TheVariants as plans
 use Rattle.elab_points.specs.Automatic.{auto_head, auto_bin, constant_bin, automatic_by, automatic, declares_coverage, automatic_added, automatic_binned, with_automatic}
-use Rattle.elab_points.specs.Declarations.{kind_of, default_kind, elements_in, entered, head_of, bins_added, values_binned, elements_binned, values_declared, one_added, rest_added, default_added, default_sized, default_declared, declared_by, bins_declared, no_bins, bins_walked}
+use Rattle.elab_points.specs.Declarations.{kind_of, default_kind, elements_in, entered, head_of, bins_added, values_binned, listed_binned, elements_binned, values_declared, one_added, rest_added, rule_added, default_sized, default_declared, declared_by, bins_declared, no_bins, bins_walked}
 use Rattle.elab_points.specs.Filter.{keep_of, filter_in, kept_numbers}
 use Rattle.elab_points.specs.Left.{rule_left, kind_left, bin_left, has_some, some_of, left_of, bins_left, left_by}
-use Rattle.elab_points.specs.Made.{wanted_in, planned, plan_bins, named_bin, single, part_bins, parts_kept, bins_made}
-use Rattle.elab_points.specs.Rest.{rest_bin, entry_bins, all_bins}
+use Rattle.elab_points.specs.Made.{wanted_in, planned, named_bin, single, part_bins, parts_kept, bins_made}
+use Rattle.elab_points.specs.Rest.{rest_bin, all_bins}
 use Rattle.elab_points.specs.Transitions.{before, seqs_kept, trans_listed, trans_added, trans_declared, made_added, default_sequence_declared, in_array, transitions_left}
 
 -- ---- one bin
 
--- a bin of a point, which is of values, of transitions or a default bin: one of transitions has 120 cells at most, and has
--- a sequence left wherever the test of its declaration leaves it
+-- a bin of a point, which is of values, of patterns, of transitions or a default bin: one of patterns has some of them,
+-- and one of transitions has 120 cells at most, and a sequence left wherever the test of its declaration leaves it
 abbrev pub IsKnown : (array : Bool) → BinKind → BinRule → Type 0
 IsKnown array kind (Values set) = Unit {0}
-IsKnown array kind (Patterns patterns) = ⊥
+IsKnown array kind (Patterns patterns) = (1 ≤ length patterns) × AllByRecursion (λ pattern. HasWidth pattern.width) patterns
 IsKnown array kind (Trans seqs) = (cells_of_seqs seqs ≤ most_cells)
     × ((ignored illegal : List Seq) → list_any (is_seq_left array (removing_of kind ignored illegal)) seqs ≡ true → has_seq_left (removing_of kind ignored illegal) seqs ≡ true)
 IsKnown array kind Default = Unit {0}
@@ -165,7 +168,7 @@ pub record IsNext (bs : List BinsDecl) (w t : Walked) : Type 0 where
 values_next : (bs : List BinsDecl) (domain : Domain) (distribute : Bool) (keep : Option Term) (wanted : Wanted) (elements : List Listed) (head : Head) (w t : Walked) → values_binned domain distribute keep wanted elements head w ≡ Ok t → AreKnown bs w → IsNext bs w t
 unfolding values_binned bins_added
 values_next bs domain distribute keep wanted elements head w t e h =
-    let n = bind_ok (numbers_listed domain elements head.at) _ t e in
+    let n = bind_ok (numbers_in domain keep elements head.at) _ t e in
     let k = bind_ok (kept_numbers keep n.0 head.at) _ t n.2 in
     let p = bind_ok (planned w.count wanted k.0 head.at) _ t k.2 in
     let bins = bins_made distribute keep p.0 head n.0 k.0 in
@@ -175,26 +178,41 @@ values_next bs domain distribute keep wanted elements head w t e h =
       names = omega (arith, count);
     })
 
-declared_values : (bs : List BinsDecl) (levels : Levels) (domain : Domain) (distribute : Bool) (b : BinsDecl) (w t : Walked) → values_declared levels domain distribute b w ≡ Ok t → AreKnown bs w → IsNext bs w t
-unfolding values_declared elements_binned
-declared_values bs levels domain distribute b w t e h =
-    let s = bind_ok (elements_in levels domain b.wildcard b.right) _ t e in
-    let k = bind_ok (filter_in levels domain.typ (keep_of b.right)) _ t s.2 in
-    let a = bind_ok (wanted_in levels b.size b.at) _ t k.2 in
-    let g = bind_ok (guard_in levels b.guard) _ t a.2 in
-    values_next bs domain distribute k.0 a.0 s.0 (head_of b (kind_of b.word) g.0 w) w t g.2 h
-
 -- a bin that has no sequences
 made_next : (bs : List BinsDecl) (name : List ℕ) (made : Made) (w : Walked) → KnownMade bs made → AreKnown bs w → IsNext bs w (made_added name made w)
 made_next bs name made w one h =
     let count = length_push w.names name in
     record { known = record { entries = all_push (KnownEntry bs) w.entries (Bin made) h.entries one; removing = h.removing; short = h.short }; names = omega (arith, count) }
 
-one_next : (bs : List BinsDecl) (head : Head) (w t : Walked) → default_added head w ≡ Ok t → AreKnown bs w → IsNext bs w t
-unfolding default_added one_added
-one_next bs head w t e h =
+one_next : (bs : List BinsDecl) (head : Head) (rule : BinRule) (w t : Walked) → IsKnown (in_array bs head.declared) head.kind rule → rule_added head rule w ≡ Ok t → AreKnown bs w → IsNext bs w t
+unfolding rule_added one_added
+one_next bs head rule w t known e h =
     let n = bind_ok (needs (nat_le (w.count + 1) most_bins) kind.TooManyBins head.at) _ t e in
-    subst (IsNext bs w) (ok_is _ t n.2) (made_next bs head.name (named_bin head head.name Default) w tt h)
+    subst (IsNext bs w) (ok_is _ t n.2) (made_next bs head.name (named_bin head head.name rule) w known h)
+
+pattern_known : (array : Bool) (bin_kind : BinKind) (domain : Domain) (elements : List Listed) → AllByRecursion IsListed elements → IsKnown array bin_kind (pattern_rule domain (patterns_in elements))
+pattern_known array bin_kind domain elements listed = by (list_any (has_number domain) (patterns_in elements)) refl
+  where
+    by : (b : Bool) → list_any (has_number domain) (patterns_in elements) ≡ b → IsKnown array bin_kind (if b then Patterns (patterns_in elements) else Values [])
+    by true e = (some_first (has_number domain) (patterns_in elements) e, widths_in elements (patterns_in elements) listed refl)
+    by false e = tt
+
+listed_next : (bs : List BinsDecl) (domain : Domain) (manner : Manner) (keep : Option Term) (wanted : Wanted) (elements : List Listed) (head : Head) (w t : Walked) → AllByRecursion IsListed elements → listed_binned domain manner keep wanted elements head w ≡ Ok t → AreKnown bs w → IsNext bs w t
+unfolding listed_binned
+listed_next bs domain manner keep wanted elements head w t listed e h = by (is_kept manner.patterns head.kind keep wanted elements) e
+  where
+    by : (b : Bool) → (if b then rule_added head (pattern_rule domain (patterns_in elements)) w else values_binned domain manner.distribute keep wanted elements head w) ≡ Ok t → IsNext bs w t
+    by true e = one_next bs head (pattern_rule domain (patterns_in elements)) w t (pattern_known (in_array bs head.declared) head.kind domain elements listed) e h
+    by false e = values_next bs domain manner.distribute keep wanted elements head w t e h
+
+declared_values : (bs : List BinsDecl) (levels : Levels) (domain : Domain) (manner : Manner) (b : BinsDecl) (w t : Walked) → values_declared levels domain manner b w ≡ Ok t → AreKnown bs w → IsNext bs w t
+unfolding values_declared elements_binned
+declared_values bs levels domain manner b w t e h =
+    let s = bind_ok (elements_in levels domain b.wildcard b.right) _ t e in
+    let k = bind_ok (filter_in levels domain.typ (keep_of b.right)) _ t s.2 in
+    let a = bind_ok (wanted_in levels b.size b.at) _ t k.2 in
+    let g = bind_ok (guard_in levels b.guard) _ t a.2 in
+    listed_next bs domain manner k.0 a.0 s.0 (head_of b (kind_of b.word) g.0 w) w t (elements_listed levels domain b.wildcard b.right s.0 s.1) g.2 h
 
 rest_next : (bs : List BinsDecl) (head : Head) (w : Walked) → AreKnown bs w → IsNext bs w (rest_added head w)
 unfolding rest_added
@@ -204,8 +222,8 @@ rest_next bs head w h =
 
 sized_next : (bs : List BinsDecl) (size : Size) (head : Head) (w t : Walked) → default_sized size head w ≡ Ok t → AreKnown bs w → IsNext bs w t
 sized_next bs sizes.Open head w t e h = subst (IsNext bs w) (ok_is (rest_added head w) t e) (rest_next bs head w h)
-sized_next bs sizes.Scalar head w t e h = one_next bs head w t e h
-sized_next bs (sizes.Fixed bins) head w t e h = one_next bs head w t e h
+sized_next bs sizes.Scalar head w t e h = one_next bs head Default w t tt e h
+sized_next bs (sizes.Fixed bins) head w t e h = one_next bs head Default w t tt e h
 
 declared_default : (bs : List BinsDecl) (levels : Levels) (b : BinsDecl) (w t : Walked) → default_declared levels b w ≡ Ok t → AreKnown bs w → IsNext bs w t
 unfolding default_declared
@@ -258,18 +276,18 @@ trans_next bs levels domain b sequences w t e is h =
     let sum = kept_cells b.word of.seqs m.0.removed w.removing listed of.removed within.removing h.removing in
     subst (IsNext bs w) (ok_is _ t m.2) (kept_next bs b.word m.0.removed w listed (all_append (KnownEntry bs) w.entries (map Bin m.0.bins) h.entries new) sum within.removing_short (omega (arith, count)))
 
-right_next : (bs : List BinsDecl) (levels : Levels) (domain : Domain) (distribute : Bool) (b : BinsDecl) (right : Right) (w t : Walked) → declared_by levels domain distribute b w right ≡ Ok t → in_array bs (Some (length w.names)) ≡ is_array b.size → AreKnown bs w → IsNext bs w t
-right_next bs levels domain distribute b (rights.Ranges elems keep) w t e is h = declared_values bs levels domain distribute b w t e h
-right_next bs levels domain distribute b (rights.Whole name keep) w t e is h = declared_values bs levels domain distribute b w t e h
-right_next bs levels domain distribute b (rights.Trans seqs) w t e is h = trans_next bs levels domain b seqs w t e is h
-right_next bs levels domain distribute b rights.Default w t e is h = declared_default bs levels b w t e h
-right_next bs levels domain distribute b rights.DefaultSequence w t e is h = default_sequence_next bs levels b w t e h
+right_next : (bs : List BinsDecl) (levels : Levels) (domain : Domain) (manner : Manner) (b : BinsDecl) (right : Right) (w t : Walked) → declared_by levels domain manner b w right ≡ Ok t → in_array bs (Some (length w.names)) ≡ is_array b.size → AreKnown bs w → IsNext bs w t
+right_next bs levels domain manner b (rights.Ranges elems keep) w t e is h = declared_values bs levels domain manner b w t e h
+right_next bs levels domain manner b (rights.Whole name keep) w t e is h = declared_values bs levels domain manner b w t e h
+right_next bs levels domain manner b (rights.Trans seqs) w t e is h = trans_next bs levels domain b seqs w t e is h
+right_next bs levels domain manner b rights.Default w t e is h = declared_default bs levels b w t e h
+right_next bs levels domain manner b rights.DefaultSequence w t e is h = default_sequence_next bs levels b w t e h
 
-declared_next : (bs : List BinsDecl) (levels : Levels) (domain : Domain) (name : List ℕ) (distribute : Bool) (b : BinsDecl) (w t : Walked) → bins_declared levels domain name distribute b w ≡ Ok t → in_array bs (Some (length w.names)) ≡ is_array b.size → AreKnown bs w → IsNext bs w t
+declared_next : (bs : List BinsDecl) (levels : Levels) (domain : Domain) (name : List ℕ) (manner : Manner) (b : BinsDecl) (w t : Walked) → bins_declared levels domain name manner b w ≡ Ok t → in_array bs (Some (length w.names)) ≡ is_array b.size → AreKnown bs w → IsNext bs w t
 unfolding bins_declared
-declared_next bs levels domain name distribute b w t e is h =
+declared_next bs levels domain name manner b w t e is h =
     let a = bind_ok (entered name b w) _ t e in
-    right_next bs levels domain distribute b b.right w t a.2 is h
+    right_next bs levels domain manner b b.right w t a.2 is h
 
 -- ---- all declarations
 
@@ -283,20 +301,20 @@ array_here bs done b rest n same count =
     (subst (λ (k : ℕ). in_array (done ++ b ∷ rest) (Some k) ≡ is_array b.size) (sym count)
     (ap (λ (o : Option BinsDecl). option_map_or (λ (d : BinsDecl). is_array d.size) o false) (behind done b rest)))
 
-rest_known : (bs : List BinsDecl) (levels : Levels) (domain : Domain) (name : List ℕ) (distribute : Bool) (k : ℕ) (done rest : List BinsDecl) (w t : Walked) → each_at (λ i. bins_declared levels domain name distribute) k rest w ≡ Ok t
+rest_known : (bs : List BinsDecl) (levels : Levels) (domain : Domain) (name : List ℕ) (manner : Manner) (k : ℕ) (done rest : List BinsDecl) (w t : Walked) → each_at (λ i. bins_declared levels domain name manner) k rest w ≡ Ok t
     → done ++ rest ≡ bs → length w.names ≡ length done → AreKnown bs w → AreKnown bs t
 unfolding each_at
-rest_known bs levels domain name distribute k done [] w t e same count h = subst (AreKnown bs) (ok_is w t e) h
-rest_known bs levels domain name distribute k done (b ∷ rest) w t e same count h =
-    let s = bind_ok (bins_declared levels domain name distribute b w) (each_at (λ i. bins_declared levels domain name distribute) (k + 1) rest) t e in
-    let n = declared_next bs levels domain name distribute b w s.0 s.1 (array_here bs done b rest (length w.names) same count) h in
+rest_known bs levels domain name manner k done [] w t e same count h = subst (AreKnown bs) (ok_is w t e) h
+rest_known bs levels domain name manner k done (b ∷ rest) w t e same count h =
+    let s = bind_ok (bins_declared levels domain name manner b w) (each_at (λ i. bins_declared levels domain name manner) (k + 1) rest) t e in
+    let n = declared_next bs levels domain name manner b w s.0 s.1 (array_here bs done b rest (length w.names) same count) h in
     let names = n.names in
     let longer = length_push done b in
-    rest_known bs levels domain name distribute (k + 1) (done ++ b ∷ []) rest s.0 t s.2 (append_assoc done (b ∷ []) rest ∙ same) (omega (arith, names, longer, count)) n.known
+    rest_known bs levels domain name manner (k + 1) (done ++ b ∷ []) rest s.0 t s.2 (append_assoc done (b ∷ []) rest ∙ same) (omega (arith, names, longer, count)) n.known
 
-pub walked_known : (levels : Levels) (domain : Domain) (name : List ℕ) (distribute : Bool) (bs : List BinsDecl) (w : Walked) → bins_walked levels domain name distribute bs ≡ Ok w → AreKnown bs w
+pub walked_known : (levels : Levels) (domain : Domain) (name : List ℕ) (manner : Manner) (bs : List BinsDecl) (w : Walked) → bins_walked levels domain name manner bs ≡ Ok w → AreKnown bs w
 unfolding bins_walked
-walked_known levels domain name distribute bs w e = rest_known bs levels domain name distribute 0 [] bs no_bins w e refl refl (record { entries = tt; removing = refl; short = omega arith })
+walked_known levels domain name manner bs w e = rest_known bs levels domain name manner 0 [] bs no_bins w e refl refl (record { entries = tt; removing = refl; short = omega arith })
 
 -- ---- automatic bins
 
@@ -383,7 +401,7 @@ by_known bs ignored illegal bins h = left_known bs (set_of (written (ignored ++ 
 -- a rule of a point, of which a sequence is left where it is one of transitions
 abbrev pub HasSeq : (removing : List Seq) → BinRule → Type 0
 HasSeq removing (Values set) = Unit {0}
-HasSeq removing (Patterns patterns) = ⊥
+HasSeq removing (Patterns patterns) = (1 ≤ length patterns) × AllByRecursion (λ pattern. HasWidth pattern.width) patterns
 HasSeq removing (Trans seqs) = (cells_of_seqs seqs ≤ most_cells) × (has_seq_left removing seqs ≡ true)
 HasSeq removing Default = Unit {0}
 HasSeq removing (DefaultValues set) = Unit {0}
@@ -396,7 +414,7 @@ MadeHasSeq ignored illegal made = HasSeq (removing_of made.bin.kind ignored ille
 
 has_seq_of : (array : Bool) (kind : BinKind) (ignored illegal : List Seq) (rule : BinRule) → is_rule_left array (removing_of kind ignored illegal) rule ≡ true → IsKnown array kind rule → HasSeq (removing_of kind ignored illegal) rule
 has_seq_of array kind ignored illegal (Values set) e h = tt
-has_seq_of array kind ignored illegal (Patterns patterns) e h = absurd h
+has_seq_of array kind ignored illegal (Patterns patterns) e h = h
 has_seq_of array kind ignored illegal (Trans seqs) e h = (h.0, h.1 ignored illegal e)
 has_seq_of array kind ignored illegal Default e h = tt
 has_seq_of array kind ignored illegal (DefaultValues set) e h = tt

@@ -39,7 +39,8 @@ use Rattle.elab_values.specs.declared.elements.Listed.{Listed}
 use Rattle.elab_values.specs.declared.made.Made.{Made}
 use Rattle.elab_values.specs.declared.made.PointBins.{PointBins}
 use Rattle.elab_values.specs.declared.made.Settings.{Settings}
-use Rattle.elab_values.specs.Listed.{numbers_listed}
+use Rattle.elab_points.specs.declared.made.Manner.{Manner}
+use Rattle.elab_points.specs.Wildcards.{manner_of, is_kept, patterns_in, pattern_rule, numbers_in}
 use Rattle.elab_points.specs.declared.declared.Entry.{Entry}
 use Rattle.elab_points.specs.declared.declared.Entry.TheVariants.{Bin, Rest}
 use Rattle.elab_points.specs.declared.declared.Walked.{Walked}
@@ -47,7 +48,7 @@ use Rattle.elab_points.specs.declared.made.Head.{Head}
 use Rattle.elab_points.specs.declared.made.Plan.{Plan}
 use Rattle.elab_points.specs.declared.made.Wanted.{Wanted}
 use Rattle.elab_points.specs.declared.made.Wanted.TheVariants as wants
-use Rattle.elab_points.specs.Declarations.{kind_of, default_kind, is_ignore, is_illegal, with_set, entered, elements_in, head_of, bins_added, values_binned, elements_binned, values_declared, one_added, rest_added, default_added, default_sized, default_declared, declared_by, bins_declared, no_bins, bins_walked}
+use Rattle.elab_points.specs.Declarations.{kind_of, default_kind, is_ignore, is_illegal, with_set, entered, elements_in, head_of, bins_added, values_binned, listed_binned, elements_binned, values_declared, one_added, rest_added, rule_added, default_sized, default_declared, declared_by, bins_declared, no_bins, bins_walked}
 use Rattle.elab_points.specs.Filter.{passes, keep_of, filter_in, kept_numbers}
 use Rattle.elab_points.specs.Left.{set_left, rule_left, kind_left, bin_left, has_some, some_of, bins_left, left_by, point_left, walked_left, bins_of_point}
 use Rattle.elab_points.specs.Transitions.{before, seqs_kept, trans_listed, trans_added, trans_declared, default_sequence_declared, in_array, transitions_left}
@@ -100,13 +101,13 @@ or_right false b e = e
 -- ---- what a list of bins lists
 
 -- a rule lists a known number
-abbrev rule_lists : ℤ → BinRule → Bool
+abbrev pub rule_lists : ℤ → BinRule → Bool
 rule_lists v rule = lists (Some v) rule
 
 abbrev lists_in : List Made → ℤ → Bool
 lists_in bins v = list_any (λ made. rule_lists v made.bin.rule) bins
 
-abbrev listed_by : (BinKind → Bool) → List Made → ℤ → Bool
+abbrev pub listed_by : (BinKind → Bool) → List Made → ℤ → Bool
 listed_by kinds bins v = list_any (λ made. kinds made.bin.kind && rule_lists v made.bin.rule) bins
 
 pub record Tracks (ignored illegal : List (ℤ × ℤ)) (bins : List Made) : Type 0 where
@@ -130,7 +131,7 @@ rule_left_lists removed DefaultSequence v e = refl
 rule_left_lists removed (Picked select) v e = refl
 rule_left_lists removed (Product places) v e = refl
 
-nothing_listed : (rule : BinRule) (v : ℤ) → has_some rule ≡ false → rule_lists v rule ≡ false
+pub nothing_listed : (rule : BinRule) (v : ℤ) → has_some rule ≡ false → rule_lists v rule ≡ false
 unfolding written
 nothing_listed (Values []) v e = refl
 nothing_listed (Values (r ∷ rs)) v e = absurd (grind (arith, e))
@@ -200,7 +201,7 @@ ignore_keeps all illegal v l IgnoreBin rule e = rule_left_lists illegal rule v l
 ignore_keeps all illegal v l IllegalBin rule e = absurd (grind (arith, e))
 ignore_keeps all illegal v l DefaultBin rule e = absurd (grind (arith, e))
 
-written_more : (xs ys : List (ℤ × ℤ)) (v : ℤ) → is_in (written (xs ++ ys)) v ≡ (is_in (written xs) v || is_in (written ys) v)
+pub written_more : (xs ys : List (ℤ × ℤ)) (v : ℤ) → is_in (written (xs ++ ys)) v ≡ (is_in (written xs) v || is_in (written ys) v)
 written_more xs ys v = ap (λ (ns : List ℤ). is_in ns v) (written-append xs ys) ∙ is_in-append (written xs) (written ys) v
 
 by_cases : (ignored illegal : List (ℤ × ℤ)) (bins : List Made) (v : ℤ) (g l : Bool) → Tracks ignored illegal bins → is_in (written ignored) v ≡ g → is_in (written illegal) v ≡ l
@@ -309,7 +310,7 @@ added_tracks head count bins kept w list h = record {
 values_track : (domain : Domain) (distribute : Bool) (keep : Option Term) (wanted : Wanted) (elements : List Listed) (head : Head) (w t : Walked) → IsWanted wanted → values_binned domain distribute keep wanted elements head w ≡ Ok t → Tracked w → Tracked t
 unfolding values_binned planned
 values_track domain distribute keep wanted elements head w t some e h =
-    let n = bind_ok (numbers_listed domain elements head.at) _ t e in
+    let n = bind_ok (numbers_in domain keep elements head.at) _ t e in
     let k = bind_ok (kept_numbers keep n.0 head.at) _ t n.2 in
     let p = bind_ok (planned w.count wanted k.0 head.at) _ t k.2 in
     let m = bind_ok (needs (nat_le (w.count + bins_wanted wanted k.0) most_bins) kind.TooManyBins head.at) _ p.0 p.1 in
@@ -330,41 +331,71 @@ wanted_some levels (sizes.Fixed bins) at wanted e =
     let m = bind_ok (needs (int_le (pos 1) n.0) kind.ZeroBins at) _ wanted n.2 in
     subst IsWanted (ok_is (wants.Spread (unsigned_abs n.0)) wanted m.2) (one_or_more n.0 (needs_ok (int_le (pos 1) n.0) kind.ZeroBins at m.0 m.1))
 
-declared_values : (levels : Levels) (domain : Domain) (distribute : Bool) (b : BinsDecl) (w t : Walked) → values_declared levels domain distribute b w ≡ Ok t → Tracked w → Tracked t
+-- an entry that lists nothing
+idle_tracks : (w : Walked) (entry : Entry) (kinds : BinKind → Bool) (v : ℤ) → entry_lists kinds v entry ≡ false → among kinds (w.entries ++ entry ∷ []) v ≡ among kinds w.entries v
+idle_tracks w entry kinds v idle = among-append kinds w.entries (entry ∷ []) v ∙ (rw idle (or_false (among kinds w.entries v)))
+
+-- a bin that no ignore and no illegal bin is
+one_tracks : (head : Head) (rule : BinRule) (w t : Walked) → ((v : ℤ) → entry_lists is_ignore v (Bin (named_bin head head.name rule)) ≡ false) → ((v : ℤ) → entry_lists is_illegal v (Bin (named_bin head head.name rule)) ≡ false) → rule_added head rule w ≡ Ok t → Tracked w → Tracked t
+unfolding rule_added one_added
+one_tracks head rule w t idle calm e h =
+    let n = bind_ok (needs (nat_le (w.count + 1) most_bins) kind.TooManyBins head.at) _ t e in
+    let entry : Entry = Bin (named_bin head head.name rule) in
+    subst Tracked (ok_is _ t n.2) (record {
+      ignores = λ v. h.ignores v ∙ sym (idle_tracks w entry is_ignore v (idle v));
+      forbids = λ v. h.forbids v ∙ sym (idle_tracks w entry is_illegal v (calm v));
+    })
+
+default_tracks : (head : Head) (w t : Walked) → rule_added head Default w ≡ Ok t → Tracked w → Tracked t
+default_tracks head w t e h = one_tracks head Default w t (λ v. sym (and_none (is_ignore head.kind))) (λ v. sym (and_none (is_illegal head.kind))) e h
+
+-- a bin that keeps patterns is one of coverage
+coverage_kept : (patterns : Bool) (bin_kind : BinKind) (keep : Option Term) (wanted : Wanted) (elements : List Listed) → is_kept patterns bin_kind keep wanted elements ≡ true → (is_ignore bin_kind ≡ false) × (is_illegal bin_kind ≡ false)
+coverage_kept patterns CvgBin keep wanted elements e = (refl, refl)
+coverage_kept patterns DefaultBin keep wanted elements e = (refl, refl)
+coverage_kept patterns IllegalBin (Some term) wanted elements e = absurd cc
+coverage_kept true IllegalBin None wanted elements e = absurd cc
+coverage_kept false IllegalBin None wanted elements e = absurd cc
+coverage_kept patterns IgnoreBin (Some term) wanted elements e = absurd cc
+coverage_kept true IgnoreBin None wanted elements e = absurd cc
+coverage_kept false IgnoreBin None wanted elements e = absurd cc
+
+listed_track : (domain : Domain) (manner : Manner) (keep : Option Term) (wanted : Wanted) (elements : List Listed) (head : Head) (w t : Walked) → IsWanted wanted → listed_binned domain manner keep wanted elements head w ≡ Ok t → Tracked w → Tracked t
+unfolding listed_binned
+listed_track domain manner keep wanted elements head w t some e h = by (is_kept manner.patterns head.kind keep wanted elements) refl e
+  where
+    rule : BinRule
+    rule = pattern_rule domain (patterns_in elements)
+
+    none : (k r : Bool) → k ≡ false → (k && r) ≡ false
+    none k r is = rw is refl
+
+    by : (b : Bool) → is_kept manner.patterns head.kind keep wanted elements ≡ b → (if b then rule_added head rule w else values_binned domain manner.distribute keep wanted elements head w) ≡ Ok t → Tracked t
+    by true is e =
+        let other = coverage_kept manner.patterns head.kind keep wanted elements is in
+        one_tracks head rule w t (λ v. none (is_ignore head.kind) (rule_lists v rule) other.0) (λ v. none (is_illegal head.kind) (rule_lists v rule) other.1) e h
+    by false is e = values_track domain manner.distribute keep wanted elements head w t some e h
+
+declared_values : (levels : Levels) (domain : Domain) (manner : Manner) (b : BinsDecl) (w t : Walked) → values_declared levels domain manner b w ≡ Ok t → Tracked w → Tracked t
 unfolding values_declared elements_binned
-declared_values levels domain distribute b w t e h =
+declared_values levels domain manner b w t e h =
     let s = bind_ok (elements_in levels domain b.wildcard b.right) _ t e in
     let k = bind_ok (filter_in levels domain.typ (keep_of b.right)) _ t s.2 in
     let a = bind_ok (wanted_in levels b.size b.at) _ t k.2 in
     let g = bind_ok (guard_in levels b.guard) _ t a.2 in
-    values_track domain distribute k.0 a.0 s.0 (head_of b (kind_of b.word) g.0 w) w t (wanted_some levels b.size b.at a.0 a.1) g.2 h
-
--- an entry that lists nothing
-idle_tracks : (w : Walked) (entry : Entry) → ((kinds : BinKind → Bool) (v : ℤ) → entry_lists kinds v entry ≡ false) → Tracked w → (kinds : BinKind → Bool) (v : ℤ) → among kinds (w.entries ++ entry ∷ []) v ≡ among kinds w.entries v
-idle_tracks w entry idle h kinds v = among-append kinds w.entries (entry ∷ []) v ∙ (rw (idle kinds v) (or_false (among kinds w.entries v)))
-
-one_tracks : (head : Head) (w t : Walked) → default_added head w ≡ Ok t → Tracked w → Tracked t
-unfolding default_added one_added
-one_tracks head w t e h =
-    let n = bind_ok (needs (nat_le (w.count + 1) most_bins) kind.TooManyBins head.at) _ t e in
-    let entry : Entry = Bin (named_bin head head.name Default) in
-    let idle : (kinds : BinKind → Bool) (v : ℤ) → entry_lists kinds v entry ≡ false = λ kinds v. sym (and_none (kinds head.kind)) in
-    subst Tracked (ok_is _ t n.2) (record {
-      ignores = λ v. h.ignores v ∙ sym (idle_tracks w entry idle h is_ignore v);
-      forbids = λ v. h.forbids v ∙ sym (idle_tracks w entry idle h is_illegal v);
-    })
+    listed_track domain manner k.0 a.0 s.0 (head_of b (kind_of b.word) g.0 w) w t (wanted_some levels b.size b.at a.0 a.1) g.2 h
 
 rest_tracks : (head : Head) (w : Walked) → Tracked w → Tracked (rest_added head w)
 unfolding rest_added
 rest_tracks head w h = record {
-  ignores = λ v. h.ignores v ∙ sym (idle_tracks w (Rest head) (λ kinds v. refl) h is_ignore v);
-  forbids = λ v. h.forbids v ∙ sym (idle_tracks w (Rest head) (λ kinds v. refl) h is_illegal v);
+  ignores = λ v. h.ignores v ∙ sym (idle_tracks w (Rest head) is_ignore v refl);
+  forbids = λ v. h.forbids v ∙ sym (idle_tracks w (Rest head) is_illegal v refl);
 }
 
 sized_tracks : (size : Size) (head : Head) (w t : Walked) → default_sized size head w ≡ Ok t → Tracked w → Tracked t
 sized_tracks sizes.Open head w t e h = subst Tracked (ok_is (rest_added head w) t e) (rest_tracks head w h)
-sized_tracks sizes.Scalar head w t e h = one_tracks head w t e h
-sized_tracks (sizes.Fixed bins) head w t e h = one_tracks head w t e h
+sized_tracks sizes.Scalar head w t e h = default_tracks head w t e h
+sized_tracks (sizes.Fixed bins) head w t e h = default_tracks head w t e h
 
 -- ---- transitions list nothing
 
@@ -403,30 +434,30 @@ declared_default_sequence levels b w t e h =
     let is = default_is levels b (before w) m.0 m.1 in
     let idle : (kinds : BinKind → Bool) (v : ℤ) → entry_lists kinds v (Bin m.0) ≡ false = λ kinds v. rw (ap (rule_lists v) is) (sym (and_none (kinds m.0.bin.kind))) in
     subst Tracked (ok_is _ t m.2) (record {
-      ignores = λ v. h.ignores v ∙ sym (idle_tracks w (Bin m.0) idle h is_ignore v);
-      forbids = λ v. h.forbids v ∙ sym (idle_tracks w (Bin m.0) idle h is_illegal v);
+      ignores = λ v. h.ignores v ∙ sym (idle_tracks w (Bin m.0) is_ignore v (idle is_ignore v));
+      forbids = λ v. h.forbids v ∙ sym (idle_tracks w (Bin m.0) is_illegal v (idle is_illegal v));
     })
 
-right_tracks : (levels : Levels) (domain : Domain) (distribute : Bool) (b : BinsDecl) (right : Right) (w t : Walked) → declared_by levels domain distribute b w right ≡ Ok t → Tracked w → Tracked t
+right_tracks : (levels : Levels) (domain : Domain) (manner : Manner) (b : BinsDecl) (right : Right) (w t : Walked) → declared_by levels domain manner b w right ≡ Ok t → Tracked w → Tracked t
 unfolding default_declared
-right_tracks levels domain distribute b (rights.Ranges elems keep) w t e h = declared_values levels domain distribute b w t e h
-right_tracks levels domain distribute b (rights.Whole name keep) w t e h = declared_values levels domain distribute b w t e h
-right_tracks levels domain distribute b (rights.Trans seqs) w t e h = declared_trans levels domain b seqs w t e h
-right_tracks levels domain distribute b rights.Default w t e h =
+right_tracks levels domain manner b (rights.Ranges elems keep) w t e h = declared_values levels domain manner b w t e h
+right_tracks levels domain manner b (rights.Whole name keep) w t e h = declared_values levels domain manner b w t e h
+right_tracks levels domain manner b (rights.Trans seqs) w t e h = declared_trans levels domain b seqs w t e h
+right_tracks levels domain manner b rights.Default w t e h =
     let g = bind_ok (guard_in levels b.guard) _ t e in
     sized_tracks b.size (head_of b (default_kind b.word) g.0 w) w t g.2 h
-right_tracks levels domain distribute b rights.DefaultSequence w t e h = declared_default_sequence levels b w t e h
+right_tracks levels domain manner b rights.DefaultSequence w t e h = declared_default_sequence levels b w t e h
 
-declared_tracks : (levels : Levels) (domain : Domain) (name : List ℕ) (distribute : Bool) (b : BinsDecl) (w t : Walked) → bins_declared levels domain name distribute b w ≡ Ok t → Tracked w → Tracked t
+declared_tracks : (levels : Levels) (domain : Domain) (name : List ℕ) (manner : Manner) (b : BinsDecl) (w t : Walked) → bins_declared levels domain name manner b w ≡ Ok t → Tracked w → Tracked t
 unfolding bins_declared
-declared_tracks levels domain name distribute b w t e h =
+declared_tracks levels domain name manner b w t e h =
     let a = bind_ok (entered name b w) _ t e in
-    right_tracks levels domain distribute b b.right w t a.2 h
+    right_tracks levels domain manner b b.right w t a.2 h
 
-walked_tracks : (levels : Levels) (domain : Domain) (name : List ℕ) (distribute : Bool) (bs : List BinsDecl) (w : Walked) → bins_walked levels domain name distribute bs ≡ Ok w → Tracked w
+pub walked_tracks : (levels : Levels) (domain : Domain) (name : List ℕ) (manner : Manner) (bs : List BinsDecl) (w : Walked) → bins_walked levels domain name manner bs ≡ Ok w → Tracked w
 unfolding bins_walked written
-walked_tracks levels domain name distribute bs w e =
-    each_keeps (λ k. bins_declared levels domain name distribute) Tracked (λ k b s t e h. declared_tracks levels domain name distribute b s t e h) 0 bs no_bins w e (record { ignores = λ v. refl; forbids = λ v. refl })
+walked_tracks levels domain name manner bs w e =
+    each_keeps (λ k. bins_declared levels domain name manner) Tracked (λ k b s t e h. declared_tracks levels domain name manner b s t e h) 0 bs no_bins w e (record { ignores = λ v. refl; forbids = λ v. refl })
 
 -- ---- automatic bins remove nothing
 
@@ -453,7 +484,7 @@ automatic_tracks domain settings at w t e h =
       forbids = λ v. h.forbids v ∙ sym (idle is_illegal v refl);
     })
 
-undeclared_tracks : (domain : Domain) (settings : Settings) (bs : List BinsDecl) (at : ℕ) (w t : Walked) → with_automatic domain settings bs at w ≡ Ok t → Tracked w → Tracked t
+pub undeclared_tracks : (domain : Domain) (settings : Settings) (bs : List BinsDecl) (at : ℕ) (w t : Walked) → with_automatic domain settings bs at w ≡ Ok t → Tracked w → Tracked t
 unfolding with_automatic
 undeclared_tracks domain settings bs at w t e h = by (declares_coverage bs) e
   where
@@ -512,7 +543,7 @@ dropped_idle array removing DefaultSequence v e = refl
 dropped_idle array removing (Picked select) v e = refl
 dropped_idle array removing (Product places) v e = refl
 
-dropped_lists : (bs : List BinsDecl) (ignored illegal : List Seq) (made : Made) (v : ℤ) → is_trans_left ignored illegal (in_array bs made.declared) made.bin ≡ false → rule_lists v made.bin.rule ≡ false
+pub dropped_lists : (bs : List BinsDecl) (ignored illegal : List Seq) (made : Made) (v : ℤ) → is_trans_left ignored illegal (in_array bs made.declared) made.bin ≡ false → rule_lists v made.bin.rule ≡ false
 unfolding is_trans_left
 dropped_lists bs ignored illegal made v e = dropped_idle (in_array bs made.declared) (removing_of made.bin.kind ignored illegal) made.bin.rule v e
 
@@ -533,27 +564,27 @@ keeps bs w bins t (Some v) =
     let left = left_by w.ignored w.illegal bins in
     known_bins (point_left bs w bins).bins v ∙ (trans_stay bs w.ignored_seqs w.illegal_seqs left v ∙ (listed_stays w.ignored w.illegal bins t v ∙ sym (known_rules bins v)))
 
-declared_is : (levels : Levels) (domain : Domain) (name : List ℕ) (settings : Settings) (bs : List BinsDecl) (at : ℕ) (d w : Walked) (all : List Made) → bins_walked levels domain name settings.distribute_first bs ≡ Ok d → with_automatic domain settings bs at d ≡ Ok w
+pub declared_is : (levels : Levels) (domain : Domain) (name : List ℕ) (settings : Settings) (bs : List BinsDecl) (at : ℕ) (d w : Walked) (all : List Made) → bins_walked levels domain name (manner_of domain settings bs) bs ≡ Ok d → with_automatic domain settings bs at d ≡ Ok w
     → all_filled domain w.listed w.entries w.count ≡ Ok all → bins_declared_in levels domain name settings bs at ≡ Ok all
 unfolding bins_declared_in
 declared_is levels domain name settings bs at d w all e f g = rw (e, f, g) refl
 
-filled_is : (domain : Domain) (listed : List (ℤ × ℤ)) (entries : List Entry) (count : ℕ) (all : List Made) → all_filled domain listed entries count ≡ Ok all → all_bins (unlisted domain listed) entries ≡ all
+pub filled_is : (domain : Domain) (listed : List (ℤ × ℤ)) (entries : List Entry) (count : ℕ) (all : List Made) → all_filled domain listed entries count ≡ Ok all → all_bins (unlisted domain listed) entries ≡ all
 unfolding all_filled
 filled_is domain listed entries count all e =
     let c = bind_ok (entries_counted (length (written (unlisted domain listed))) entries count) _ all e in
     ok_is (all_bins (unlisted domain listed) entries) all c.2
 
-tracks_all : (rest : List (ℤ × ℤ)) (w : Walked) (all : List Made) → all_bins rest w.entries ≡ all → Tracked w → Tracks w.ignored w.illegal all
+pub tracks_all : (rest : List (ℤ × ℤ)) (w : Walked) (all : List Made) → all_bins rest w.entries ≡ all → Tracked w → Tracks w.ignored w.illegal all
 tracks_all rest w all is t = subst (Tracks w.ignored w.illegal) is (record { ignores = λ v. t.ignores v ∙ sym (all_list is_ignore rest w.entries v); forbids = λ v. t.forbids v ∙ sym (all_list is_illegal rest w.entries v) })
 
 pub removal_keeps : RemovalKeepsListed
 unfolding bins_of_point walked_left
 removal_keeps levels domain name settings bs at found e =
-    let d = bind_ok (bins_walked levels domain name settings.distribute_first bs) _ found e in
+    let d = bind_ok (bins_walked levels domain name (manner_of domain settings bs) bs) _ found e in
     let w = bind_ok (with_automatic domain settings bs at d.0) _ found d.2 in
     let all = bind_ok (all_filled domain w.0.listed w.0.entries w.0.count) _ found w.2 in
     let is = filled_is domain w.0.listed w.0.entries w.0.count all.0 all.1 in
-    let t = undeclared_tracks domain settings bs at d.0 w.0 w.1 (walked_tracks levels domain name settings.distribute_first bs d.0 d.1) in
+    let t = undeclared_tracks domain settings bs at d.0 w.0 w.1 (walked_tracks levels domain name (manner_of domain settings bs) bs d.0 d.1) in
     let kept = keeps bs w.0 all.0 (tracks_all (unlisted domain w.0.listed) w.0 all.0 is t) in
     (all.0, declared_is levels domain name settings bs at d.0 w.0 all.0 d.1 w.1 all.1, subst (λ (f : PointBins). KeepsListed (map (λ (made : Made). made.bin.rule) all.0) (map (λ (made : Made). made.bin) f.bins)) (ok_is (point_left bs w.0 all.0) found all.2) kept)

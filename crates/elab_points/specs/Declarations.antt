@@ -1,5 +1,5 @@
 -- The declarations of bins of a point, in order, before anything is removed (IEEE 1800-2017, 19.5).
-use Rattle.std.specs.Prelude.{ℕ, ◌+◌, ℤ, List, [], ◌∷◌, ◌++◌, length, map, Bool, true, false, nat_le, nat_eq, Option, Some, Result, Ok, Err, if◌then◌else◌}
+use Rattle.std.specs.Prelude.{ℕ, ◌+◌, ℤ, List, [], ◌∷◌, ◌++◌, length, map, Bool, true, false, nat_le, nat_eq, Option, Some, Result, Ok, if◌then◌else◌}
 use Rattle.std.specs.Cmp.Lexicographic.{pointwise}
 use Rattle.cov_ground.specs.Limits.{most_bins}
 use Rattle.name_map.specs.Names.{with_name}
@@ -25,12 +25,13 @@ use Rattle.elab_values.specs.declared.domain.Domain.{Domain}
 use Rattle.elab_values.specs.declared.elements.Listed.{Listed}
 use Rattle.elab_values.specs.declared.elements.Listed.TheVariants.{Range}
 use Rattle.elab_values.specs.declared.made.Made.{Made}
-use Rattle.elab_values.specs.Listed.{listed_in, numbers_listed}
+use Rattle.elab_values.specs.Listed.{listed_in}
 use Rattle.elab_points.specs.declared.declared.Entry.TheVariants.{Bin, Rest}
 use Rattle.elab_points.specs.declared.declared.Walked.{Walked}
 use Rattle.elab_points.specs.declared.made.Head.{Head}
+use Rattle.elab_points.specs.declared.made.Manner.{Manner}
 use Rattle.elab_points.specs.declared.made.Wanted.{Wanted}
-use Rattle.elab_points.specs.Built.{is_built_decl}
+use Rattle.elab_points.specs.Wildcards.{is_kept, patterns_in, pattern_rule, numbers_in}
 use Rattle.elab_points.specs.Filter.{keep_of, filter_in, kept_numbers}
 use Rattle.elab_points.specs.Transitions.{trans_declared, made_added, default_sequence_declared}
 use Rattle.elab_points.specs.Made.{wanted_in, planned, plan_bins, named_bin, bins_made}
@@ -82,8 +83,7 @@ unfoldable pub entered : (name : List ℕ) → BinsDecl → Walked → Result (U
 entered name b w = do
   _ ← unused w.known b.name b.at
   _ ← needs (names_point name b.right) kind.NotThisPoint b.at
-  _ ← needs (may_default b.word b.right) kind.IgnoreDefault b.at
-  needs (is_built_decl b) kind.NotBuiltYet b.at
+  needs (may_default b.word b.right) kind.IgnoreDefault b.at
 
 -- ---- bins of values
 
@@ -121,22 +121,39 @@ bins_added head count bins kept w = record w {
 
 unfoldable pub values_binned : Domain → (distribute : Bool) → Option Term → Wanted → List Listed → Head → Walked → Result Walked Refusal
 values_binned domain distribute keep wanted elements head w = do
-  numbers ← numbers_listed domain elements head.at
+  numbers ← numbers_in domain keep elements head.at
   kept ← kept_numbers keep numbers head.at
   plan ← planned w.count wanted kept head.at
   Ok (bins_added head (plan_bins plan) (bins_made distribute keep plan head numbers kept) kept w)
 
-unfoldable pub elements_binned : Levels → Domain → (distribute : Bool) → BinsDecl → List Listed → Walked → Result Walked Refusal
-elements_binned levels domain distribute b elements w = do
+-- one bin, with the name of its declaration
+unfoldable pub one_added : Head → BinRule → Walked → Walked
+one_added head rule w = made_added head.name (named_bin head head.name rule) w
+
+-- one bin of this rule, which lists nothing that an array of `default` has to know
+unfoldable pub rule_added : Head → BinRule → Walked → Result Walked Refusal
+rule_added head rule w = do
+  _ ← needs (nat_le (w.count + 1) most_bins) kind.TooManyBins head.at
+  Ok (one_added head rule w)
+
+-- the bins of elements: of their patterns, where these are kept, and else of the numbers that they list
+unfoldable pub listed_binned : Domain → Manner → Option Term → Wanted → List Listed → Head → Walked → Result Walked Refusal
+listed_binned domain manner keep wanted elements head w =
+    if is_kept manner.patterns head.kind keep wanted elements
+    then rule_added head (pattern_rule domain (patterns_in elements)) w
+    else values_binned domain manner.distribute keep wanted elements head w
+
+unfoldable pub elements_binned : Levels → Domain → Manner → BinsDecl → List Listed → Walked → Result Walked Refusal
+elements_binned levels domain manner b elements w = do
   keep ← filter_in levels domain.typ (keep_of b.right)
   wanted ← wanted_in levels b.size b.at
   guard ← guard_in levels b.guard
-  values_binned domain distribute keep wanted elements (head_of b (kind_of b.word) guard w) w
+  listed_binned domain manner keep wanted elements (head_of b (kind_of b.word) guard w) w
 
-unfoldable pub values_declared : Levels → Domain → (distribute : Bool) → BinsDecl → Walked → Result Walked Refusal
-values_declared levels domain distribute b w = do
+unfoldable pub values_declared : Levels → Domain → Manner → BinsDecl → Walked → Result Walked Refusal
+values_declared levels domain manner b w = do
   elements ← elements_in levels domain b.wildcard b.right
-  elements_binned levels domain distribute b elements w
+  elements_binned levels domain manner b elements w
 
 -- ---- `default`, which lists and removes nothing
 
@@ -144,10 +161,6 @@ abbrev pub default_kind : Word → BinKind
 default_kind words.Bins = DefaultBin
 default_kind words.Illegal = IllegalBin
 default_kind words.Ignore = DefaultBin
-
--- one bin, with the name of its declaration
-unfoldable pub one_added : Head → BinRule → Walked → Walked
-one_added head rule w = made_added head.name (named_bin head head.name rule) w
 
 -- a bin for each number that is listed nowhere: which these are is known at the end of the point
 unfoldable pub rest_added : Head → Walked → Walked
@@ -157,15 +170,10 @@ rest_added head w = record w {
   entries = w.entries ++ Rest head ∷ [];
 }
 
-unfoldable pub default_added : Head → Walked → Result Walked Refusal
-default_added head w = do
-  _ ← needs (nat_le (w.count + 1) most_bins) kind.TooManyBins head.at
-  Ok (one_added head Default w)
-
 abbrev pub default_sized : Size → Head → Walked → Result Walked Refusal
 default_sized sizes.Open head w = Ok (rest_added head w)
-default_sized sizes.Scalar head w = default_added head w
-default_sized (sizes.Fixed bins) head w = default_added head w
+default_sized sizes.Scalar head w = rule_added head Default w
+default_sized (sizes.Fixed bins) head w = rule_added head Default w
 
 unfoldable pub default_declared : Levels → BinsDecl → Walked → Result Walked Refusal
 default_declared levels b w = do
@@ -174,20 +182,20 @@ default_declared levels b w = do
 
 -- ---- declarations
 
-abbrev pub declared_by : Levels → Domain → (distribute : Bool) → BinsDecl → Walked → Right → Result Walked Refusal
-declared_by levels domain distribute b w (rights.Ranges elems keep) = values_declared levels domain distribute b w
-declared_by levels domain distribute b w (rights.Whole name keep) = values_declared levels domain distribute b w
-declared_by levels domain distribute b w (rights.Trans seqs) = trans_declared levels domain b seqs w
-declared_by levels domain distribute b w rights.Default = default_declared levels b w
-declared_by levels domain distribute b w rights.DefaultSequence = default_sequence_declared levels b w
+abbrev pub declared_by : Levels → Domain → Manner → BinsDecl → Walked → Right → Result Walked Refusal
+declared_by levels domain manner b w (rights.Ranges elems keep) = values_declared levels domain manner b w
+declared_by levels domain manner b w (rights.Whole name keep) = values_declared levels domain manner b w
+declared_by levels domain manner b w (rights.Trans seqs) = trans_declared levels domain b seqs w
+declared_by levels domain manner b w rights.Default = default_declared levels b w
+declared_by levels domain manner b w rights.DefaultSequence = default_sequence_declared levels b w
 
-unfoldable pub bins_declared : Levels → Domain → (name : List ℕ) → (distribute : Bool) → BinsDecl → Walked → Result Walked Refusal
-bins_declared levels domain name distribute b w = do
+unfoldable pub bins_declared : Levels → Domain → (name : List ℕ) → Manner → BinsDecl → Walked → Result Walked Refusal
+bins_declared levels domain name manner b w = do
   _ ← entered name b w
-  declared_by levels domain distribute b w b.right
+  declared_by levels domain manner b w b.right
 
 abbrev pub no_bins : Walked
 no_bins = record { known = []; names = []; entries = []; count = 0; listed = []; ignored = []; illegal = []; ignored_seqs = []; illegal_seqs = []; removing = 0 }
 
-unfoldable pub bins_walked : Levels → Domain → (name : List ℕ) → (distribute : Bool) → List BinsDecl → Result Walked Refusal
-bins_walked levels domain name distribute bs = each (bins_declared levels domain name distribute) bs no_bins
+unfoldable pub bins_walked : Levels → Domain → (name : List ℕ) → Manner → List BinsDecl → Result Walked Refusal
+bins_walked levels domain name manner bs = each (bins_declared levels domain name manner) bs no_bins

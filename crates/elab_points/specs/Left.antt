@@ -19,6 +19,7 @@ use Rattle.elab_points.specs.Declarations.{bins_walked}
 use Rattle.elab_points.specs.Automatic.{with_automatic}
 use Rattle.elab_points.specs.Rest.{all_filled}
 use Rattle.elab_points.specs.Transitions.{transitions_left}
+use Rattle.elab_points.specs.Wildcards.{manner_of}
 
 abbrev pub set_left : (removed set : List (ℤ × ℤ)) → List (ℤ × ℤ)
 set_left removed set = set_of (without (written set) (written removed))
@@ -87,6 +88,6 @@ walked_left domain bs w = do
 -- the bins of a point of this name, which stands there
 unfoldable pub bins_of_point : Levels → Domain → (name : List ℕ) → Settings → List BinsDecl → (at : ℕ) → Result PointBins Refusal
 bins_of_point levels domain name settings bs at = do
-  declared ← bins_walked levels domain name settings.distribute_first bs
+  declared ← bins_walked levels domain name (manner_of domain settings bs) bs
   w ← with_automatic domain settings bs at declared
   walked_left domain bs w

@@ -1,5 +1,4 @@
 pub mod Automatic
-pub mod Built
 pub mod Declarations
 pub mod Filter
 pub mod Laws
@@ -7,3 +6,4 @@ pub mod Left
 pub mod Made
 pub mod Rest
 pub mod Transitions
+pub mod Wildcards

@@ -158,7 +158,8 @@ fn bin_automatic(
     Ok(())
 }
 
-fn is_coverage(word: &Word) -> bool
+/// Whether the word is `bins`.
+pub(crate) fn is_coverage(word: &Word) -> bool
     ensures { result ≡ is_coverage_word word.now }
 {
     match word {

@@ -7,20 +7,22 @@ ghost use Rattle.cov_base.specs.Sets.{written, set_of};
 ghost use Rattle.elab_base.specs.declared.names.What.TheVariants as what;
 ghost use Rattle.elab_base.specs.Gives.{Gives, Makes};
 ghost use Rattle.elab_values.specs.Listed.{IsListed};
+ghost use Rattle.design_data.specs.declared.infos.BinRule.TheVariants.{Default};
 ghost use Rattle.elab_points.specs.declared.declared.Entry.TheVariants.{Bin};
 ghost use Rattle.elab_points.specs.Made.{IsWanted, IsPlan, plan_bins};
-ghost use Rattle.elab_points.specs.Declarations.{kind_of as kind_meant, default_kind as default_meant, is_ignore, is_illegal, names_point, is_default, may_default, entered, whole_elements, elements_in, with_set, head_of, bins_added, values_binned, elements_binned, values_declared, one_added, rest_added, default_added, default_sized, default_declared, declared_by, bins_declared, bins_walked};
+ghost use Rattle.elab_points.specs.Wildcards.{patterns_in as patterns_meant, pattern_rule as rule_meant};
+ghost use Rattle.elab_points.specs.Declarations.{kind_of as kind_meant, default_kind as default_meant, is_ignore, is_illegal, names_point, is_default, may_default, entered, whole_elements, elements_in, with_set, head_of, bins_added, values_binned, listed_binned, elements_binned, values_declared, one_added, rest_added, rule_added, default_sized, default_declared, declared_by, bins_declared, bins_walked};
 
-use crate::built::is_built;
 use crate::filter::{filter_of, keep_numbers};
-use crate::made::{Head, Plan, Wanted, bin_of, bins_of, check_room, make_plan, size_of};
+use crate::made::{Head, Manner, Plan, Wanted, bin_of, bins_of, check_room, make_plan, size_of};
 use crate::transitions::{add_made, declare_default_sequence, declare_trans};
+use crate::wildcards::{is_kept, numbers_in, pattern_rule};
 use const_eval::{Bound, Scope};
 use cov_base::{Int, Memory, ValueSet};
 use cov_tree::{BinsDecl, List, Name, Right, Size, Word};
 use design_data::{BinKind, BinRule};
 use elab_base::{ElabFault, ElabKind, What, add_name, check_unused, guard_in};
-use elab_values::{Domain, Listed, Made, elements_of, numbers_listed};
+use elab_values::{Domain, Listed, Made, elements_of};
 use name_map::NameMap;
 use std::alloc::Global;
 use trans_seq::Seq;
@@ -142,7 +144,6 @@ fn check_entry(name: &Name, decl: &BinsDecl, walked: &Walked) -> Result<(), Elab
     check_unused(&walked.known, &decl.name, decl.at)?;
     ElabKind::NotThisPoint.unless(is_of_point(name, &decl.right), decl.at)?;
     ElabKind::IgnoreDefault.unless(is_default_allowed(&decl.word, &decl.right), decl.at)?;
-    ElabKind::NotBuiltYet.unless(is_built(decl), decl.at)?;
     Ok(())
 }
 
@@ -297,7 +298,7 @@ fn bin_values(
     requires wanted { IsWanted wanted }
     ensures { Makes result walked.new (values_binned domain.now distribute keep.now wanted elements.now head.now walked.old) }
 {
-    let numbers = numbers_listed(alloc, domain, elements, head.at)?;
+    let numbers = numbers_in(alloc, domain, keep, elements, head.at)?;
     let kept = keep_numbers(alloc, keep, &numbers, head.at)?;
     let plan = make_plan(alloc, walked.count, wanted, &kept, head.at)?;
     let bins = bins_of(alloc, distribute, keep, &plan, head, &numbers, &kept)?;
@@ -305,25 +306,74 @@ fn bin_values(
     Ok(())
 }
 
+/// Adds the bin of elements whose patterns it keeps.
+#[tactic(auto, unfolding(crate::specs::Declarations::rule_added))]
+fn bin_patterns(
+    alloc: Global,
+    domain: &Domain,
+    elements: &[Listed],
+    head: &Head,
+    walked: &mut Walked,
+) -> Result<(), ElabFault>
+    requires { AllByRecursion IsListed elements.now }
+    ensures { Makes result walked.new (rule_added head.now (rule_meant domain.now (patterns_meant elements.now)) walked.old) }
+{
+    check_room(walked.count, 1, head.at)?;
+    let rule = pattern_rule(alloc, domain, elements)?;
+    add_one(alloc, head, rule, walked)?;
+    Ok(())
+}
+
+/// Adds the bins of elements: of their patterns, where these are kept, and else of the numbers that they list.
+#[tactic(auto, unfolding(crate::specs::Declarations::listed_binned))]
+fn bin_listed(
+    alloc: Global,
+    domain: &Domain,
+    manner: Manner,
+    keep: &Option<Bound>,
+    wanted: Wanted,
+    elements: &[Listed],
+    head: &Head,
+    walked: &mut Walked,
+) -> Result<(), ElabFault>
+    requires widths { AllByRecursion IsListed elements.now }
+    requires wanted { IsWanted wanted }
+    ensures { Makes result walked.new (listed_binned domain.now manner keep.now wanted elements.now head.now walked.old) }
+{
+    if is_kept(manner.patterns, head.kind, keep, wanted, elements) {
+        return bin_patterns(alloc, domain, elements, head, walked);
+    }
+    bin_values(
+        alloc,
+        domain,
+        manner.distribute,
+        keep,
+        wanted,
+        elements,
+        head,
+        walked,
+    )
+}
+
 #[tactic(auto, unfolding(crate::specs::Declarations::elements_binned))]
 fn bin_elements(
     alloc: Global,
     scope: &Scope,
     domain: &Domain,
-    distribute: bool,
+    manner: Manner,
     decl: &BinsDecl,
     elements: &[Listed],
     walked: &mut Walked,
 ) -> Result<(), ElabFault>
     requires { AllByRecursion IsListed elements.now }
-    ensures { Makes result walked.new (elements_binned scope.now domain.now distribute decl.now elements.now walked.old) }
+    ensures { Makes result walked.new (elements_binned scope.now domain.now manner decl.now elements.now walked.old) }
 {
     let keep = filter_of(alloc, scope, domain.typ, &decl.right)?;
     let wanted = size_of(alloc, scope, &decl.size, decl.at)?;
     let guard = guard_in(alloc, scope, &decl.guard)?;
     let head = head(alloc, decl, kind_of(&decl.word), guard, walked)?;
-    bin_values(
-        alloc, domain, distribute, &keep, wanted, elements, &head, walked,
+    bin_listed(
+        alloc, domain, manner, &keep, wanted, elements, &head, walked,
     )?;
     Ok(())
 }
@@ -333,18 +383,18 @@ fn declare_values(
     alloc: Global,
     scope: &Scope,
     domain: &Domain,
-    distribute: bool,
+    manner: Manner,
     decl: &BinsDecl,
     walked: &mut Walked,
 ) -> Result<(), ElabFault>
-    ensures { Makes result walked.new (values_declared scope.now domain.now distribute decl.now walked.old) }
+    ensures { Makes result walked.new (values_declared scope.now domain.now manner decl.now walked.old) }
 {
     let elements = elements(alloc, scope, domain, decl.wildcard, &decl.right)?;
     bin_elements(
         alloc,
         scope,
         domain,
-        distribute,
+        manner,
         decl,
         elements.as_slice(),
         walked,
@@ -373,9 +423,9 @@ fn add_rest(alloc: Global, head: Head, walked: &mut Walked) -> Result<(), Memory
     Ok(())
 }
 
-#[tactic(auto, unfolding(crate::specs::Declarations::default_added))]
+#[tactic(auto, unfolding(crate::specs::Declarations::rule_added))]
 fn add_default(alloc: Global, head: &Head, walked: &mut Walked) -> Result<(), ElabFault>
-    ensures { Makes result walked.new (default_added head.now walked.old) }
+    ensures { Makes result walked.new (rule_added head.now Default walked.old) }
 {
     check_room(walked.count, 1, head.at)?;
     add_one(alloc, head, BinRule::Default, walked)?;
@@ -411,15 +461,15 @@ fn declare_right(
     alloc: Global,
     scope: &Scope,
     domain: &Domain,
-    distribute: bool,
+    manner: Manner,
     decl: &BinsDecl,
     walked: &mut Walked,
 ) -> Result<(), ElabFault>
-    ensures { Makes result walked.new (declared_by scope.now domain.now distribute decl.now walked.old decl.now.right) }
+    ensures { Makes result walked.new (declared_by scope.now domain.now manner decl.now walked.old decl.now.right) }
 {
     match &decl.right {
-        Right::Ranges { .. } => declare_values(alloc, scope, domain, distribute, decl, walked),
-        Right::Whole { .. } => declare_values(alloc, scope, domain, distribute, decl, walked),
+        Right::Ranges { .. } => declare_values(alloc, scope, domain, manner, decl, walked),
+        Right::Whole { .. } => declare_values(alloc, scope, domain, manner, decl, walked),
         Right::Trans(seqs) => { declare_trans(alloc, scope, domain, decl, seqs.as_slice(), walked) }
         Right::Default => declare_default(alloc, scope, decl, walked),
         Right::DefaultSequence => declare_default_sequence(alloc, scope, decl, walked),
@@ -432,14 +482,14 @@ fn declare(
     scope: &Scope,
     domain: &Domain,
     name: &Name,
-    distribute: bool,
+    manner: Manner,
     decl: &BinsDecl,
     walked: &mut Walked,
 ) -> Result<(), ElabFault>
-    ensures { Makes result walked.new (bins_declared scope.now domain.now name.now distribute decl.now walked.old) }
+    ensures { Makes result walked.new (bins_declared scope.now domain.now name.now manner decl.now walked.old) }
 {
     check_entry(name, decl, walked)?;
-    declare_right(alloc, scope, domain, distribute, decl, walked)?;
+    declare_right(alloc, scope, domain, manner, decl, walked)?;
     Ok(())
 }
 
@@ -450,10 +500,10 @@ pub(crate) fn walk_bins(
     scope: &Scope,
     domain: &Domain,
     name: &Name,
-    distribute: bool,
+    manner: Manner,
     decls: &[BinsDecl],
 ) -> Result<Walked, ElabFault>
-    ensures { Gives result (bins_walked scope.now domain.now name.now distribute decls.now) }
+    ensures { Gives result (bins_walked scope.now domain.now name.now manner decls.now) }
 {
     let mut walked = Walked {
         known: NameMap::new(alloc),
@@ -468,7 +518,7 @@ pub(crate) fn walk_bins(
         removing: 0,
     };
     for decl in decls {
-        declare(alloc, scope, domain, name, distribute, decl, &mut walked)?;
+        declare(alloc, scope, domain, name, manner, decl, &mut walked)?;
     }
     Ok(walked)
 }

@@ -9,6 +9,7 @@ use crate::auto::add_undeclared;
 use crate::declared::{Walked, walk_bins};
 use crate::rest::fill;
 use crate::transitions::transitions_left;
+use crate::wildcards::manner_of;
 use const_eval::Scope;
 use cov_base::{Int, Memory, ValueSet};
 use cov_tree::{BinsDecl, List, Name};
@@ -195,7 +196,8 @@ pub fn point_bins(
     requires { CanHaveBins domain.now settings }
     ensures { Gives result (bins_of_point scope.now domain.now name.now settings decls.now at) }
 {
-    let mut walked = walk_bins(alloc, scope, domain, name, settings.distribute_first, decls)?;
+    let manner = manner_of(domain, settings, decls);
+    let mut walked = walk_bins(alloc, scope, domain, name, manner, decls)?;
     add_undeclared(alloc, domain, settings, decls, at, &mut walked)?;
     let found = walked_left(alloc, domain, decls, walked)?;
     Ok(found)

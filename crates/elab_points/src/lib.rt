@@ -3,7 +3,6 @@
 #![tactic(auto)]
 
 mod auto;
-mod built;
 mod declared;
 mod filter;
 pub mod laws;
@@ -11,8 +10,8 @@ mod left;
 mod made;
 mod rest;
 mod transitions;
+mod wildcards;
 
-pub use built::is_built;
 pub use declared::{Entry, Walked};
 pub use left::point_bins;
-pub use made::{Head, Plan, Wanted};
+pub use made::{Head, Manner, Plan, Wanted};

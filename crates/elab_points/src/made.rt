@@ -36,6 +36,15 @@ pub struct Head {
     pub declared: Option<u32>,
 }
 
+/// How a point makes bins of values, besides what their declarations say.
+#[derive(Clone, Copy, Debug, PartialEq, Eq)]
+pub struct Manner {
+    /// Whether a filter is applied to each part of `b[n]`, after the numbers are spread.
+    pub distribute: bool,
+    /// Whether scalar wildcard bins keep their patterns.
+    pub patterns: bool,
+}
+
 /// How many bins a declaration asks for: `b`, `b[]`, or `b[n]`.
 #[derive(Clone, Copy, Debug, PartialEq, Eq)]
 pub enum Wanted {

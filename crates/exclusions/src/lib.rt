@@ -9,6 +9,3 @@ mod set;
 pub use faults::{AlreadyExcluded, NotExcluded};
 pub use parents::Parents;
 pub use set::Exclusions;
-
-#[cfg(test)]
-mod tests;

@@ -4,6 +4,3 @@
 mod names;
 
 pub use names::NameMap;
-
-#[cfg(test)]
-mod tests;

@@ -21,6 +21,3 @@ pub fn item(covered: u32, bins: u32) -> u32
     }
     (u64::from(WHOLE) * u64::from(covered) / u64::from(bins)) as u32
 }
-
-#[cfg(test)]
-mod tests;

@@ -85,13 +85,18 @@ any_from p g a (suc k) f low high none at = elim (cases_eq a f) [
       ∙ sym (ap (λ (b : Bool). b || list_any p (map g (range_with_len (a + 1) k))) (none a (omega arith) (omega arith))))
 ]
 
-pub has_product : (sizes words : List ℕ) (count first : ℕ) (meant : List ℕ → Bool) → product_of sizes ≡ count → Marks sizes meant words → first ≤ count
-    → ((n : ℕ) → 0 ≤ n → n < first → is_marked words n ≡ false) → (first < count → is_marked words first ≡ true) → ltb first count ≡ list_any meant (products sizes)
-has_product sizes words count first meant e marks high none at =
-    let wide : count ≤ 64 * length words = let r = room count in omega (arith, r, marks.len ∙ ap word_count e) in
+pub shares_product : (sizes words others : List ℕ) (count first : ℕ) (one two : List ℕ → Bool) → product_of sizes ≡ count → Marks sizes one words → Marks sizes two others → first ≤ count
+    → ((n : ℕ) → 0 ≤ n → n < first → (is_marked words n && is_marked others n) ≡ false) → (first < count → (is_marked words first && is_marked others first) ≡ true)
+    → ltb first count ≡ list_any (λ product. one product && two product) (products sizes)
+shares_product sizes words others count first one two e marks more high none at =
+    let both : List ℕ → Bool = λ product. one product && two product in
+    let r = room count in
+    let wide : count ≤ 64 * length words = omega (arith, r, marks.len ∙ ap word_count e) in
+    let other_wide : count ≤ 64 * length others = omega (arith, r, more.len ∙ ap word_count e) in
     let from : 0 + count ≡ count = omega arith in
-    sym (ap (ltb first) from) ∙ (any_from meant (product_at sizes) 0 count first (omega arith) (omega arith) (λ n le lt. sym (marks.each n (omega arith)) ∙ none n le lt) (λ lt. sym (marks.each first (omega arith)) ∙ at (omega arith))
-    ∙ ap (list_any meant) (ap (λ (k : ℕ). map (product_at sizes) (range_with_len 0 k)) (sym e) ∙ sym (products_numbered sizes)))
+    let same : (n : ℕ) → n < count → both (product_at sizes n) ≡ (is_marked words n && is_marked others n) = λ n lt i. sym (marks.each n (omega arith)) i && sym (more.each n (omega arith)) i in
+    sym (ap (ltb first) from) ∙ (any_from both (product_at sizes) 0 count first (omega arith) (omega arith) (λ n le lt. same n (omega arith) ∙ none n le lt) (λ lt. same first (omega arith) ∙ at (omega arith))
+    ∙ ap (list_any both) (ap (λ (k : ℕ). map (product_at sizes) (range_with_len 0 k)) (sym e) ∙ sym (products_numbered sizes)))
 
 -- ---- the products of a set
 

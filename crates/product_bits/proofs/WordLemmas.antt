@@ -92,10 +92,12 @@ no_stretch was from to n le = sym (or-false was (leb from n && ltb n to) (elim (
 
 -- ---- looking
 
-pub zero_word : (words : List ℕ) (at n : ℕ) → at % 64 ≡ 0 → get_or words (at / 64) 0 ≡ 0 → at ≤ n → n < at + 64 → is_marked words n ≡ false
-zero_word words at n front none le lt =
+pub shared_word : (words others : List ℕ) (at n : ℕ) → at % 64 ≡ 0 → bit_and (get_or words (at / 64) 0) (get_or others (at / 64) 0) ≡ 0 → at ≤ n → n < at + 64
+    → (is_marked words n && is_marked others n) ≡ false
+shared_word words others at n front none le lt =
     let e : n / 64 ≡ at / 64 = omega arith in
-    ap (λ (k : ℕ). has_bit (get_or words k 0) (n % 64)) e ∙ (ap (λ (w : ℕ). has_bit w (n % 64)) none ∙ has-zero (n % 64))
+    ap (λ (k : ℕ). has_bit (get_or words k 0) (n % 64) && has_bit (get_or others k 0) (n % 64)) e
+    ∙ (sym (has-and (get_or words (at / 64) 0) (get_or others (at / 64) 0) (n % 64)) ∙ (ap (λ (w : ℕ). has_bit w (n % 64)) none ∙ has-zero (n % 64)))
 
 zero_words : (n i : ℕ) → ◌≡◌ {A = ℕ} (get_or (replicate n 0) i 0) 0
 zero_words zero i = refl

@@ -10,7 +10,7 @@ ghost use Rattle.product_bits.specs.Marks.{Marks, is_marked, word_count};
 
 use crate::numbers::{product, stride};
 use crate::runs::axis_bits;
-use crate::words::{BITS, first_marked, flip, meet, unite};
+use crate::words::{BITS, first_marked, first_shared, flip, meet, unite};
 use cov_ground::Memory;
 use cov_tree::List;
 use cross_select::Select;
@@ -137,13 +137,15 @@ impl ProductBits {
         flip(self.words.as_mut_slice());
     }
 
-    /// Whether the set has a product, of so many.
-    pub fn has_some(&self, count: u32) -> bool
-        requires { length self.now ≡ word_count count }
-        ensures { (sizes : List ℕ) (meant : List ℕ → Bool) → product_of sizes ≡ count → Marks sizes meant self.now
-            → result ≡ list_any meant (products_of sizes) }
+    /// Whether both sets have a product, of so many.
+    pub fn shares(&self, other: &ProductBits, count: u32) -> bool
+        requires len { length self.now ≡ word_count count }
+        requires other_len { length other.now ≡ word_count count }
+        ensures { (sizes : List ℕ) (one two : List ℕ → Bool) → product_of sizes ≡ count → Marks sizes one self.now
+            → Marks sizes two other.now → result ≡ list_any (λ product. one product && two product) (products_of sizes) }
     {
-        first_marked(self.words.as_slice(), 0, count as usize) < count as usize
+        let count = count as usize;
+        first_shared(self.words.as_slice(), other.words.as_slice(), 0, count) < count
     }
 
     /// Its products in order, if they are `most` at most.

@@ -23,9 +23,14 @@ pub(crate) fn mark(words: &mut [u64], from: usize, to: usize)
     let mut at = from;
     while at < to {
         let word = at / BITS;
-        let end = at + (to - at).min(BITS - at % BITS);
-        words[word] |= bits_between(at % BITS, end - word * BITS);
-        at = end;
+        if at % BITS == 0 && to - at >= BITS {
+            words[word] |= bits_between(0, BITS);
+            at += BITS;
+        } else {
+            let end = at + (to - at).min(BITS - at % BITS);
+            words[word] |= bits_between(at % BITS, end - word * BITS);
+            at = end;
+        }
     }
 }
 
@@ -37,6 +42,38 @@ fn is_marked(words: &[u64], at: usize) -> bool
     (words[at / BITS] >> (at % BITS)) & 1 == 1
 }
 
+/// Whether both have the bit marked.
+fn is_shared(words: &[u64], others: &[u64], at: usize) -> bool
+    requires words { at < 64 * length words.now }
+    requires others { at < 64 * length others.now }
+    ensures { result ≡ (marked_in words.now at && marked_in others.now at) }
+{
+    is_marked(words, at) && is_marked(others, at)
+}
+
+/// The first bit from `from` up to `to` that both words have marked; `to` where none is.
+pub(crate) fn first_shared(words: &[u64], others: &[u64], from: usize, to: usize) -> usize
+    requires order { from ≤ to }
+    requires wide { to ≤ 64 * length words.now }
+    requires other_wide { to ≤ 64 * length others.now }
+    ensures range { (from ≤ result) × (result ≤ to) }
+    ensures before { (n : ℕ) → from ≤ n → n < result
+        → (marked_in words.now n && marked_in others.now n) ≡ false }
+    ensures at { result < to → (marked_in words.now result && marked_in others.now result) ≡ true }
+{
+    let mut at = from;
+    while at < to {
+        if at % BITS == 0 && to - at >= BITS && words[at / BITS] & others[at / BITS] == 0 {
+            at += BITS;
+        } else if !is_shared(words, others, at) {
+            at += 1;
+        } else {
+            return at;
+        }
+    }
+    at
+}
+
 /// The first bit from `from` up to `to` that is marked; `to` where none is.
 pub(crate) fn first_marked(words: &[u64], from: usize, to: usize) -> usize
     requires order { from ≤ to }
@@ -45,17 +82,7 @@ pub(crate) fn first_marked(words: &[u64], from: usize, to: usize) -> usize
     ensures before { (n : ℕ) → from ≤ n → n < result → marked_in words.now n ≡ false }
     ensures at { result < to → marked_in words.now result ≡ true }
 {
-    let mut at = from;
-    while at < to {
-        if at % BITS == 0 && to - at >= BITS && words[at / BITS] == 0 {
-            at += BITS;
-        } else if !is_marked(words, at) {
-            at += 1;
-        } else {
-            return at;
-        }
-    }
-    at
+    first_shared(words, words, from, to)
 }
 
 /// The 64 bits from `from` on, as a word.

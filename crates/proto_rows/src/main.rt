@@ -1,11 +1,12 @@
 //! Worked rows of `cov_proto`: each line of standard input is a call with its arguments, bytes as hexadecimal digits, and is written
-//! again with its answer behind ` =`. The file `stdout` has the answers, written by hand.
+//! again with its answer behind ` =`. A body that is a message is read, and its frame written; of another the place of its first fault
+//! is told. The file `stdout` has the answers, written from the form and not by the program.
 #![tactic(auto)]
 
-ghost use Rattle.std.specs.Prelude.{◌≡◌, ◌+◌, ◌≤◌, ◌<◌, length, vec_len, vec_capacity};
-ghost use Rattle.cov_proto.specs.Frames.{frame, longest_body};
-ghost use Rattle.cov_proto.specs.Limits.{IsReply};
-ghost use Rattle.cov_proto.specs.Spelled.{reply_spelled};
+ghost use Rattle.std.specs.Prelude.{◌≡◌, ◌≤◌, length};
+ghost use Rattle.cov_proto.specs.Frames.{longest_body};
+ghost use Rattle.cov_proto.specs.Limits.{IsRequest, IsReply};
+ghost use Rattle.cov_proto.specs.Spelled.{request_spelled, reply_spelled};
 
 use cov_proto::{
     Body, FrameStep, LONGEST_BODY, Reply, Request, RequestFault, next_frame, read_reply,
@@ -38,60 +39,69 @@ fn show_fault<R: Print>(rt: &R, fault: RequestFault) -> Option<()> {
     }
 }
 
+/// The frame of a request.
+fn show_request_frame<R: Print>(rt: &R, alloc: Global, request: &Request) -> Option<()>
+    requires spelled { IsRequest request.now }
+    requires short { length (request_spelled request.now) ≤ longest_body }
+{
+    let mut out = Vec::new(alloc);
+    write_request(request, &mut out).ok()?;
+    show_bytes(rt, alloc, out.as_slice())
+}
+
+/// The frame of the request that the body spells.
 fn show_request<R: Print>(rt: &R, alloc: Global, body: &[u8]) -> Option<()> {
     if body.len() > LONGEST_BODY as usize {
         return None;
     }
     match read_request(alloc, body) {
-        Ok(_) => print!(rt; " request").ok(),
+        Ok(request) => show_request_frame(rt, alloc, &request),
         Err(fault) => show_fault(rt, fault),
     }
 }
 
+/// The frame of a reply, whose body has so many bytes.
+fn show_reply_frame<R: Print>(rt: &R, alloc: Global, reply: &Reply, size: usize) -> Option<()>
+    requires spelled { IsReply reply.now }
+    requires size { length (reply_spelled reply.now) ≡ size }
+    requires short { size ≤ longest_body }
+{
+    let mut out = Vec::with_capacity(alloc, size + 4).ok()?;
+    write_reply(reply, &mut out);
+    show_bytes(rt, alloc, out.as_slice())
+}
+
+/// The frame of the reply that the body spells.
 fn show_reply<R: Print>(rt: &R, alloc: Global, body: &[u8]) -> Option<()> {
     if body.len() > LONGEST_BODY as usize {
         return None;
     }
     match read_reply(alloc, body) {
-        Ok(reply) => print!(rt; " reply at {}", reply.point).ok(),
+        Ok(reply) => show_reply_frame(rt, alloc, &reply, body.len()),
         Err(fault) => show_fault(rt, fault),
     }
 }
 
 #[tactic(auto, unfolding(cov_proto::specs::Spelled::request_spelled))]
 fn show_hello<R: Print>(rt: &R, alloc: Global, point: u64) -> Option<()> {
-    let mut out = Vec::new(alloc);
-    write_request(&Request::Hello { point }, &mut out).ok()?;
-    show_bytes(rt, alloc, out.as_slice())
+    show_request_frame(rt, alloc, &Request::Hello { point })
 }
 
 #[tactic(auto, unfolding(cov_proto::specs::Spelled::request_spelled))]
 fn show_bye<R: Print>(rt: &R, alloc: Global) -> Option<()> {
-    let mut out = Vec::new(alloc);
-    write_request(&Request::Bye, &mut out).ok()?;
-    show_bytes(rt, alloc, out.as_slice())
-}
-
-/// The frame of a short reply.
-fn show_frame<R: Print>(rt: &R, alloc: Global, reply: &Reply) -> Option<()>
-    requires spelled { IsReply reply.now }
-    requires short { length (reply_spelled reply.now) ≤ 60 }
-{
-    let mut out = Vec::with_capacity(alloc, 64).ok()?;
-    write_reply(reply, &mut out);
-    show_bytes(rt, alloc, out.as_slice())
+    show_request_frame(rt, alloc, &Request::Bye)
 }
 
 #[tactic(auto, unfolding(cov_proto::specs::Spelled::reply_spelled, cov_proto::specs::Spelled::body_fields, cov_proto::specs::Spelled::answer_fields))]
 fn show_welcome<R: Print>(rt: &R, alloc: Global, bins: u32) -> Option<()> {
     let body = Body::Store(Answer::Welcome { bins });
-    show_frame(rt, alloc, &Reply { point: 0, body })
+    show_reply_frame(rt, alloc, &Reply { point: 0, body }, 13)
 }
 
 #[tactic(auto, unfolding(cov_proto::specs::Spelled::reply_spelled, cov_proto::specs::Spelled::body_fields, cov_proto::specs::Spelled::answer_fields))]
 fn show_farewell<R: Print>(rt: &R, alloc: Global) -> Option<()> {
     let body = Body::Farewell;
-    show_frame(rt, alloc, &Reply { point: 0, body })
+    show_reply_frame(rt, alloc, &Reply { point: 0, body }, 9)
 }
 
 fn answer_bytes<R: Print>(rt: &R, alloc: Global, call: &str, digits: &str) -> Option<()> {

@@ -8,6 +8,3 @@ mod ranking;
 
 pub use lines::rank_lines;
 pub use ranking::rank;
-
-#[cfg(test)]
-mod tests;

@@ -22,6 +22,3 @@ pub use encoding::encode;
 pub use fault::RecordFault;
 pub use making::{MakeFault, PushFault, StartFault, checked_record};
 pub use record::{ArgRow, Event, Fields, InstRow, Record, SignalRow, Start};
-
-#[cfg(test)]
-mod tests;

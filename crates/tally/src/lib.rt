@@ -6,6 +6,3 @@ mod tally;
 
 pub use ranked::Ranked;
 pub use tally::Tally;
-
-#[cfg(test)]
-mod tests;

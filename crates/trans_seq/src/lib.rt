@@ -16,6 +16,3 @@ pub use listing::{expand, expand_all};
 pub use seq::{Item, Repeat, Seq};
 pub use size::{cells, cells_of_items, cells_of_seqs};
 pub use windows::{is_inside, window_in};
-
-#[cfg(test)]
-mod tests;

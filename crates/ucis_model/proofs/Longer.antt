@@ -15,17 +15,17 @@ use Rattle.ucis_model.specs.Nodes.{bins_of, own_of, bin_node, item_node, instanc
 push_longer : (before : List Node) (node : Node) → length before ≤ length (before ++ node ∷ [])
 push_longer before node = let e = length_push before node in omega (arith, e)
 
-pub bins_longer : (parent next : ℕ) (bins : List BinInfo) (before : List Node) → length before ≤ length (with_bins parent next bins before)
-bins_longer parent next [] before = omega arith
-bins_longer parent next (bin ∷ bins) before =
-    let h = push_longer before (bin_node parent next bin) in
-    let g = bins_longer parent (next + 1) bins (before ++ bin_node parent next bin ∷ []) in omega (arith, h, g)
+pub bins_longer : (parent at_least next : ℕ) (bins : List BinInfo) (before : List Node) → length before ≤ length (with_bins parent at_least next bins before)
+bins_longer parent at_least next [] before = omega arith
+bins_longer parent at_least next (bin ∷ bins) before =
+    let h = push_longer before (bin_node parent at_least next bin) in
+    let g = bins_longer parent at_least (next + 1) bins (before ++ bin_node parent at_least next bin ∷ []) in omega (arith, h, g)
 
 pub item_longer : (parent next : ℕ) (item : ItemInfo) (before : List Node) → length before ≤ length (with_item parent next item before)
 unfolding with_item
 item_longer parent next item before =
     let h = push_longer before (item_node parent next item) in
-    let g = bins_longer (length before) next item.bins (before ++ item_node parent next item ∷ []) in omega (arith, h, g)
+    let g = bins_longer (length before) item.at_least next item.bins (before ++ item_node parent next item ∷ []) in omega (arith, h, g)
 
 pub items_longer : (parent next : ℕ) (items : List ItemInfo) (before : List Node) → length before ≤ length (with_items parent next items before)
 items_longer parent next [] before = omega arith

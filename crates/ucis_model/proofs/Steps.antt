@@ -19,9 +19,9 @@ next_is xs i x lt is = drop-cons xs i x lt ∙ rw (add-one, ← is) refl
 
 -- ---- bins
 
-pub more_bins : (parent next : ℕ) (bins : List BinInfo) (i : ℕ) (bin : BinInfo) (nodes new whole : List Node) → i < length bins → bin ≡ get_or bins i bin → new ≡ nodes ++ bin_node parent next bin ∷ []
-    → with_bins parent next (drop i bins) nodes ≡ whole → with_bins parent (next + 1) (drop (i + 1) bins) new ≡ whole
-more_bins parent next bins i bin nodes new whole lt is e h = rw e (ap (λ (bs : List BinInfo). with_bins parent next bs nodes) (sym (next_is bins i bin lt is)) ∙ h)
+pub more_bins : (parent at_least next : ℕ) (bins : List BinInfo) (i : ℕ) (bin : BinInfo) (nodes new whole : List Node) → i < length bins → bin ≡ get_or bins i bin → new ≡ nodes ++ bin_node parent at_least next bin ∷ []
+    → with_bins parent at_least next (drop i bins) nodes ≡ whole → with_bins parent at_least (next + 1) (drop (i + 1) bins) new ≡ whole
+more_bins parent at_least next bins i bin nodes new whole lt is e h = rw e (ap (λ (bs : List BinInfo). with_bins parent at_least next bs nodes) (sym (next_is bins i bin lt is)) ∙ h)
 
 -- ---- items
 
@@ -117,11 +117,11 @@ group_alone next group [] nodes e = refl
 group_alone next group (inst ∷ insts) nodes e = absurd cc
 
 pub group_whole : (next bins : ℕ) (group : GroupInfo) (own : List InstInfo) (nodes new : List Node) → has_some own ≡ true → bins ≡ bins_of own
-    → new ≡ with_instances (length nodes) next own (nodes ++ record { kind = kinds.CoverGroup; name = group.name; parent = 0; first_bin = next; bins = bins } ∷ [])
+    → new ≡ with_instances (length nodes) next own (nodes ++ record { kind = kinds.CoverGroup; name = group.name; parent = 0; first_bin = next; bins = bins; weight = group.weight; type_weight = 1; goal = group.goal; at_least = 1; merge = group.merge } ∷ [])
     → new ≡ with_group next group own nodes
 unfolding with_group
 group_whole next bins group [] nodes new e is made = absurd cc
-group_whole next bins group (inst ∷ insts) nodes new e is made = made ∙ ap (λ (n : ℕ). with_instances (length nodes) next (inst ∷ insts) (nodes ++ record { kind = kinds.CoverGroup; name = group.name; parent = 0; first_bin = next; bins = n } ∷ [])) is
+group_whole next bins group (inst ∷ insts) nodes new e is made = made ∙ ap (λ (n : ℕ). with_instances (length nodes) next (inst ∷ insts) (nodes ++ record { kind = kinds.CoverGroup; name = group.name; parent = 0; first_bin = next; bins = n; weight = group.weight; type_weight = 1; goal = group.goal; at_least = 1; merge = group.merge } ∷ [])) is
 
 pub more_groups : (next bins : ℕ) (insts : List InstInfo) (groups : List GroupInfo) (i : ℕ) (group : GroupInfo) (nodes new whole : List Node) → i < length groups → group ≡ get_or groups i group → new ≡ with_group next group (own_of insts i) nodes → bins ≡ bins_of (own_of insts i)
     → with_groups next insts i (drop i groups) nodes ≡ whole → with_groups (next + bins) insts (i + 1) (drop (i + 1) groups) new ≡ whole

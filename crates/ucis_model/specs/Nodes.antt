@@ -16,36 +16,37 @@ use Rattle.ucis_model.specs.declared.node.NodeKind.TheVariants as kinds
 -- ---- single nodes; `next` is the number of the next bin
 
 abbrev pub root_node : (bins : ℕ) → Node
-root_node bins = record { kind = kinds.Root; name = []; parent = 0; first_bin = 0; bins = bins }
+root_node bins = record { kind = kinds.Root; name = []; parent = 0; first_bin = 0; bins = bins; weight = 1; type_weight = 1; goal = 100; at_least = 1; merge = false }
 
 -- how many bins instances have
 abbrev pub bins_of : List InstInfo → ℕ
 bins_of instances = total (λ inst. bins_in inst.items) instances
 
 abbrev pub group_node : (next : ℕ) → GroupInfo → (own : List InstInfo) → Node
-group_node next group own = record { kind = kinds.CoverGroup; name = group.name; parent = 0; first_bin = next; bins = bins_of own }
+group_node next group own = record { kind = kinds.CoverGroup; name = group.name; parent = 0; first_bin = next; bins = bins_of own; weight = group.weight; type_weight = 1; goal = group.goal; at_least = 1; merge = group.merge }
 
 abbrev pub instance_node : (parent next : ℕ) → InstInfo → Node
-instance_node parent next inst = record { kind = kinds.CoverInstance; name = inst.name; parent = parent; first_bin = next; bins = bins_in inst.items }
+instance_node parent next inst = record { kind = kinds.CoverInstance; name = inst.name; parent = parent; first_bin = next; bins = bins_in inst.items; weight = inst.weight; type_weight = 1; goal = inst.goal; at_least = 1; merge = false }
 
 abbrev pub kind_of : ItemShape → NodeKind
 kind_of (shape.Point expr) = kinds.CoverPoint
 kind_of (shape.Cross axes) = kinds.Cross
 
 abbrev pub item_node : (parent next : ℕ) → ItemInfo → Node
-item_node parent next item = record { kind = kind_of item.shape; name = item.name; parent = parent; first_bin = next; bins = length item.bins }
+item_node parent next item = record { kind = kind_of item.shape; name = item.name; parent = parent; first_bin = next; bins = length item.bins; weight = item.weight; type_weight = item.type_weight; goal = item.goal; at_least = item.at_least; merge = false }
 
-abbrev pub bin_node : (parent next : ℕ) → BinInfo → Node
-bin_node parent next bin = record { kind = kinds.Bin bin.kind; name = bin.name; parent = parent; first_bin = next; bins = 1 }
+-- a bin of an item whose bins have to be hit so often
+abbrev pub bin_node : (parent at_least next : ℕ) → BinInfo → Node
+bin_node parent at_least next bin = record { kind = kinds.Bin bin.kind; name = bin.name; parent = parent; first_bin = next; bins = 1; weight = 1; type_weight = 1; goal = 100; at_least = at_least; merge = false }
 
 -- ---- nodes behind those that stand before them; a node's place is how many stand before it
 
-abbrev pub with_bins : (parent next : ℕ) → List BinInfo → (before : List Node) → List Node
-with_bins parent next [] before = before
-with_bins parent next (bin ∷ bins) before = with_bins parent (next + 1) bins (before ++ bin_node parent next bin ∷ [])
+abbrev pub with_bins : (parent at_least next : ℕ) → List BinInfo → (before : List Node) → List Node
+with_bins parent at_least next [] before = before
+with_bins parent at_least next (bin ∷ bins) before = with_bins parent at_least (next + 1) bins (before ++ bin_node parent at_least next bin ∷ [])
 
 unfoldable pub with_item : (parent next : ℕ) → ItemInfo → (before : List Node) → List Node
-with_item parent next item before = with_bins (length before) next item.bins (before ++ item_node parent next item ∷ [])
+with_item parent next item before = with_bins (length before) item.at_least next item.bins (before ++ item_node parent next item ∷ [])
 
 abbrev pub with_items : (parent next : ℕ) → List ItemInfo → (before : List Node) → List Node
 with_items parent next [] before = before

@@ -16,11 +16,12 @@ fn add_bin(
     alloc: Global,
     nodes: &mut Nodes,
     parent: u32,
+    at_least: u32,
     next: u32,
     bin: &BinInfo,
 ) -> Result<(), Memory>
     requires { parent < length nodes.old }
-    ensures { OnOk result (nodes.new ≡ nodes.old ++ bin_node parent next bin.now ∷ []) }
+    ensures { OnOk result (nodes.new ≡ nodes.old ++ bin_node parent at_least next bin.now ∷ []) }
 {
     let node = Node {
         kind: NodeKind::Bin(bin.kind),
@@ -28,6 +29,11 @@ fn add_bin(
         parent,
         first_bin: next,
         bins: 1,
+        weight: 1,
+        type_weight: 1,
+        goal: 100,
+        at_least,
+        merge: false,
     };
     nodes.add(node)
 }
@@ -37,16 +43,17 @@ fn add_bins(
     alloc: Global,
     nodes: &mut Nodes,
     parent: u32,
+    at_least: u32,
     first: u32,
     bins: &[BinInfo],
 ) -> Result<(), Memory>
     requires parent { parent < length nodes.old }
     requires few { first + length bins.now ≤ most_design_bins }
-    ensures { OnOk result (nodes.new ≡ with_bins parent first bins.now nodes.old) }
+    ensures { OnOk result (nodes.new ≡ with_bins parent at_least first bins.now nodes.old) }
 {
     let mut next = first;
     for bin in bins {
-        add_bin(alloc, nodes, parent, next, bin)?;
+        add_bin(alloc, nodes, parent, at_least, next, bin)?;
         next += 1;
     }
     Ok(())
@@ -72,6 +79,11 @@ fn item(alloc: Global, parent: u32, next: u32, item: &ItemInfo) -> Result<Node, 
         parent,
         first_bin: next,
         bins: item.bins.as_slice().len() as u32,
+        weight: item.weight,
+        type_weight: item.type_weight,
+        goal: item.goal,
+        at_least: item.at_least,
+        merge: false,
     })
 }
 
@@ -90,7 +102,14 @@ fn add_item(
 {
     let place = nodes.len();
     nodes.add(item(alloc, parent, next, found)?)?;
-    add_bins(alloc, nodes, place, next, found.bins.as_slice())
+    add_bins(
+        alloc,
+        nodes,
+        place,
+        found.at_least,
+        next,
+        found.bins.as_slice(),
+    )
 }
 
 /// The items of an instance.
@@ -145,6 +164,11 @@ fn add_instance(
         parent,
         first_bin: next,
         bins: bins_of_items(inst.items.as_slice()),
+        weight: inst.weight,
+        type_weight: 1,
+        goal: inst.goal,
+        at_least: 1,
+        merge: false,
     };
     nodes.add(node)?;
     add_items(alloc, nodes, place, next, inst.items.as_slice())
@@ -251,6 +275,11 @@ fn add_group(
         parent: 0,
         first_bin: next,
         bins,
+        weight: group.weight,
+        type_weight: 1,
+        goal: group.goal,
+        at_least: 1,
+        merge: group.merge,
     };
     nodes.add(node)?;
     add_instances(alloc, nodes, at, next, instances, place)
@@ -287,6 +316,11 @@ pub fn tree(alloc: Global, design: &Design) -> Result<Tree, Memory>
         parent: 0,
         first_bin: 0,
         bins: design.bin_count(),
+        weight: 1,
+        type_weight: 1,
+        goal: 100,
+        at_least: 1,
+        merge: false,
     };
     let mut nodes = Nodes::new(alloc, root)?;
     add_groups(alloc, &mut nodes, design.instances(), design.groups())?;

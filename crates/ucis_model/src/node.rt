@@ -31,4 +31,16 @@ pub struct Node {
     pub first_bin: u32,
     /// How many bins are under it; a bin counts itself.
     pub bins: u32,
+    /// How much it weighs in the mean above it: `type_option.weight` of a group, `option.weight` of an instance or an
+    /// item (19.7); 1 for the root and for a bin.
+    pub weight: u32,
+    /// `type_option.weight` of an item, which counts where instances are merged; 1 for all others.
+    pub type_weight: u32,
+    /// Its goal in per cent: `type_option.goal` of a group, `option.goal` of an instance or an item; 100 for the root
+    /// and for a bin.
+    pub goal: u32,
+    /// How often a bin of the item has to be hit to be covered, and the same for its bins; 1 for all others.
+    pub at_least: u32,
+    /// `type_option.merge_instances` of a group; false for all others.
+    pub merge: bool,
 }

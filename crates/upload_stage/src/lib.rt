@@ -8,6 +8,3 @@ mod stage;
 
 pub use fault::StageFault;
 pub use stage::Stage;
-
-#[cfg(test)]
-mod tests;

@@ -15,6 +15,3 @@ pub use distinct::singles;
 pub use elems::Elems;
 pub use faults::{FilterFault, SpreadFault};
 pub use filter::filter_with;
-
-#[cfg(test)]
-mod tests;

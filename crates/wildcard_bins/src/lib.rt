@@ -9,6 +9,3 @@ mod ranges;
 
 pub use fault::PatternFault;
 pub use pattern::Pattern;
-
-#[cfg(test)]
-mod tests;

@@ -1,6 +1,6 @@
 //! The search for the interval of a number.
 ghost use Rattle.std.specs.Prelude.{◌≡◌, ℕ, ◌<◌, ◌≤◌, ◌<ℤ◌, ◌≤ℤ◌, pos, int_le, length, if◌then◌else◌, ◌↔◌, IsTrue};
-ghost use Rattle.cov_spec.specs.Coverage.{InRanges};
+ghost use Rattle.cov_spec.specs.Ranges.{InRanges};
 ghost use Rattle.cov_base.specs.Sets.{IsNormalForm, is_in, written};
 ghost use Rattle.cov_base.specs.Intervals.{low_at, Ascends};
 

@@ -14,4 +14,4 @@ pub returns-in_err-sequences : goal.returns-in_err-sequences
 returns-in_err-sequences c = exits _ _ _ _ _ c.from_residual.ensures.1 ((rather_seqs c.args.text.now c.args.tokens.now _ _ _ (ap not (sym c.is_fixed.ensures ∙ c.if-is_fixed.false)) c.in-Some.ensures.here).fails c.in_err-sequences.ensures)
 
 pub returns : goal.returns
-returns c = (rather_seqs c.args.text.now c.args.tokens.now _ _ _ (ap not (sym c.is_fixed.ensures ∙ c.if-is_fixed.false)) c.in-Some.ensures.here).reads c.in_ok-sequences.ensures
+returns c = rw c.of.ensures ((rather_seqs c.args.text.now c.args.tokens.now _ _ _ (ap not (sym c.is_fixed.ensures ∙ c.if-is_fixed.false)) c.in-Some.ensures.here).reads c.in_ok-sequences.ensures)

@@ -9,21 +9,20 @@ use Rattle.cov_parser.proofs.GroupWalks.{is_of, is_not_of, body_semi, no_body, b
 use Rattle.cov_parser.proofs.crosses.body.Goals as goal
 
 pub returns-in-Some : goal.returns-in-Some
-returns-in-Some c = rw (c.of-in-Some.ensures, c.of.ensures, c.new-options.ensures.items, c.new-declarations.ensures.items) (body_semi c.args.text.now c.args.tokens.now (cross_bins c.args.text.now c.args.tokens.now) (cross_bins_lawful c.args.text.now c.args.tokens.now) (cross_entry_lawful c.args.text.now c.args.tokens.now) refl refl refl c.in-Some.ensures.here (c.in-Some.ensures.some _))
+returns-in-Some c = rw (c.new-options.ensures, c.new-declarations.ensures) (body_semi c.args.text.now c.args.tokens.now (cross_bins c.args.text.now c.args.tokens.now) (cross_bins_lawful c.args.text.now c.args.tokens.now) (cross_entry_lawful c.args.text.now c.args.tokens.now) refl refl refl c.in-Some.ensures.here (c.in-Some.ensures.some _))
 
 pub returns-in_err-at : goal.returns-in_err-at
 returns-in_err-at c = exits _ _ _ _ _ c.from_residual.ensures.1 (no_body c.args.text.now c.args.tokens.now (cross_bins c.args.text.now c.args.tokens.now) (cross_bins_lawful c.args.text.now c.args.tokens.now) (cross_entry_lawful c.args.text.now c.args.tokens.now) refl refl refl c.in_default.ensures.none (c.in_err-at.ensures _))
 
 pub loop-token-init : goal.loop-token-init
-loop-token-init c = rw (c.new-options.ensures.items, c.new-declarations.ensures.items) (body_opens c.args.text.now c.args.tokens.now (cross_bins c.args.text.now c.args.tokens.now) (cross_bins_lawful c.args.text.now c.args.tokens.now) (cross_entry_lawful c.args.text.now c.args.tokens.now) refl refl refl c.in_default.ensures.none (c.in_ok-at.ensures _))
+loop-token-init c = rw (c.new-options.ensures, c.new-declarations.ensures) (body_opens c.args.text.now c.args.tokens.now (cross_bins c.args.text.now c.args.tokens.now) (cross_bins_lawful c.args.text.now c.args.tokens.now) (cross_entry_lawful c.args.text.now c.args.tokens.now) refl refl refl c.in_default.ensures.none (c.in_ok-at.ensures _))
 
 pub returns-in_err-option : goal.returns-in_err-option
 returns-in_err-option c = exits _ _ _ _ _ c.from_residual-in_err-option.ensures.1
     (option_fails c.args.text.now c.args.tokens.now (cross_bins c.args.text.now c.args.tokens.now) (cross_bins_lawful c.args.text.now c.args.tokens.now) (cross_entry_lawful c.args.text.now c.args.tokens.now) refl refl refl refl refl _ _ c.loop-token.invariant (is_of _ _ option_words (c.in-Some-take.ensures.some c.args.room) (sym c.is_one_of.ensures ∙ c.if-is_one_of.true)) c.in_err-option.ensures)
 
 pub loop-token-preserved-then-is_one_of : goal.loop-token-preserved-then-is_one_of
-loop-token-preserved-then-is_one_of c = rw c.in_ok-push.ensures.items
-    (option_read c.args.text.now c.args.tokens.now (cross_bins c.args.text.now c.args.tokens.now) (cross_bins_lawful c.args.text.now c.args.tokens.now) (cross_entry_lawful c.args.text.now c.args.tokens.now) refl refl refl refl refl _ _ c.loop-token.invariant (is_of _ _ option_words (c.in-Some-take.ensures.some c.args.room) (sym c.is_one_of.ensures ∙ c.if-is_one_of.true)) c.in_ok-option.ensures)
+loop-token-preserved-then-is_one_of c = rw c.in_ok-add.ensures (option_read c.args.text.now c.args.tokens.now (cross_bins c.args.text.now c.args.tokens.now) (cross_bins_lawful c.args.text.now c.args.tokens.now) (cross_entry_lawful c.args.text.now c.args.tokens.now) refl refl refl refl refl _ _ c.loop-token.invariant (is_of _ _ option_words (c.in-Some-take.ensures.some c.args.room) (sym c.is_one_of.ensures ∙ c.if-is_one_of.true)) c.in_ok-option.ensures)
 
 pub loop-token-smaller-then-is_one_of : goal.loop-token-smaller-then-is_one_of
 loop-token-smaller-then-is_one_of c = entry_falls c.args.text.now c.args.tokens.now (optset_lawful c.args.text.now c.args.tokens.now) refl c.in_ok-option.ensures
@@ -34,8 +33,7 @@ returns-in_err-declaration c = exits _ _ _ _ _ c.from_residual-in_err-declaratio
     (In_apart _ _ (OptionWord ∷ TypeOptionWord ∷ BinsWord ∷ IllegalBinsWord ∷ IgnoreBinsWord ∷ []) (CloseBrace ∷ []) refl c.in-Some-take.ensures.here) c.in_err-declaration.ensures)
 
 pub loop-token-preserved : goal.loop-token-preserved
-loop-token-preserved c = rw c.in_ok-push-2.ensures.items
-    (bins_read c.args.text.now c.args.tokens.now (cross_bins c.args.text.now c.args.tokens.now) (cross_bins_lawful c.args.text.now c.args.tokens.now) (cross_entry_lawful c.args.text.now c.args.tokens.now) refl refl refl refl refl _ _ c.loop-token.invariant (is_not_of _ _ option_words (c.in-Some-take.ensures.some c.args.room) (sym c.is_one_of.ensures ∙ c.if-is_one_of.false)) c.in_ok-declaration.ensures)
+loop-token-preserved c = rw c.in_ok-add-2.ensures (bins_read c.args.text.now c.args.tokens.now (cross_bins c.args.text.now c.args.tokens.now) (cross_bins_lawful c.args.text.now c.args.tokens.now) (cross_entry_lawful c.args.text.now c.args.tokens.now) refl refl refl refl refl _ _ c.loop-token.invariant (is_not_of _ _ option_words (c.in-Some-take.ensures.some c.args.room) (sym c.is_one_of.ensures ∙ c.if-is_one_of.false)) c.in_ok-declaration.ensures)
 
 pub loop-token-smaller : goal.loop-token-smaller
 loop-token-smaller c = entry_falls c.args.text.now c.args.tokens.now (cross_bins_lawful c.args.text.now c.args.tokens.now) refl c.in_ok-declaration.ensures
@@ -45,5 +43,5 @@ returns-in_err-after c = exits _ _ _ _ _ c.from_residual-in_err-after.ensures.1
     ((body_closes c.args.text.now c.args.tokens.now (cross_bins c.args.text.now c.args.tokens.now) (cross_bins_lawful c.args.text.now c.args.tokens.now) (cross_entry_lawful c.args.text.now c.args.tokens.now) refl refl refl _ c.loop-token.invariant c.in_default-take.ensures.none).fails (c.in_err-after.ensures _))
 
 pub returns : goal.returns
-returns c = rw (c.of-3.ensures, c.of-2.ensures)
+returns c =
     ((body_closes c.args.text.now c.args.tokens.now (cross_bins c.args.text.now c.args.tokens.now) (cross_bins_lawful c.args.text.now c.args.tokens.now) (cross_entry_lawful c.args.text.now c.args.tokens.now) refl refl refl _ c.loop-token.invariant c.in_default-take.ensures.none).reads (c.in_ok-after.ensures _))

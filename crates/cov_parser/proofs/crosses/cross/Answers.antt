@@ -17,5 +17,4 @@ returns-in_err-options c = exits _ _ _ _ _ c.from_residual-in_err-options.ensure
     ((cross_steps _ _ c.args.start c.args.label ((cross_guards _ _ (c.in_ok-at.ensures _) (c.in_ok-points.ensures _)).reads c.in_ok-guard.ensures)).fails c.in_err-options.ensures)
 
 pub returns : goal.returns
-returns c =
-    (cross_steps _ _ c.args.start c.args.label ((cross_guards _ _ (c.in_ok-at.ensures _) (c.in_ok-points.ensures _)).reads c.in_ok-guard.ensures)).reads c.in_ok-options.ensures
+returns c = rw (c.of.ensures, c.put.ensures, c.put-2.ensures) ((cross_steps _ _ c.args.start c.args.label ((cross_guards _ _ (c.in_ok-at.ensures _) (c.in_ok-points.ensures _)).reads c.in_ok-guard.ensures)).reads c.in_ok-options.ensures)

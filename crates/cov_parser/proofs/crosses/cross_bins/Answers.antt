@@ -23,5 +23,4 @@ returns-in_err-after c = exits _ _ _ _ _ c.from_residual-in_err-after.ensures.1
     ((cross_rests _ _ (c.in-Some.ensures.some _)).fails ((named_ends _ _ (named_selects _ _ (c.in_ok-name.ensures _) (c.in_ok-at.ensures _) c.in_ok-sel.ensures) c.in_ok-guard.ensures).fails (c.in_err-after.ensures _)))
 
 pub returns : goal.returns
-returns c =
-    rw c.bins_word_of.ensures ((cross_rests _ _ (c.in-Some.ensures.some _)).reads ((named_ends _ _ (named_selects _ _ (c.in_ok-name.ensures _) (c.in_ok-at.ensures _) c.in_ok-sel.ensures) c.in_ok-guard.ensures).reads (c.in_ok-after.ensures _)))
+returns c = rw (c.of.ensures, c.put.ensures, c.put-2.ensures, c.bins_word_of.ensures) ((cross_rests _ _ (c.in-Some.ensures.some _)).reads ((named_ends _ _ (named_selects _ _ (c.in_ok-name.ensures _) (c.in_ok-at.ensures _) c.in_ok-sel.ensures) c.in_ok-guard.ensures).reads (c.in_ok-after.ensures _)))

@@ -17,7 +17,7 @@ pub returns-in_err-second : goal.returns-in_err-second
 returns-in_err-second c = λ r. exits _ r _ _ _ c.from_residual-in_err-second.ensures.1 (no_second _ _ (c.in_ok-first.ensures r) (c.in_ok-at.ensures r) (c.in_err-second.ensures r))
 
 pub loop-next-init : goal.loop-next-init
-loop-next-init c = λ r. rw (c.in_ok-push-2.ensures.items, c.in_ok-push.ensures.items, c.new-names.ensures.items) (two_names _ _ (c.in_ok-first.ensures r) (c.in_ok-at.ensures r) (c.in_ok-second.ensures r))
+loop-next-init c = λ r. rw (c.in_ok-push-2.ensures, c.in_ok-push.ensures, c.new-names.ensures) (two_names _ _ (c.in_ok-first.ensures r) (c.in_ok-at.ensures r) (c.in_ok-second.ensures r))
 
 pub returns-in_err-name : goal.returns-in_err-name
 returns-in_err-name c = λ r. exits _ r _ _ _ c.from_residual-in_err-name.ensures.1 (name_fails _ _ _ (c.loop-next.invariant r) (c.in-Some.ensures.some r) (c.in_err-name.ensures r))
@@ -28,7 +28,7 @@ loop-next-smaller c =
     item_falls (ident_lawful c.args.text.now c.args.tokens.now) (Comma ∷ []) (c.in-Some.ensures.some r) refl (c.in_ok-name.ensures r)
 
 pub loop-next-preserved : goal.loop-next-preserved
-loop-next-preserved c = λ r. rw c.in_ok-push-3.ensures.items (name_read _ _ _ (c.loop-next.invariant r) (c.in-Some.ensures.some r) (c.in_ok-name.ensures r))
+loop-next-preserved c = λ r. rw c.in_ok-push-3.ensures (name_read _ _ _ (c.loop-next.invariant r) (c.in-Some.ensures.some r) (c.in_ok-name.ensures r))
 
 pub returns : goal.returns
-returns c = λ r. rw c.of.ensures (names_end _ _ _ (c.loop-next.invariant r) c.in_default.ensures.none)
+returns c = λ r. names_end _ _ _ (c.loop-next.invariant r) c.in_default.ensures.none

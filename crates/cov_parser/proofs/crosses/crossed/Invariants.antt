@@ -4,7 +4,7 @@ use Rattle.cov_parser.proofs.GroupWalks.{Names}
 use Rattle.cov_parser.proofs.crosses.crossed.Given as goal
 
 abbrev pub invariant-loop-next : goal.invariant-loop-next
-invariant-loop-next l = (r : Room) → Names l.text l.tokens r l.fn.place l.names.items l.at
+invariant-loop-next l = (r : Room) → Names l.text l.tokens r l.fn.place l.names l.at
 
 abbrev pub decreases-loop-next : goal.decreases-loop-next
 decreases-loop-next l = length l.tokens - l.at.at

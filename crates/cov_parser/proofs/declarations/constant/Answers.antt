@@ -9,4 +9,4 @@ pub returns-in_err-value : goal.returns-in_err-value
 returns-in_err-value c = exits _ _ _ _ _ c.from_residual-in_err-value.ensures.1 ((constant_values _ _ (c.in_ok-name.ensures _)).fails c.in_err-value.ensures)
 
 pub returns : goal.returns
-returns c = (constant_values _ _ (c.in_ok-name.ensures _)).reads c.in_ok-value.ensures
+returns c = rw (c.of.ensures, c.put.ensures) ((constant_values _ _ (c.in_ok-name.ensures _)).reads c.in_ok-value.ensures)

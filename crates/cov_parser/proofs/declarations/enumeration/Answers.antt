@@ -27,5 +27,4 @@ pub returns-in_err-after : goal.returns-in_err-after
 returns-in_err-after c = exits _ _ _ _ _ c.from_residual-in_err-after.ensures.1 ((enum_ends _ _ (c.in_ok-typedef.ensures _) ((body_closes _ _ (c.in_ok-typed.ensures _) c.in_ok-base.ensures (c.in_ok-opened.ensures _) c.in_ok-names.ensures).reads (c.in_ok-closed.ensures _)) (c.in_ok-name.ensures _)).fails (c.in_err-after.ensures _))
 
 pub returns : goal.returns
-returns c = rw (c.of.ensures, c.in_ok-push.ensures.items, c.new-decls.ensures.items)
-    ((enum_ends _ _ (c.in_ok-typedef.ensures _) ((body_closes _ _ (c.in_ok-typed.ensures _) c.in_ok-base.ensures (c.in_ok-opened.ensures _) c.in_ok-names.ensures).reads (c.in_ok-closed.ensures _)) (c.in_ok-name.ensures _)).reads (c.in_ok-after.ensures _))
+returns c = rw (c.in_ok-alone.ensures, c.of-enumeration.ensures, c.put.ensures) ((enum_ends _ _ (c.in_ok-typedef.ensures _) ((body_closes _ _ (c.in_ok-typed.ensures _) c.in_ok-base.ensures (c.in_ok-opened.ensures _) c.in_ok-names.ensures).reads (c.in_ok-closed.ensures _)) (c.in_ok-name.ensures _)).reads (c.in_ok-after.ensures _))

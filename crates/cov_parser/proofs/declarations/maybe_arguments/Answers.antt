@@ -1,12 +1,12 @@
-use Rattle.std.proofs.Common.{Some, None, refl, ◌∙◌}
+use Rattle.std.proofs.Common.{Some, None, refl}
 use Rattle.cov_parser.proofs.DeclWalks.{no_arguments, arguments_empty, arguments_fail, arguments_close, err_given}
 use Rattle.cov_parser.proofs.declarations.maybe_arguments.Goals as goal
 
 pub returns-in_default-clause-read : goal.returns-in_default-clause-read
-returns-in_default-clause-read c = (None, no_arguments c.args.text.now c.args.tokens.now c.in_default.ensures.none, c.of.ensures ∙ c.new.ensures.items)
+returns-in_default-clause-read c = (None, no_arguments c.args.text.now c.args.tokens.now c.in_default.ensures.none, c.new.ensures)
 
 pub returns-in-Some-take-clause-read : goal.returns-in-Some-take-clause-read
-returns-in-Some-take-clause-read c = (Some None, arguments_empty c.args.text.now c.args.tokens.now (c.in-Some.ensures.some _) (c.in-Some-take.ensures.some _), c.of-in-Some-take.ensures ∙ c.new-in-Some-take.ensures.items)
+returns-in-Some-take-clause-read c = (Some None, arguments_empty c.args.text.now c.args.tokens.now (c.in-Some.ensures.some _) (c.in-Some-take.ensures.some _), c.new-in-Some-take.ensures)
 
 pub returns-in_err-args-clause-fails : goal.returns-in_err-args-clause-fails
 returns-in_err-args-clause-fails c = err_given _ _ _ c.from_residual.ensures.1 (arguments_fail c.args.text.now c.args.tokens.now _ (c.in-Some.ensures.some _) c.in_default-take.ensures.none c.in_err-args.ensures)

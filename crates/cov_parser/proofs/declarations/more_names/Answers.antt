@@ -7,13 +7,13 @@ use Rattle.cov_parser.proofs.DeclWalks.{more_start, more_read, more_fails, more_
 use Rattle.cov_parser.proofs.declarations.more_names.Goals as goal
 
 pub loop-next-init : goal.loop-next-init
-loop-next-init c = λ r. rw (c.in_ok-push.ensures.items, c.new-names.ensures.items) (more_start [] _ _)
+loop-next-init c = λ r. rw (c.in_ok-push.ensures, c.new-names.ensures) (more_start [] _ _)
 
 pub returns-in_err-name : goal.returns-in_err-name
 returns-in_err-name c = λ r. exits _ r _ _ _ c.from_residual-in_err-name.ensures.1 (more_fails [] _ _ _ (c.loop-next.invariant r) (c.in-Some.ensures.some r) (c.in_err-name.ensures r))
 
 pub loop-next-preserved : goal.loop-next-preserved
-loop-next-preserved c = λ r. rw c.in_ok-push-2.ensures.items (more_read [] _ _ _ (c.loop-next.invariant r) (c.in-Some.ensures.some r) (c.in_ok-name.ensures r))
+loop-next-preserved c = λ r. rw c.in_ok-push-2.ensures (more_read [] _ _ _ (c.loop-next.invariant r) (c.in-Some.ensures.some r) (c.in_ok-name.ensures r))
 
 pub loop-next-smaller : goal.loop-next-smaller
 loop-next-smaller c =
@@ -21,4 +21,4 @@ loop-next-smaller c =
     item_falls (lawful_word c.args.tokens.now Ident) (Comma ∷ []) (c.in-Some.ensures.some r) refl (c.in_ok-name.ensures r)
 
 pub returns : goal.returns
-returns c = λ r. rw c.of.ensures (more_end [] _ _ _ (c.loop-next.invariant r) c.in_default.ensures.none)
+returns c = λ r. more_end [] _ _ _ (c.loop-next.invariant r) c.in_default.ensures.none

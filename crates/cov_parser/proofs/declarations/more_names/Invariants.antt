@@ -4,7 +4,7 @@ use Rattle.cov_parser.proofs.DeclWalks.{MoreNames}
 use Rattle.cov_parser.proofs.declarations.more_names.Given as goal
 
 abbrev pub invariant-loop-next : goal.invariant-loop-next
-invariant-loop-next l = (r : Room) → MoreNames [] l.tokens (l.fn.first ∷ []) r l.fn.place l.names.items l.at
+invariant-loop-next l = (r : Room) → MoreNames [] l.tokens (l.fn.first ∷ []) r l.fn.place l.names l.at
 
 abbrev pub decreases-loop-next : goal.decreases-loop-next
 decreases-loop-next l = length l.tokens - l.at.at

@@ -17,33 +17,32 @@ pub binary-returns-in_err-left : goal.binary-returns-in_err-left
 binary-returns-in_err-left t c =
     exits _ _ _ _ _ c.from_residual.ensures.1 (joins_fails c.args.text.now c.args.tokens.now c.args.standing _ _ (level_below c.args.text.now c.args.tokens.now c.args.standing c.args.level c.if-level-eq0.false) c.in_err-left.ensures)
 
-pub binary-loop-left-init : goal.binary-loop-left-init
-binary-loop-left-init t c =
+pub binary-loop-op-init : goal.binary-loop-op-init
+binary-loop-op-init t c =
     joins_first c.args.text.now c.args.tokens.now c.args.standing _ _ (level_below c.args.text.now c.args.tokens.now c.args.standing c.args.level c.if-level-eq0.false) c.in_ok-left.ensures
 
 pub binary-returns-in_err-op : goal.binary-returns-in_err-op
 binary-returns-in_err-op t c =
-    exits _ _ _ _ _ c.from_residual-in_err-op.ensures.1 (joins_sinks c.args.text.now c.args.tokens.now c.args.standing _ _ _ c.operators-kinds.ensures _ _ c.loop-left.invariant c.in_err-op.ensures.too_many c.in_err-op.ensures.full)
+    exits _ _ _ _ _ c.from_residual-in_err-op.ensures.1 (joins_sinks c.args.text.now c.args.tokens.now c.args.standing _ _ _ c.operators-kinds.ensures _ _ c.loop-op.invariant c.in_err-op.ensures.too_many c.in_err-op.ensures.full)
 
 pub binary-returns-in_err-right : goal.binary-returns-in_err-right
 binary-returns-in_err-right t c =
-    exits _ _ _ _ _ c.from_residual-in_err-right.ensures.1 (found_breaks c.args.text.now c.args.tokens.now c.args.standing _ _ _ c.operators-kinds.ensures _ _ _ _ c.in-Some.is c.loop-left.invariant c.in_ok-op.ensures.some c.in_ok-op.ensures.behind c.in_err-right.ensures)
+    exits _ _ _ _ _ c.from_residual-in_err-right.ensures.1 (found_breaks c.args.text.now c.args.tokens.now c.args.standing _ _ _ c.operators-kinds.ensures _ _ _ _ c.in-Some.is c.loop-op.invariant c.in_ok-op.ensures.some c.in_ok-op.ensures.behind c.in_err-right.ensures)
 
-pub binary-loop-left-smaller : goal.binary-loop-left-smaller
-binary-loop-left-smaller t c =
-    found_falls c.args.text.now c.args.tokens.now c.args.standing _ c.loop-left.at _ _ _ c.in-Some.is c.in_ok-op.ensures.behind c.in_ok-op.ensures.inside c.in_ok-right.ensures
+pub binary-loop-op-smaller : goal.binary-loop-op-smaller
+binary-loop-op-smaller t c =
+    found_falls c.args.text.now c.args.tokens.now c.args.standing _ c.loop-op.at _ _ _ c.in-Some.is c.in_ok-op.ensures.behind c.in_ok-op.ensures.inside c.in_ok-right.ensures
 
-pub binary-loop-left-preserved : goal.binary-loop-left-preserved
-binary-loop-left-preserved t c =
-    rw c.in_ok-left-2.ensures (found_next c.args.text.now c.args.tokens.now c.args.standing _ _ _ c.operators-kinds.ensures _ _ _ _ c.in-Some.is c.loop-left.invariant c.in_ok-op.ensures.some c.in_ok-right.ensures)
+pub binary-loop-op-preserved : goal.binary-loop-op-preserved
+binary-loop-op-preserved t c =
+    rw c.in_ok-left-2.ensures (found_next c.args.text.now c.args.tokens.now c.args.standing _ _ _ c.operators-kinds.ensures _ _ _ _ c.in-Some.is c.loop-op.invariant c.in_ok-op.ensures.some c.in_ok-right.ensures)
 
 pub binary-returns : goal.binary-returns
 binary-returns t c =
-    found_none c.args.text.now c.args.tokens.now c.args.standing _ _ _ c.operators-kinds.ensures _ _ c.in_default.is c.loop-left.invariant c.in_ok-op.ensures.none
+    found_none c.args.text.now c.args.tokens.now c.args.standing _ _ _ c.operators-kinds.ensures _ _ c.in_default.is c.loop-op.invariant c.in_ok-op.ensures.none
 
 pub index-returns-in_default : goal.index-returns-in_default
-index-returns-in_default t c =
-    no_index c.args.text.now c.args.tokens.now c.args.standing _ c.index_kinds.ensures c.in_default.ensures.none
+index-returns-in_default t c = rw c.of.ensures (no_index c.args.text.now c.args.tokens.now c.args.standing _ c.index_kinds.ensures c.in_default.ensures.none)
 
 pub index-returns-then-room-eq0 : goal.index-returns-then-room-eq0
 index-returns-then-room-eq0 t c =
@@ -62,8 +61,7 @@ index-returns-in_err-after t c =
     exits _ _ _ _ _ c.from_residual-in_err-after.ensures.1 ((step _ (ends_lawful c.args.text.now c.args.tokens.now c.args.standing) (lawful_word c.args.tokens.now CloseSquare) refl (bracketed c.args.text.now c.args.tokens.now c.args.standing _ c.index_kinds.ensures (c.in-Some.ensures.some _) (omega (arith, c.if-room-eq0.false)) refl) (both_reads pair (part_expr_lawful c.args.text.now c.args.tokens.now Plain) (lawful_maybe (colon_lawful c.args.text.now c.args.tokens.now Plain) refl) refl c.in_ok-high.ensures c.in_ok-low.ensures)).fails (c.in_err-after.ensures _))
 
 pub index-returns : goal.index-returns
-index-returns t c =
-    (step _ (ends_lawful c.args.text.now c.args.tokens.now c.args.standing) (lawful_word c.args.tokens.now CloseSquare) refl (bracketed c.args.text.now c.args.tokens.now c.args.standing _ c.index_kinds.ensures (c.in-Some.ensures.some _) (omega (arith, c.if-room-eq0.false)) refl) (both_reads pair (part_expr_lawful c.args.text.now c.args.tokens.now Plain) (lawful_maybe (colon_lawful c.args.text.now c.args.tokens.now Plain) refl) refl c.in_ok-high.ensures c.in_ok-low.ensures)).reads (c.in_ok-after.ensures _)
+index-returns t c = rw (c.of-2.ensures, c.put.ensures, c.put-2.ensures) ((step _ (ends_lawful c.args.text.now c.args.tokens.now c.args.standing) (lawful_word c.args.tokens.now CloseSquare) refl (bracketed c.args.text.now c.args.tokens.now c.args.standing _ c.index_kinds.ensures {b = record { levels = c.args.room.levels - 1; operators = c.args.room.operators }} {d = c.args.room} (c.in-Some.ensures.some _) (omega (arith, c.if-room-eq0.false)) refl) (both_reads pair (part_expr_lawful c.args.text.now c.args.tokens.now Plain) (lawful_maybe (colon_lawful c.args.text.now c.args.tokens.now Plain) refl) refl c.in_ok-high.ensures c.in_ok-low.ensures)).reads (c.in_ok-after.ensures _))
 
 pub part_expr-returns-in_err-test : goal.part_expr-returns-in_err-test
 part_expr-returns-in_err-test t c =
@@ -98,8 +96,7 @@ parts-returns-in_err-first t c =
     exits _ _ _ _ _ c.from_residual.ensures.1 (list_fails c.args.text.now c.args.tokens.now c.in_err-first.ensures)
 
 pub parts-loop-next-init : goal.parts-loop-next-init
-parts-loop-next-init t c =
-    rw (c.in_ok-push.ensures.items, c.new-parts.ensures.items) (list_starts c.args.text.now c.args.tokens.now c.in_ok-first.ensures)
+parts-loop-next-init t c = rw c.in_ok-parts.ensures (list_starts c.args.text.now c.args.tokens.now c.in_ok-first.ensures)
 
 pub parts-returns-in_err-part : goal.parts-returns-in_err-part
 parts-returns-in_err-part t c =
@@ -110,16 +107,13 @@ parts-loop-next-smaller t c =
     list_falls c.args.text.now c.args.tokens.now (c.in-Some.ensures.some _) c.in_ok-part.ensures
 
 pub parts-loop-next-preserved : goal.parts-loop-next-preserved
-parts-loop-next-preserved t c =
-    rw c.in_ok-push-2.ensures.items (list_next c.args.text.now c.args.tokens.now _ c.loop-next.invariant (c.in-Some.ensures.some _) c.in_ok-part.ensures)
+parts-loop-next-preserved t c = rw c.in_ok-add.ensures (list_next c.args.text.now c.args.tokens.now _ c.loop-next.invariant (c.in-Some.ensures.some _) c.in_ok-part.ensures)
 
 pub parts-returns : goal.parts-returns
-parts-returns t c =
-    rw c.of.ensures (list_ends c.args.text.now c.args.tokens.now _ c.loop-next.invariant c.in_default.ensures.none)
+parts-returns t c = list_ends c.args.text.now c.args.tokens.now _ c.loop-next.invariant c.in_default.ensures.none
 
 pub primary-returns-in-Some : goal.primary-returns-in-Some
-primary-returns-in-Some t c =
-    rw c.number.ensures (number_read c.args.text.now c.args.tokens.now c.args.standing (c.in-Some.ensures.some _) c.in-Some.ensures.here)
+primary-returns-in-Some t c = rw (c.of.ensures, c.number.ensures) (number_read c.args.text.now c.args.tokens.now c.args.standing (c.in-Some.ensures.some _) c.in-Some.ensures.here)
 
 pub primary-returns-in_err-index : goal.primary-returns-in_err-index
 primary-returns-in_err-index t c =
@@ -162,20 +156,17 @@ primary-returns-in_err-after-2 t c =
     exits _ _ _ _ _ c.from_residual-in_err-after-2.ensures.1 ((step _ (list_lawful c.args.text.now c.args.tokens.now) (lawful_word c.args.tokens.now CloseBrace) refl (braced c.args.text.now c.args.tokens.now c.args.standing (c.in-Some-take-3.ensures.some _) c.in_default.ensures.none c.in_default-take.ensures.none c.in_default-take-2.ensures.none (omega (arith, c.if-room-eq0-2.false)) refl) c.in_ok-parts.ensures).fails (c.in_err-after-2.ensures _))
 
 pub primary-returns : goal.primary-returns
-primary-returns t c =
-    rw c.concatenation.ensures ((step _ (list_lawful c.args.text.now c.args.tokens.now) (lawful_word c.args.tokens.now CloseBrace) refl (braced c.args.text.now c.args.tokens.now c.args.standing {b = record { levels = c.args.room.levels - 1; operators = c.args.room.operators }} {d = c.args.room} (c.in-Some-take-3.ensures.some _) c.in_default.ensures.none c.in_default-take.ensures.none c.in_default-take-2.ensures.none (omega (arith, c.if-room-eq0-2.false)) refl) c.in_ok-parts.ensures).reads (c.in_ok-after-2.ensures _))
+primary-returns t c = rw (c.of-2.ensures, c.concatenation.ensures) ((step _ (list_lawful c.args.text.now c.args.tokens.now) (lawful_word c.args.tokens.now CloseBrace) refl (braced c.args.text.now c.args.tokens.now c.args.standing {b = record { levels = c.args.room.levels - 1; operators = c.args.room.operators }} {d = c.args.room} (c.in-Some-take-3.ensures.some _) c.in_default.ensures.none c.in_default-take.ensures.none c.in_default-take-2.ensures.none (omega (arith, c.if-room-eq0-2.false)) refl) c.in_ok-parts.ensures).reads (c.in_ok-after-2.ensures _))
 
 pub second_end-returns-in_default : goal.second_end-returns-in_default
-second_end-returns-in_default t c =
-    no_colon c.args.text.now c.args.tokens.now c.in_default.ensures.none
+second_end-returns-in_default t c = rw c.of.ensures (no_colon c.args.text.now c.args.tokens.now c.in_default.ensures.none)
 
 pub second_end-returns-in_err-low : goal.second_end-returns-in_err-low
 second_end-returns-in_err-low t c =
     exits _ _ _ _ _ c.from_residual.ensures.1 ((colon_leads c.args.text.now c.args.tokens.now (c.in-Some.ensures.some _)).fails c.in_err-low.ensures)
 
 pub second_end-returns : goal.second_end-returns
-second_end-returns t c =
-    (colon_leads c.args.text.now c.args.tokens.now (c.in-Some.ensures.some _)).reads c.in_ok-low.ensures
+second_end-returns t c = rw (c.of-2.ensures, c.put.ensures) ((colon_leads c.args.text.now c.args.tokens.now (c.in-Some.ensures.some _)).reads c.in_ok-low.ensures)
 
 pub unary-returns-in_default : goal.unary-returns-in_default
 unary-returns-in_default t c =

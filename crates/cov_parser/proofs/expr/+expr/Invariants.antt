@@ -23,14 +23,14 @@ decreases-second_end l = 20 * l.room.levels + 17
 abbrev pub decreases-parts : goal.decreases-parts
 decreases-parts l = 20 * l.room.levels + 17
 
-abbrev pub invariant-binary-loop-left : goal.invariant-binary-loop-left
-invariant-binary-loop-left l = Joins l.text l.tokens l.standing l.room l.below l.level l.fn.place l.left l.at
+abbrev pub invariant-binary-loop-op : goal.invariant-binary-loop-op
+invariant-binary-loop-op l = Joins l.text l.tokens l.standing l.room l.below l.level l.fn.place l.left l.at
 
-abbrev pub decreases-binary-loop-left : goal.decreases-binary-loop-left
-decreases-binary-loop-left l = length l.tokens - l.at.at
+abbrev pub decreases-binary-loop-op : goal.decreases-binary-loop-op
+decreases-binary-loop-op l = length l.tokens - l.at.at
 
 abbrev pub invariant-parts-loop-next : goal.invariant-parts-loop-next
-invariant-parts-loop-next l = Lists l.text l.tokens l.room l.fn.place l.parts.items l.at
+invariant-parts-loop-next l = Lists l.text l.tokens l.room l.fn.place l.parts l.at
 
 abbrev pub decreases-parts-loop-next : goal.decreases-parts-loop-next
 decreases-parts-loop-next l = length l.tokens - l.at.at

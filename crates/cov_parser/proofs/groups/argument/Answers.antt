@@ -13,6 +13,5 @@ returns-in_err-name c =
     exits _ _ _ _ _ c.from_residual-in_err-name.ensures.1 ((argument_typed _ _ s.1 c.in_ok-typ.ensures).fails (c.in_err-name.ensures _))
 
 pub returns : goal.returns
-returns c =
-    let s = c.behind_input.ensures c.args.room in
-    rw c.start_at-start.ensures ((argument_typed _ _ s.1 c.in_ok-typ.ensures).reads (c.in_ok-name.ensures _))
+returns c = let s = c.behind_input.ensures c.args.room in
+    rw (c.of.ensures, c.put.ensures, c.start_at-start.ensures) ((argument_typed _ _ s.1 c.in_ok-typ.ensures).reads (c.in_ok-name.ensures _))

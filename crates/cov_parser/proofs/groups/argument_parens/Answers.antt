@@ -6,7 +6,7 @@ pub returns-in_err-next : goal.returns-in_err-next
 returns-in_err-next c = exits _ _ _ _ _ c.from_residual.ensures.1 (arguments_unopened _ _ (c.in_err-next.ensures _))
 
 pub returns-in-Some : goal.returns-in-Some
-returns-in-Some c = rw (c.of.ensures, c.new.ensures.items) ((arguments_open _ _ (c.in_ok-next.ensures _)).reads (no_arguments _ _ c.in-Some.ensures.here (c.in-Some.ensures.some _)))
+returns-in-Some c = rw c.new.ensures ((arguments_open _ _ (c.in_ok-next.ensures _)).reads (no_arguments _ _ c.in-Some.ensures.here (c.in-Some.ensures.some _)))
 
 pub returns-in_err-args : goal.returns-in_err-args
 returns-in_err-args c = exits _ _ _ _ _ c.from_residual-in_err-args.ensures.1 ((arguments_open _ _ (c.in_ok-next.ensures _)).fails (arguments_fail _ _ c.in_default.ensures.none c.in_err-args.ensures))

@@ -13,6 +13,5 @@ returns-in_err-guard c =
     exits _ _ _ _ _ c.from_residual-in_err-guard.ensures.1 ((edge_iff _ _ s.1 (c.in_ok-name.ensures _)).fails c.in_err-guard.ensures)
 
 pub returns : goal.returns
-returns c =
-    let s = c.edge_word-kind.ensures c.args.room in
-    rw s.2 ((edge_iff _ _ s.1 (c.in_ok-name.ensures _)).reads c.in_ok-guard.ensures)
+returns c = let s = c.edge_word-kind.ensures c.args.room in
+    rw (c.of.ensures, c.put-guard.ensures) (rw s.2 ((edge_iff _ _ s.1 (c.in_ok-name.ensures _)).reads c.in_ok-guard.ensures))

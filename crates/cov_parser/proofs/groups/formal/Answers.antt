@@ -19,7 +19,6 @@ returns-in_err-default-clause-fault c =
     fault_of _ c.from_residual-in_err-default.ensures.1 ((formal_valued _ _ s.1 c.in_ok-typ.ensures (c.in_ok-name.ensures _)).fails c.in_err-default.ensures)
 
 pub returns-clause-read : goal.returns-clause-read
-returns-clause-read c =
-    let s = c.direction-by_ref.ensures c.args.room in
+returns-clause-read c = let s = c.direction-by_ref.ensures c.args.room in
     let v = written (offset c.args.tokens.now c.args.place.at) s.0 ((c.in_ok-typ.typ, c.in_ok-name.name), c.in_ok-default.default) in
-    rw (s.2, c.start_at-start.ensures) (v, (formal_valued _ _ s.1 c.in_ok-typ.ensures (c.in_ok-name.ensures _)).reads c.in_ok-default.ensures, formal_put c.args.by_ref v)
+    rw (c.of.ensures, c.put.ensures, c.put-2.ensures, s.2, c.start_at-start.ensures) (v, (formal_valued _ _ s.1 c.in_ok-typ.ensures (c.in_ok-name.ensures _)).reads c.in_ok-default.ensures, formal_put c.args.by_ref v)

@@ -4,7 +4,7 @@ use Rattle.cov_parser.proofs.CovergroupWalks.{Formals}
 use Rattle.cov_parser.proofs.groups.formal_list.Given as goal
 
 abbrev pub invariant-loop-next : goal.invariant-loop-next
-invariant-loop-next l = Formals l.text l.tokens l.room l.fn.place l.formals.items l.at × (last_is_ref l.formals.items ≡ l.by_ref)
+invariant-loop-next l = Formals l.text l.tokens l.room l.fn.place l.formals l.at × (last_is_ref l.formals ≡ l.by_ref)
 
 abbrev pub decreases-loop-next : goal.decreases-loop-next
 decreases-loop-next l = length l.tokens - l.at.at

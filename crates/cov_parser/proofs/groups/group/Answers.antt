@@ -25,5 +25,5 @@ pub returns-in_err-after : goal.returns-in_err-after
 returns-in_err-after c = exits _ _ _ _ _ c.from_residual-in_err-after.ensures.1 ((group_ends _ _ (group_named _ _ (c.in_ok-covergroup.ensures _) (ident_reads _ _ (c.in_ok-token.ensures _))) (head_read _ _ c.in_ok-formals.ensures c.in_ok-event.ensures) (c.in_ok-at.ensures _) c.in_ok-members.ensures).fails (c.in_err-after.ensures _))
 
 pub returns : goal.returns
-returns c = rw (c.of.ensures, c.in_ok-push.ensures.items, c.new-decls.ensures.items, c.in_ok-name.ensures)
+returns c = rw (c.in_ok-alone.ensures, c.of-group.ensures, c.in_ok-name.ensures)
     ((group_ends _ _ (group_named _ _ (c.in_ok-covergroup.ensures _) (ident_reads _ _ (c.in_ok-token.ensures _))) (head_read _ _ c.in_ok-formals.ensures c.in_ok-event.ensures) (c.in_ok-at.ensures _) c.in_ok-members.ensures).reads (c.in_ok-after.ensures _))

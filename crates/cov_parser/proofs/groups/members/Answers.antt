@@ -9,7 +9,7 @@ use Rattle.cov_parser.proofs.CovergroupWalks.{other_kind, word_of, member_breaks
 use Rattle.cov_parser.proofs.groups.members.Goals as goal
 
 pub loop-token-init : goal.loop-token-init
-loop-token-init c = rw c.new-members.ensures.items (members_start _ _)
+loop-token-init c = rw c.new-members.ensures (members_start _ _)
 
 pub loop-token-preserved-then-is_one_of : goal.loop-token-preserved-then-is_one_of
 loop-token-preserved-then-is_one_of c =
@@ -25,10 +25,10 @@ returns-in_err-member c = exits _ _ _ _ _ c.from_residual.ensures.1 (member_brea
     (is_not_of _ _ (Semi ∷ []) (c.in-Some.ensures.some c.args.room) (sym c.is_one_of.ensures ∙ c.if-is_one_of.false))) c.in_err-member.ensures.fault)
 
 pub loop-token-preserved : goal.loop-token-preserved
-loop-token-preserved c = rw c.in_ok-push.ensures.items (members_next _ _ _ c.loop-token.invariant c.in_ok-member.ensures.read)
+loop-token-preserved c = rw c.in_ok-add.ensures (members_next _ _ _ c.loop-token.invariant c.in_ok-member.ensures.read)
 
 pub returns : goal.returns
-returns c = rw c.of.ensures (members_end _ _ _ c.loop-token.invariant (λ h. c.in_default.ensures.none (In_more _ _ member_firsts (Semi ∷ OptionWord ∷ TypeOptionWord ∷ Ident ∷ CoverpointWord ∷ CrossWord ∷ []) refl h)))
+returns c = members_end _ _ _ c.loop-token.invariant (λ h. c.in_default.ensures.none (In_more _ _ member_firsts (Semi ∷ OptionWord ∷ TypeOptionWord ∷ Ident ∷ CoverpointWord ∷ CrossWord ∷ []) refl h))
 
 pub loop-token-smaller : goal.loop-token-smaller
 loop-token-smaller c = entry_falls c.args.text.now c.args.tokens.now (member_lawful c.args.text.now c.args.tokens.now) refl c.in_ok-member.ensures.read

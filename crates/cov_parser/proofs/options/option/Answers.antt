@@ -28,4 +28,4 @@ pub returns-in_err-after : goal.returns-in_err-after
 returns-in_err-after c = exits _ _ _ _ _ c.from_residual-in_err-after.ensures.1 ((optset_leads c.args.text.now c.args.tokens.now c.args.room c.args.place).fails (both_then_fails _ (lawful_one c.args.tokens.now (option_words c.args.text.now c.args.tokens.now)) (dotted_lawful c.args.text.now c.args.tokens.now) refl (c.in-Some.ensures.some c.args.room) (both_then_fails _ (lawful_word c.args.tokens.now Dot) (setting_lawful c.args.text.now c.args.tokens.now) refl (c.in_ok-at.ensures _) (both_then_fails _ (ident_lawful c.args.text.now c.args.tokens.now) (assigned_lawful c.args.text.now c.args.tokens.now) refl (c.in_ok-name.ensures _) (both_then_fails _ (lawful_word c.args.tokens.now Assign) (value_end_lawful c.args.text.now c.args.tokens.now) refl (c.in_ok-at-2.ensures _) (both_then_fails _ (option_value_lawful c.args.text.now c.args.tokens.now) (lawful_word c.args.tokens.now Semi) refl c.in_ok-value.ensures (c.in_err-after.ensures _)))))))
 
 pub returns : goal.returns
-returns c = rw c.is_one_of.ensures ((optset_leads c.args.text.now c.args.tokens.now c.args.room c.args.place).reads (both_reads _ (lawful_one c.args.tokens.now (option_words c.args.text.now c.args.tokens.now)) (dotted_lawful c.args.text.now c.args.tokens.now) refl (c.in-Some.ensures.some c.args.room) (both_reads _ (lawful_word c.args.tokens.now Dot) (setting_lawful c.args.text.now c.args.tokens.now) refl (c.in_ok-at.ensures _) (both_reads _ (ident_lawful c.args.text.now c.args.tokens.now) (assigned_lawful c.args.text.now c.args.tokens.now) refl (c.in_ok-name.ensures _) (both_reads _ (lawful_word c.args.tokens.now Assign) (value_end_lawful c.args.text.now c.args.tokens.now) refl (c.in_ok-at-2.ensures _) (both_reads _ (option_value_lawful c.args.text.now c.args.tokens.now) (lawful_word c.args.tokens.now Semi) refl c.in_ok-value.ensures (c.in_ok-after.ensures _)))))))
+returns c = rw (c.of.ensures, c.put.ensures, c.is_one_of.ensures) ((optset_leads c.args.text.now c.args.tokens.now c.args.room c.args.place).reads (both_reads _ (lawful_one c.args.tokens.now (option_words c.args.text.now c.args.tokens.now)) (dotted_lawful c.args.text.now c.args.tokens.now) refl (c.in-Some.ensures.some c.args.room) (both_reads _ (lawful_word c.args.tokens.now Dot) (setting_lawful c.args.text.now c.args.tokens.now) refl (c.in_ok-at.ensures _) (both_reads _ (ident_lawful c.args.text.now c.args.tokens.now) (assigned_lawful c.args.text.now c.args.tokens.now) refl (c.in_ok-name.ensures _) (both_reads _ (lawful_word c.args.tokens.now Assign) (value_end_lawful c.args.text.now c.args.tokens.now) refl (c.in_ok-at-2.ensures _) (both_reads _ (option_value_lawful c.args.text.now c.args.tokens.now) (lawful_word c.args.tokens.now Semi) refl c.in_ok-value.ensures (c.in_ok-after.ensures _)))))))

@@ -4,7 +4,7 @@ use Rattle.cov_grammar.proofs.Whole.{Stands}
 use Rattle.cov_parser.proofs.parsing.design.Given as goal
 
 abbrev pub invariant-loop-place : goal.invariant-loop-place
-invariant-loop-place l = Stands l.text l.tokens limits l.decls.items l.place × (l.place.at ≤ length l.tokens)
+invariant-loop-place l = Stands l.text l.tokens limits l.decls l.place × (l.place.at ≤ length l.tokens)
 
 abbrev pub decreases-loop-place : goal.decreases-loop-place
 decreases-loop-place l = length l.tokens - l.place.at

@@ -17,5 +17,4 @@ returns-in_err-options c = exits _ _ _ _ _ c.from_residual-in_err-options.ensure
     ((point_steps _ _ c.args.start c.args.label ((point_guards _ _ (c.in_ok-at.ensures _) c.in_ok-expr.ensures).reads c.in_ok-guard.ensures)).fails c.in_err-options.ensures)
 
 pub returns : goal.returns
-returns c =
-    (point_steps _ _ c.args.start c.args.label ((point_guards _ _ (c.in_ok-at.ensures _) c.in_ok-expr.ensures).reads c.in_ok-guard.ensures)).reads c.in_ok-options.ensures
+returns c = rw (c.of.ensures, c.put.ensures, c.put-2.ensures, c.put-3.ensures) ((point_steps _ _ c.args.start c.args.label ((point_guards _ _ (c.in_ok-at.ensures _) c.in_ok-expr.ensures).reads c.in_ok-guard.ensures)).reads c.in_ok-options.ensures)

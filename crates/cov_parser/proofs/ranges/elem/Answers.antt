@@ -11,7 +11,7 @@ pub returns-in_err-one : goal.returns-in_err-one
 returns-in_err-one c = exits _ _ _ _ _ c.from_residual.ensures.1 (single_fails c.args.text.now c.args.tokens.now c.args.standing c.in_default.ensures.none c.in_err-one.ensures)
 
 pub returns-in_default : goal.returns-in_default
-returns-in_default c = single_reads c.args.text.now c.args.tokens.now c.args.standing c.in_default.ensures.none c.in_ok-one.ensures
+returns-in_default c = rw (c.of.ensures, c.put.ensures) (single_reads c.args.text.now c.args.tokens.now c.args.standing c.in_default.ensures.none c.in_ok-one.ensures)
 
 pub returns-in_err-low : goal.returns-in_err-low
 returns-in_err-low c = exits _ _ _ _ _ c.from_residual-in_err-low.ensures.1 ((ends _ (two_ends_lawful c.args.text.now c.args.tokens.now) (lawful_word c.args.tokens.now CloseSquare) refl (span_leads c.args.text.now c.args.tokens.now c.args.standing (c.in-Some.ensures.some c.args.room) c.in-Some.ensures.here) (both_fails _ (range_end_lawful c.args.text.now c.args.tokens.now) (second_lawful c.args.text.now c.args.tokens.now) refl c.in_err-low.ensures)))
@@ -26,4 +26,4 @@ pub returns-in_err-after : goal.returns-in_err-after
 returns-in_err-after c = exits _ _ _ _ _ c.from_residual-in_err-after.ensures.1 ((step _ (two_ends_lawful c.args.text.now c.args.tokens.now) (lawful_word c.args.tokens.now CloseSquare) refl (span_leads c.args.text.now c.args.tokens.now c.args.standing (c.in-Some.ensures.some c.args.room) c.in-Some.ensures.here) (both_reads _ (range_end_lawful c.args.text.now c.args.tokens.now) (second_lawful c.args.text.now c.args.tokens.now) refl c.in_ok-low.ensures (both_reads _ (lawful_word c.args.tokens.now Colon) (range_end_lawful c.args.text.now c.args.tokens.now) refl (c.in_ok-at.ensures _) c.in_ok-high.ensures))).fails (c.in_err-after.ensures _))
 
 pub returns : goal.returns
-returns c = (step _ (two_ends_lawful c.args.text.now c.args.tokens.now) (lawful_word c.args.tokens.now CloseSquare) refl (span_leads c.args.text.now c.args.tokens.now c.args.standing (c.in-Some.ensures.some c.args.room) c.in-Some.ensures.here) (both_reads _ (range_end_lawful c.args.text.now c.args.tokens.now) (second_lawful c.args.text.now c.args.tokens.now) refl c.in_ok-low.ensures (both_reads _ (lawful_word c.args.tokens.now Colon) (range_end_lawful c.args.text.now c.args.tokens.now) refl (c.in_ok-at.ensures _) c.in_ok-high.ensures))).reads (c.in_ok-after.ensures _)
+returns c = rw (c.of-2.ensures, c.put-low.ensures, c.put-high.ensures) ((step _ (two_ends_lawful c.args.text.now c.args.tokens.now) (lawful_word c.args.tokens.now CloseSquare) refl (span_leads c.args.text.now c.args.tokens.now c.args.standing (c.in-Some.ensures.some c.args.room) c.in-Some.ensures.here) (both_reads _ (range_end_lawful c.args.text.now c.args.tokens.now) (second_lawful c.args.text.now c.args.tokens.now) refl c.in_ok-low.ensures (both_reads _ (lawful_word c.args.tokens.now Colon) (range_end_lawful c.args.text.now c.args.tokens.now) refl (c.in_ok-at.ensures _) c.in_ok-high.ensures))).reads (c.in_ok-after.ensures _))

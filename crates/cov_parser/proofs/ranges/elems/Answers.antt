@@ -10,7 +10,7 @@ pub returns-in_err-first : goal.returns-in_err-first
 returns-in_err-first c = exits _ _ _ _ _ c.from_residual.ensures.1 (elems_fails c.args.text.now c.args.tokens.now c.args.standing c.in_err-first.ensures)
 
 pub loop-next-init : goal.loop-next-init
-loop-next-init c = rw (c.in_ok-push.ensures.items, c.new-elems.ensures.items) (chain_first (elem_lawful c.args.text.now c.args.tokens.now c.args.standing) (Comma ∷ []) (no_comma c.args.standing) c.in_ok-first.ensures)
+loop-next-init c = rw c.in_ok-elems.ensures (chain_first (elem_lawful c.args.text.now c.args.tokens.now c.args.standing) (Comma ∷ []) (no_comma c.args.standing) c.in_ok-first.ensures)
 
 pub returns-in_err-elem : goal.returns-in_err-elem
 returns-in_err-elem c = exits _ _ _ _ _ c.from_residual-in_err-elem.ensures.1 (elems_breaks c.args.text.now c.args.tokens.now c.args.standing _ c.loop-next.invariant (c.in-Some.ensures.some _) c.in_err-elem.ensures)
@@ -19,7 +19,7 @@ pub loop-next-smaller : goal.loop-next-smaller
 loop-next-smaller c = chain_falls (elem_lawful c.args.text.now c.args.tokens.now c.args.standing) (Comma ∷ []) (no_comma c.args.standing) (c.in-Some.ensures.some _) c.in_ok-elem.ensures
 
 pub loop-next-preserved : goal.loop-next-preserved
-loop-next-preserved c = rw c.in_ok-push-2.ensures.items (chain_next (elem_lawful c.args.text.now c.args.tokens.now c.args.standing) (Comma ∷ []) (no_comma c.args.standing) _ c.loop-next.invariant (c.in-Some.ensures.some _) c.in_ok-elem.ensures)
+loop-next-preserved c = rw c.in_ok-add.ensures (chain_next (elem_lawful c.args.text.now c.args.tokens.now c.args.standing) (Comma ∷ []) (no_comma c.args.standing) _ c.loop-next.invariant (c.in-Some.ensures.some _) c.in_ok-elem.ensures)
 
 pub returns : goal.returns
-returns c = rw c.of.ensures (elems_ends c.args.text.now c.args.tokens.now c.args.standing _ c.loop-next.invariant c.in_default.ensures.none)
+returns c = elems_ends c.args.text.now c.args.tokens.now c.args.standing _ c.loop-next.invariant c.in_default.ensures.none

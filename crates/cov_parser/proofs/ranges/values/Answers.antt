@@ -18,7 +18,7 @@ pub returns-in_err-keep : goal.returns-in_err-keep
 returns-in_err-keep c = exits _ _ _ _ _ c.from_residual-in_err-keep.ensures.1 ((named_leads c.args.text.now c.args.tokens.now c.in_default.ensures.none).fails (both_then_fails _ (ident_lawful c.args.text.now c.args.tokens.now) (keep_lawful c.args.text.now c.args.tokens.now) refl (c.in_ok-name.ensures _) (keep_breaks c.args.text.now c.args.tokens.now (c.in_ok-at.ensures _) c.in_err-keep.ensures)))
 
 pub returns-in_default : goal.returns-in_default
-returns-in_default c = (named_leads c.args.text.now c.args.tokens.now c.in_default.ensures.none).reads (both_reads _ (ident_lawful c.args.text.now c.args.tokens.now) (keep_lawful c.args.text.now c.args.tokens.now) refl (c.in_ok-name.ensures _) (keep_reads c.args.text.now c.args.tokens.now (c.in_ok-at.ensures _) c.in_ok-keep.ensures))
+returns-in_default c = rw (c.of.ensures, c.put-keep.ensures) ((named_leads c.args.text.now c.args.tokens.now c.in_default.ensures.none).reads (both_reads _ (ident_lawful c.args.text.now c.args.tokens.now) (keep_lawful c.args.text.now c.args.tokens.now) refl (c.in_ok-name.ensures _) (keep_reads c.args.text.now c.args.tokens.now (c.in_ok-at.ensures _) c.in_ok-keep.ensures)))
 
 pub returns-in_err-elems : goal.returns-in_err-elems
 returns-in_err-elems c = exits _ _ _ _ _ c.from_residual-in_err-elems.ensures.1 ((ranges_leads c.args.text.now c.args.tokens.now c.in-Some.ensures.here).fails (both_fails _ (braces_lawful c.args.text.now c.args.tokens.now) (lawful_maybe (keep_lawful c.args.text.now c.args.tokens.now) refl) refl (both_then_fails _ (lawful_word c.args.tokens.now OpenBrace) (elems_close_lawful c.args.text.now c.args.tokens.now) refl (c.in-Some.ensures.some _) (both_fails _ (elems_lawful c.args.text.now c.args.tokens.now Plain) (lawful_word c.args.tokens.now CloseBrace) refl c.in_err-elems.ensures))))
@@ -30,4 +30,4 @@ pub returns-in_err-keep-2 : goal.returns-in_err-keep-2
 returns-in_err-keep-2 c = exits _ _ _ _ _ c.from_residual-in_err-keep-2.ensures.1 ((ranges_leads c.args.text.now c.args.tokens.now c.in-Some.ensures.here).fails (both_then_fails _ (braces_lawful c.args.text.now c.args.tokens.now) (lawful_maybe (keep_lawful c.args.text.now c.args.tokens.now) refl) refl (both_reads _ (lawful_word c.args.tokens.now OpenBrace) (elems_close_lawful c.args.text.now c.args.tokens.now) refl (c.in-Some.ensures.some _) (both_reads _ (elems_lawful c.args.text.now c.args.tokens.now Plain) (lawful_word c.args.tokens.now CloseBrace) refl c.in_ok-elems.ensures (c.in_ok-at-2.ensures _))) c.in_err-keep-2.ensures))
 
 pub returns : goal.returns
-returns c = (ranges_leads c.args.text.now c.args.tokens.now c.in-Some.ensures.here).reads (both_reads _ (braces_lawful c.args.text.now c.args.tokens.now) (lawful_maybe (keep_lawful c.args.text.now c.args.tokens.now) refl) refl (both_reads _ (lawful_word c.args.tokens.now OpenBrace) (elems_close_lawful c.args.text.now c.args.tokens.now) refl (c.in-Some.ensures.some _) (both_reads _ (elems_lawful c.args.text.now c.args.tokens.now Plain) (lawful_word c.args.tokens.now CloseBrace) refl c.in_ok-elems.ensures (c.in_ok-at-2.ensures _))) c.in_ok-keep-2.ensures)
+returns c = rw (c.of-2.ensures, c.put-keep-2.ensures) ((ranges_leads c.args.text.now c.args.tokens.now c.in-Some.ensures.here).reads (both_reads _ (braces_lawful c.args.text.now c.args.tokens.now) (lawful_maybe (keep_lawful c.args.text.now c.args.tokens.now) refl) refl (both_reads _ (lawful_word c.args.tokens.now OpenBrace) (elems_close_lawful c.args.text.now c.args.tokens.now) refl (c.in-Some.ensures.some _) (both_reads _ (elems_lawful c.args.text.now c.args.tokens.now Plain) (lawful_word c.args.tokens.now CloseBrace) refl c.in_ok-elems.ensures (c.in_ok-at-2.ensures _))) c.in_ok-keep-2.ensures))

@@ -7,52 +7,52 @@ use Rattle.cov_parser.proofs.selections.+selection.Goals as goal
 pub part_selection-returns-in_err-left : goal.part_selection-returns-in_err-left
 part_selection-returns-in_err-left t c = exits _ _ _ _ _ c.from_residual.ensures.1 (ors_fail _ _ c.in_err-left.ensures)
 
-pub part_selection-loop-left-init : goal.part_selection-loop-left-init
-part_selection-loop-left-init t c = ors_start _ _ c.in_ok-left.ensures
+pub part_selection-loop-next-init : goal.part_selection-loop-next-init
+part_selection-loop-next-init t c = ors_start _ _ c.in_ok-left.ensures
 
 pub part_selection-returns-in_err-next : goal.part_selection-returns-in_err-next
 part_selection-returns-in_err-next t c =
-    exits _ _ _ _ _ c.from_residual-in_err-next.ensures.1 (or_full _ _ _ _ c.loop-left.invariant c.in_err-next.ensures.too_many c.in_err-next.ensures.full)
+    exits _ _ _ _ _ c.from_residual-in_err-next.ensures.1 (or_full _ _ _ _ c.loop-next.invariant c.in_err-next.ensures.too_many c.in_err-next.ensures.full)
 
 pub part_selection-returns-in_err-right : goal.part_selection-returns-in_err-right
 part_selection-returns-in_err-right t c =
-    exits _ _ _ _ _ c.from_residual-in_err-right.ensures.1 (or_breaks _ _ _ _ _ _ c.in-Some.is c.loop-left.invariant c.in_ok-next.ensures.some c.in_ok-next.ensures.behind c.in_err-right.ensures)
+    exits _ _ _ _ _ c.from_residual-in_err-right.ensures.1 (or_breaks _ _ _ _ _ _ c.in-Some.is c.loop-next.invariant c.in_ok-next.ensures.some c.in_ok-next.ensures.behind c.in_err-right.ensures)
 
-pub part_selection-loop-left-smaller : goal.part_selection-loop-left-smaller
-part_selection-loop-left-smaller t c =
-    less_left c.args.text.now c.args.tokens.now (sand_lawful c.args.text.now c.args.tokens.now) c.loop-left.at _ _ _ c.in-Some.is c.in_ok-next.ensures.behind c.in_ok-next.ensures.inside c.in_ok-right.ensures
+pub part_selection-loop-next-smaller : goal.part_selection-loop-next-smaller
+part_selection-loop-next-smaller t c =
+    less_left c.args.text.now c.args.tokens.now (sand_lawful c.args.text.now c.args.tokens.now) c.loop-next.at _ _ _ c.in-Some.is c.in_ok-next.ensures.behind c.in_ok-next.ensures.inside c.in_ok-right.ensures
 
-pub part_selection-loop-left-preserved : goal.part_selection-loop-left-preserved
-part_selection-loop-left-preserved t c =
-    rw c.in_ok-left-2.ensures (or_next _ _ _ _ _ _ c.in-Some.is c.loop-left.invariant c.in_ok-next.ensures.some c.in_ok-right.ensures)
+pub part_selection-loop-next-preserved : goal.part_selection-loop-next-preserved
+part_selection-loop-next-preserved t c =
+    rw c.in_ok-left-2.ensures (or_next _ _ _ _ _ _ c.in-Some.is c.loop-next.invariant c.in_ok-next.ensures.some c.in_ok-right.ensures)
 
 pub part_selection-returns : goal.part_selection-returns
-part_selection-returns t c = ors_end _ _ _ _ c.in_default.is c.loop-left.invariant c.in_ok-next.ensures.none
+part_selection-returns t c = ors_end _ _ _ _ c.in_default.is c.loop-next.invariant c.in_ok-next.ensures.none
 
 pub conjunction-returns-in_err-left : goal.conjunction-returns-in_err-left
 conjunction-returns-in_err-left t c = exits _ _ _ _ _ c.from_residual.ensures.1 (ands_fail _ _ c.in_err-left.ensures)
 
-pub conjunction-loop-left-init : goal.conjunction-loop-left-init
-conjunction-loop-left-init t c = ands_start _ _ c.in_ok-left.ensures
+pub conjunction-loop-next-init : goal.conjunction-loop-next-init
+conjunction-loop-next-init t c = ands_start _ _ c.in_ok-left.ensures
 
 pub conjunction-returns-in_err-next : goal.conjunction-returns-in_err-next
 conjunction-returns-in_err-next t c =
-    exits _ _ _ _ _ c.from_residual-in_err-next.ensures.1 (and_full _ _ _ _ c.loop-left.invariant c.in_err-next.ensures.too_many c.in_err-next.ensures.full)
+    exits _ _ _ _ _ c.from_residual-in_err-next.ensures.1 (and_full _ _ _ _ c.loop-next.invariant c.in_err-next.ensures.too_many c.in_err-next.ensures.full)
 
 pub conjunction-returns-in_err-right : goal.conjunction-returns-in_err-right
 conjunction-returns-in_err-right t c =
-    exits _ _ _ _ _ c.from_residual-in_err-right.ensures.1 (and_breaks _ _ _ _ _ _ c.in-Some.is c.loop-left.invariant c.in_ok-next.ensures.some c.in_ok-next.ensures.behind c.in_err-right.ensures)
+    exits _ _ _ _ _ c.from_residual-in_err-right.ensures.1 (and_breaks _ _ _ _ _ _ c.in-Some.is c.loop-next.invariant c.in_ok-next.ensures.some c.in_ok-next.ensures.behind c.in_err-right.ensures)
 
-pub conjunction-loop-left-smaller : goal.conjunction-loop-left-smaller
-conjunction-loop-left-smaller t c =
-    less_left c.args.text.now c.args.tokens.now (sunary_lawful c.args.text.now c.args.tokens.now) c.loop-left.at _ _ _ c.in-Some.is c.in_ok-next.ensures.behind c.in_ok-next.ensures.inside c.in_ok-right.ensures
+pub conjunction-loop-next-smaller : goal.conjunction-loop-next-smaller
+conjunction-loop-next-smaller t c =
+    less_left c.args.text.now c.args.tokens.now (sunary_lawful c.args.text.now c.args.tokens.now) c.loop-next.at _ _ _ c.in-Some.is c.in_ok-next.ensures.behind c.in_ok-next.ensures.inside c.in_ok-right.ensures
 
-pub conjunction-loop-left-preserved : goal.conjunction-loop-left-preserved
-conjunction-loop-left-preserved t c =
-    rw c.in_ok-left-2.ensures (and_next _ _ _ _ _ _ c.in-Some.is c.loop-left.invariant c.in_ok-next.ensures.some c.in_ok-right.ensures)
+pub conjunction-loop-next-preserved : goal.conjunction-loop-next-preserved
+conjunction-loop-next-preserved t c =
+    rw c.in_ok-left-2.ensures (and_next _ _ _ _ _ _ c.in-Some.is c.loop-next.invariant c.in_ok-next.ensures.some c.in_ok-right.ensures)
 
 pub conjunction-returns : goal.conjunction-returns
-conjunction-returns t c = ands_end _ _ _ _ c.in_default.is c.loop-left.invariant c.in_ok-next.ensures.none
+conjunction-returns t c = ands_end _ _ _ _ c.in_default.is c.loop-next.invariant c.in_ok-next.ensures.none
 
 pub simple-returns-then-room-eq0 : goal.simple-returns-then-room-eq0
 simple-returns-then-room-eq0 t c = no_room_to_negate _ _ c.in-Some.ensures.here c.if-room-eq0.true

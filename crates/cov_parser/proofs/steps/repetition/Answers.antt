@@ -13,7 +13,7 @@ use Rattle.cov_parser.proofs.BinsWalks.{ways, colon_lawful, two_numbers_lawful, 
 use Rattle.cov_parser.proofs.steps.repetition.Goals as goal
 
 pub returns-in_default : goal.returns-in_default
-returns-in_default c = no_repetition c.args.text.now c.args.tokens.now c.in_default.ensures.none
+returns-in_default c = rw c.of.ensures (no_repetition c.args.text.now c.args.tokens.now c.in_default.ensures.none)
 
 pub returns-in_default-take : goal.returns-in_default-take
 returns-in_default-take c = (repetition_part c.args.text.now c.args.tokens.now (c.in-Some.ensures.some c.args.room)).fails (both_fails _ (times_lawful c.args.text.now c.args.tokens.now) (lawful_word c.args.tokens.now CloseSquare) refl (both_fails _ (lawful_one c.args.tokens.now (ways c.args.text.now c.args.tokens.now)) (two_numbers_lawful c.args.text.now c.args.tokens.now) refl (one_fails _ _ _ _ c.in_default-take.ensures.none)))
@@ -31,4 +31,4 @@ pub returns-in_err-high : goal.returns-in_err-high
 returns-in_err-high c = exits _ _ _ _ _ c.from_residual-in_err-high.ensures.1 (no_more _ (c.in_err-high.ensures.only_memory _ _ c.in_ok-low.ensures))
 
 pub returns : goal.returns
-returns c = rw (c.times_of.ensures, c.in_ok-high.ensures.same _ _ c.in_ok-low.ensures) ((repetition_part c.args.text.now c.args.tokens.now (c.in-Some.ensures.some c.args.room)).reads (both_reads _ (times_lawful c.args.text.now c.args.tokens.now) (lawful_word c.args.tokens.now CloseSquare) refl (both_reads repeated (lawful_one c.args.tokens.now (ways c.args.text.now c.args.tokens.now)) (two_numbers_lawful c.args.text.now c.args.tokens.now) refl (c.in-Some-take.ensures.some c.args.room) (both_reads pair (expr_lawful c.args.text.now c.args.tokens.now) (lawful_maybe (colon_lawful c.args.text.now c.args.tokens.now) refl) refl c.in_ok-low.ensures c.in_ok-second.ensures)) (c.in_ok-after.ensures _)))
+returns c = rw (c.of-2.ensures, c.times_of.ensures, c.in_ok-high.ensures.same _ _ c.in_ok-low.ensures) ((repetition_part c.args.text.now c.args.tokens.now (c.in-Some.ensures.some c.args.room)).reads (both_reads _ (times_lawful c.args.text.now c.args.tokens.now) (lawful_word c.args.tokens.now CloseSquare) refl (both_reads repeated (lawful_one c.args.tokens.now (ways c.args.text.now c.args.tokens.now)) (two_numbers_lawful c.args.text.now c.args.tokens.now) refl (c.in-Some-take.ensures.some c.args.room) (both_reads pair (expr_lawful c.args.text.now c.args.tokens.now) (lawful_maybe (colon_lawful c.args.text.now c.args.tokens.now) refl) refl c.in_ok-low.ensures c.in_ok-second.ensures)) (c.in_ok-after.ensures _)))

@@ -10,7 +10,7 @@ pub returns-in_err-first : goal.returns-in_err-first
 returns-in_err-first c = exits _ _ _ _ _ c.from_residual.ensures.1 (seqs_fails c.args.text.now c.args.tokens.now c.in_err-first.ensures)
 
 pub loop-next-init : goal.loop-next-init
-loop-next-init c = rw (c.in_ok-push.ensures.items, c.new-sequences.ensures.items) (chain_first (seq_lawful c.args.text.now c.args.tokens.now) (Comma ∷ []) refl c.in_ok-first.ensures)
+loop-next-init c = rw (c.in_ok-push.ensures, c.new-sequences.ensures) (chain_first (seq_lawful c.args.text.now c.args.tokens.now) (Comma ∷ []) refl c.in_ok-first.ensures)
 
 pub returns-in_err-sequence : goal.returns-in_err-sequence
 returns-in_err-sequence c = exits _ _ _ _ _ c.from_residual-in_err-sequence.ensures.1 (seqs_breaks c.args.text.now c.args.tokens.now _ c.loop-next.invariant (c.in-Some.ensures.some _) c.in_err-sequence.ensures)
@@ -19,7 +19,7 @@ pub loop-next-smaller : goal.loop-next-smaller
 loop-next-smaller c = chain_falls (seq_lawful c.args.text.now c.args.tokens.now) (Comma ∷ []) refl (c.in-Some.ensures.some _) c.in_ok-sequence.ensures
 
 pub loop-next-preserved : goal.loop-next-preserved
-loop-next-preserved c = rw c.in_ok-push-2.ensures.items (chain_next (seq_lawful c.args.text.now c.args.tokens.now) (Comma ∷ []) refl _ c.loop-next.invariant (c.in-Some.ensures.some _) c.in_ok-sequence.ensures)
+loop-next-preserved c = rw c.in_ok-push-2.ensures (chain_next (seq_lawful c.args.text.now c.args.tokens.now) (Comma ∷ []) refl _ c.loop-next.invariant (c.in-Some.ensures.some _) c.in_ok-sequence.ensures)
 
 pub returns : goal.returns
-returns c = rw c.of.ensures (seqs_ends c.args.text.now c.args.tokens.now _ c.loop-next.invariant c.in_default.ensures.none)
+returns c = seqs_ends c.args.text.now c.args.tokens.now _ c.loop-next.invariant c.in_default.ensures.none

@@ -9,4 +9,4 @@ pub returns-in_err-repeated : goal.returns-in_err-repeated
 returns-in_err-repeated c = exits _ _ _ _ _ c.from_residual-in_err-repeated.ensures.1 (step_breaks c.args.text.now c.args.tokens.now c.in_ok-elems.ensures c.in_err-repeated.ensures)
 
 pub returns : goal.returns
-returns c = rw (c.times_or_once-times.ensures, c.start_at-start.ensures) (step_reads c.args.text.now c.args.tokens.now c.in_ok-elems.ensures c.in_ok-repeated.ensures)
+returns c = rw (c.of.ensures, c.times_or_once-times.ensures, c.start_at-start.ensures) (step_reads c.args.text.now c.args.tokens.now c.in_ok-elems.ensures c.in_ok-repeated.ensures)

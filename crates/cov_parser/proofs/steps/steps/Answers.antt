@@ -9,7 +9,7 @@ pub returns-in_err-first : goal.returns-in_err-first
 returns-in_err-first c = exits _ _ _ _ _ c.from_residual.ensures.1 (chain_fails (step_lawful c.args.text.now c.args.tokens.now) (FatArrow ∷ []) refl c.in_err-first.ensures)
 
 pub loop-next-init : goal.loop-next-init
-loop-next-init c = rw (c.in_ok-push.ensures.items, c.new-steps.ensures.items) (chain_first (step_lawful c.args.text.now c.args.tokens.now) (FatArrow ∷ []) refl c.in_ok-first.ensures)
+loop-next-init c = rw c.in_ok-steps.ensures (chain_first (step_lawful c.args.text.now c.args.tokens.now) (FatArrow ∷ []) refl c.in_ok-first.ensures)
 
 pub returns-in_err-step : goal.returns-in_err-step
 returns-in_err-step c = exits _ _ _ _ _ c.from_residual-in_err-step.ensures.1 (chain_breaks (step_lawful c.args.text.now c.args.tokens.now) (FatArrow ∷ []) refl _ c.loop-next.invariant (c.in-Some.ensures.some _) c.in_err-step.ensures)
@@ -18,7 +18,7 @@ pub loop-next-smaller : goal.loop-next-smaller
 loop-next-smaller c = chain_falls (step_lawful c.args.text.now c.args.tokens.now) (FatArrow ∷ []) refl (c.in-Some.ensures.some _) c.in_ok-step.ensures
 
 pub loop-next-preserved : goal.loop-next-preserved
-loop-next-preserved c = rw c.in_ok-push-2.ensures.items (chain_next (step_lawful c.args.text.now c.args.tokens.now) (FatArrow ∷ []) refl _ c.loop-next.invariant (c.in-Some.ensures.some _) c.in_ok-step.ensures)
+loop-next-preserved c = rw c.in_ok-add.ensures (chain_next (step_lawful c.args.text.now c.args.tokens.now) (FatArrow ∷ []) refl _ c.loop-next.invariant (c.in-Some.ensures.some _) c.in_ok-step.ensures)
 
 pub returns : goal.returns
-returns c = rw c.of.ensures (chain_ends (step_lawful c.args.text.now c.args.tokens.now) (FatArrow ∷ []) refl _ c.loop-next.invariant c.in_default.ensures.none)
+returns c = chain_ends (step_lawful c.args.text.now c.args.tokens.now) (FatArrow ∷ []) refl _ c.loop-next.invariant c.in_default.ensures.none

@@ -6,6 +6,5 @@ pub returns-in_default : goal.returns-in_default
 returns-in_default c = leads_parses _ (not_fixed _ _ c.in_default.ensures.none) c.vector.ensures
 
 pub returns : goal.returns
-returns c =
-    let s = c.sign-signed.ensures c.args.text.now c.args.room in
-    rw (c.width_of-width.ensures, s.2) (fixed_read _ _ c.in-Some.ensures.here (c.in-Some.ensures.some _) s.1)
+returns c = let s = c.sign-signed.ensures c.args.text.now c.args.room in
+    rw (c.of.ensures, c.width_of-width.ensures, s.2) (fixed_read _ _ c.in-Some.ensures.here (c.in-Some.ensures.some _) s.1)

@@ -6,4 +6,4 @@ pub returns-in_default : goal.returns-in_default
 returns-in_default c = leads_parses _ (not_named _ _ c.in_default.ensures.none) c.built_in.ensures
 
 pub returns : goal.returns
-returns c = rw c.in_ok-name.ensures (named_read _ _ c.in-Some.ensures.here (c.in-Some.ensures.some _))
+returns c = rw (c.of.ensures, c.in_ok-name.ensures) (named_read _ _ c.in-Some.ensures.here (c.in-Some.ensures.some _))

@@ -11,6 +11,5 @@ returns-in_err-span c =
     exits _ _ _ _ _ c.from_residual.ensures.1 ((vector_spans _ _ (c.in-Some.ensures.some _) s.1).fails c.in_err-span.ensures)
 
 pub returns : goal.returns
-returns c =
-    let s = c.sign-signed.ensures c.args.text.now c.args.room in
-    rw s.2 ((vector_spans _ _ (c.in-Some.ensures.some _) s.1).reads c.in_ok-span.ensures)
+returns c = let s = c.sign-signed.ensures c.args.text.now c.args.room in
+    rw (c.of.ensures, c.put-span.ensures) (rw s.2 ((vector_spans _ _ (c.in-Some.ensures.some _) s.1).reads c.in_ok-span.ensures))

@@ -2,4 +2,4 @@ use Rattle.cov_proto.proofs.RequestLaws.{is_spelled}
 use Rattle.cov_proto.proofs.laws.read_requests_are_spelled.Goals as goal
 
 pub returns : goal.returns
-returns c body r fits e = let s = is_spelled body r fits e in (s.parts, s.fits, s.typed)
+returns c = is_spelled

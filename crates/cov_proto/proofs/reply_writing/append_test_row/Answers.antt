@@ -1,4 +1,4 @@
-use Rattle.std.proofs.Common.{◌≡◌, ◌∷◌, [], refl, ◌∙◌}
+use Rattle.std.proofs.Common.{◌∷◌, [], refl, ◌∙◌}
 use Rattle.std.specs.Int.{w64, to_be_bytes}
 use Rattle.cov_proto.specs.Spelled.{text, test_row}
 use Rattle.cov_proto.proofs.Sizes.{seven}

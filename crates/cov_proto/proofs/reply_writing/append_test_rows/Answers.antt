@@ -1,4 +1,4 @@
-use Rattle.std.proofs.Common.{◌≡◌, ◌≤◌, arith}
+use Rattle.std.proofs.Common.{arith}
 use Rattle.cov_proto.specs.Spelled.{test_row}
 use Rattle.cov_proto.proofs.Sizes.{room_for}
 use Rattle.cov_proto.proofs.reply_writing.append_test_rows.Goals as goal

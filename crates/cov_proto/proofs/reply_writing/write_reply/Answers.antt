@@ -1,4 +1,4 @@
-use Rattle.std.proofs.Common.{◌≡◌, ◌+◌, arith, refl, ◌∙◌}
+use Rattle.std.proofs.Common.{◌+◌, arith, refl, ◌∙◌}
 use Rattle.cov_proto.proofs.Sizes.{whole_frame}
 use Rattle.cov_proto.proofs.reply_writing.write_reply.Goals as goal
 

@@ -1,4 +1,4 @@
-use Rattle.std.proofs.Common.{◌≡◌, ◌∙◌, ap, Err}
+use Rattle.std.proofs.Common.{◌∙◌, ap, Err}
 use Rattle.std.proofs.lemmas.Result.{err_from_is_err_and}
 use Rattle.cov_proto.proofs.Loops.{puts_on, put_ends, is_done, is_over, is_zero, is_some, at_end, not_at_end}
 use Rattle.cov_proto.proofs.rows.all_rows.Goals as goal

@@ -7,8 +7,8 @@ pub returns-clause-kept : goal.returns-clause-kept
 returns-clause-kept c = on_ok_weaker c.keep_if.result (λ kept bins free.
     let sizes = c.args.sizes.now in
     let rule = c.args.made.bin.rule in
-    let has = c.has_some.ensures sizes (λ product. picks product rule && is_left bins c.args.made.bin.kind product) (sym c.requires.count)
-    (c.meet.ensures.marks sizes (λ product. picks product rule) (is_left bins c.args.made.bin.kind) c.in_ok-bits.ensures free) in
+    let has = c.shares.ensures sizes (λ product. picks product rule) (is_left bins c.args.made.bin.kind) (sym c.requires.count)
+    c.in_ok-bits.ensures free in
     kept ∙ ap (λ (b : Bool). c.args.kept.now ++ cond b (c.args.made ∷ []) []) has) c.keep_if.ensures
 
 pub returns-clause-picked : goal.returns-clause-picked

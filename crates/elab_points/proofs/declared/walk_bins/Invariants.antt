@@ -4,4 +4,4 @@ use Rattle.elab_base.proofs.Folds.{Left}
 use Rattle.elab_points.proofs.declared.walk_bins.Given as goal
 
 abbrev pub invariant-loop-decl : goal.invariant-loop-decl
-invariant-loop-decl l = Left (λ k. bins_declared l.scope l.domain l.name l.distribute) l.decl-index l.decls l.walked (each (bins_declared l.scope l.domain l.name l.distribute) l.decls no_bins)
+invariant-loop-decl l = Left (λ k. bins_declared l.scope l.domain l.name l.manner) l.decl-index l.decls l.walked (each (bins_declared l.scope l.domain l.name l.manner) l.decls no_bins)

@@ -4,6 +4,6 @@ use Rattle.ucis_model.proofs.building.add_bins.Given as goal
 
 abbrev pub invariant-loop-bin : goal.invariant-loop-bin
 invariant-loop-bin l =
-    (with_bins l.parent l.next (drop l.bin-index l.bins) l.nodes ≡ with_bins l.parent l.first l.bins l.initial.nodes)
+    (with_bins l.parent l.at_least l.next (drop l.bin-index l.bins) l.nodes ≡ with_bins l.parent l.at_least l.first l.bins l.initial.nodes)
     × (l.next ≡ l.first + l.bin-index)
     × (l.parent < length l.nodes)

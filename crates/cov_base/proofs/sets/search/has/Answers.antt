@@ -1,6 +1,6 @@
 use Rattle.std.proofs.Common.{◌≡◌, Bool, ◌↔◌, IsTrue, length, rules, subst, sym}
 use Rattle.std.specs.Prelude.{◌&&◌}
-use Rattle.cov_spec.specs.Coverage.{InRanges}
+use Rattle.cov_spec.specs.Ranges.{InRanges}
 use Rattle.cov_base.specs.Sets.{is_in, written, least}
 use Rattle.cov_base.proofs.Finds.{found_at, none_found, is_in_ranges, lows_ascend}
 use Rattle.cov_base.proofs.sets.search.has.Goals as goal

@@ -1,0 +1,11 @@
+pub mod Tallies
+pub mod Tables
+pub mod Nodes
+pub mod History
+pub mod Coverage
+pub mod Ranking
+pub mod Answers
+pub mod Steps
+pub mod Laws
+pub mod Flags
+pub mod Sums

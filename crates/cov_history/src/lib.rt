@@ -1,0 +1,23 @@
+//! What a store answers: histories of what its callers changed, and the answer to each ask at a history, as definitions
+//! with their laws.
+#![tactic(auto)]
+
+mod asking;
+mod asks;
+mod covering;
+mod entry;
+mod facts;
+mod flags;
+mod gone;
+pub mod laws;
+mod merging;
+mod together;
+mod whole;
+
+pub use asking::coverage_answer;
+pub use asks::Ask;
+pub use entry::{Entry, Event, Revision};
+pub use whole::coverage_by_definition;
+
+#[cfg(test)]
+mod tests;

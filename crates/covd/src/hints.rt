@@ -1,0 +1,231 @@
+//! Hints for a person, on standard error. What a command prints, and its status, stand without them.
+ghost use Rattle.std.specs.Prelude.{◌+◌, ◌<◌, ◌≤◌, ◌^◌, length};
+ghost use Rattle.cov_ground.specs.Limits.{longest_design};
+
+use cov_base::{Shelf, ShelfRefusal};
+use cov_ground::limits::{LONGEST_DESIGN, LONGEST_RECORD};
+use cov_lexer::LexFault;
+use cov_net::FileShelf;
+use cov_parser::ParseFault;
+use covd_core::{CompileFault, Refusal, Status, compile, refusal_of};
+use elab_base::{ElabFault, ElabKind};
+use std::alloc::{AllocError, Global};
+use std::rt::Files;
+use text_place::{line_at, line_end};
+
+/// The longest line that is shown.
+const SHOWN: usize = 160;
+
+/// What a fault of the tokens is.
+fn lexing(fault: LexFault) -> &'static str {
+    match fault {
+        LexFault::BadByte { .. } => "no token begins with this byte",
+        LexFault::OpenComment { .. } => "this comment has no end",
+        LexFault::OpenString { .. } => "this string has no end in its line",
+        LexFault::LiteralTooWide { .. } => "the size is not 1 to 64, or the digits don't fit it",
+        LexFault::NameTooLong { .. } => "a name has at most 1024 bytes",
+        LexFault::Memory => "out of memory",
+    }
+}
+
+/// What a fault of the grammar is.
+fn parsing(fault: ParseFault) -> &'static str {
+    match fault {
+        ParseFault::Syntax { .. } => "no design text goes on like this here",
+        ParseFault::NotSupported { .. } => "SystemVerilog has this, a design text hasn't",
+        ParseFault::TooDeep { .. } => "more than 64 levels, or more than 1024 operators",
+        ParseFault::Memory => "out of memory",
+    }
+}
+
+/// What a kind of faults of the declarations is.
+fn declaring(kind: ElabKind) -> &'static str {
+    match kind {
+        ElabKind::DuplicateName => "this name is declared before",
+        ElabKind::UnknownType => "no type or covergroup of this name is declared before",
+        ElabKind::UnknownName => "no value of this name can be seen here",
+        ElabKind::TooWide => "a width is 1 to 64, and a span goes down to 0 at least",
+        ElabKind::BadSelect => "this can't be selected from, or not these bits",
+        ElabKind::BadConcat => "a number in a concatenation needs a size",
+        ElabKind::UnknownLiteral => "a number with x, z or ? can't stand here",
+        ElabKind::BadWildcard => "a number with x, z or ? is an element by itself",
+        ElabKind::NotConstant => "a constant with a known value is needed here",
+        ElabKind::BadEnum => "two constants are equal, or one doesn't fit the base",
+        ElabKind::ArgCount => "there are more arguments than formals, or one is missing",
+        ElabKind::TooManyArgs => "a sample function has at most 16 arguments",
+        ElabKind::RefNotVariable => "a ref formal wants a variable of its own type",
+        ElabKind::NotThisPoint => "the name before `with` is the coverpoint's own",
+        ElabKind::IgnoreDefault => "default values can't be ignored",
+        ElabKind::ZeroBins => "an array has at least one bin",
+        ElabKind::BadRepeat => "a repetition is at least 1, and its ends ascend",
+        ElabKind::Unbounded => "[] needs lists of bounded length, without -> and =",
+        ElabKind::TooManyValues => "with filters at most 1048576 numbers",
+        ElabKind::TooManyRanges => "a set has at most 65536 intervals",
+        ElabKind::TooLong => "these sequences have more than 120 cells",
+        ElabKind::TooManyBins => "a coverpoint or cross has at most 65536 bins",
+        ElabKind::UnknownPoint => "a cross is of earlier coverpoints and of variables, each once",
+        ElabKind::NotCrossed => "the cross is not of this coverpoint",
+        ElabKind::UnknownBin => "the coverpoint declares no bin of this name",
+        ElabKind::TooManyPoints => "a cross is of at most 16 coverpoints",
+        ElabKind::TooManyProducts => "a cross has at most 1048576 products",
+        ElabKind::UnknownOption => "there is no such option",
+        ElabKind::WrongLevel => "this option can't be set here",
+        ElabKind::OutOfRange => "the option doesn't take this value",
+        ElabKind::SetTwice => "the option is set before",
+        ElabKind::DesignLimit => "the design is too large (see docs/FORMATS.md)",
+    }
+}
+
+fn meaning(fault: &CompileFault) -> &'static str {
+    match fault {
+        CompileFault::Lex(fault) => lexing(*fault),
+        CompileFault::Parse(fault) => parsing(*fault),
+        CompileFault::Elab(ElabFault::Fault { kind, .. }) => declaring(*kind),
+        CompileFault::Elab(ElabFault::Memory) => "out of memory",
+    }
+}
+
+/// Adds a mark under the byte behind these of its line. Tabs stay tabs, and a letter of several bytes is one blank.
+fn add_mark(hint: &mut String, before: &[u8]) -> Result<(), AllocError> {
+    for byte in before {
+        match *byte {
+            b'\t' => hint.push('\t')?,
+            0x80..=0xBF => {}
+            _ => hint.push(' ')?,
+        }
+    }
+    hint.push_str("^\n")
+}
+
+/// `design.sv:12:7: Syntax: no design text goes on like this here`, then the line with a mark under the place.
+pub(crate) fn place_hint(
+    alloc: Global,
+    name: &str,
+    text: &[u8],
+    refusal: Refusal,
+    meaning: &str,
+) -> Result<String, AllocError>
+    requires { length text.now + 1 < 2 ^ 32 }
+{
+    let at = (refusal.at as usize).min(text.len());
+    let line = line_at(text, at);
+    let end = line_end(text, at);
+    let column = at - line.start + 1;
+    let mut hint = format!(in alloc;
+        "{name}:{}:{column}: {}: {meaning}\n",
+        line.number, refusal.kind
+    )?;
+    if end - line.start > SHOWN {
+        return Ok(hint);
+    }
+    if let Ok(shown) = str::from_utf8(&text[line.start..end]) {
+        hint.push_str(shown)?;
+        hint.push('\n')?;
+        add_mark(&mut hint, &text[line.start..at])?;
+    }
+    Ok(hint)
+}
+
+/// The hint on a design text that is refused.
+fn design_hint(alloc: Global, name: &str, text: &[u8]) -> Result<Option<String>, AllocError>
+    requires { length text.now ≤ longest_design }
+{
+    if text.starts_with(b"CVRC") {
+        return Ok(Some(format!(in alloc;
+            "{name} is a test record: the design comes first, as in covd count DESIGN RECORD\n"
+        )?));
+    }
+    let Err(fault) = compile(alloc, text) else {
+        return Ok(None);
+    };
+    let Some(refusal) = refusal_of(fault) else {
+        return Ok(None);
+    };
+    let hint = place_hint(alloc, name, text, refusal, meaning(&fault))?;
+    Ok(Some(hint))
+}
+
+/// The hint on a file that can't be read.
+fn file_hint(alloc: Global, name: &str, cause: ShelfRefusal) -> Result<Option<String>, AllocError> {
+    let why = match cause {
+        ShelfRefusal::Missing => "there is no such file",
+        ShelfRefusal::Failed =>
+            "it is no file that can be read: is it there, is it a folder, may you read it?",
+        ShelfRefusal::TooLong { .. } =>
+            "a design text has at most 1048576 bytes, a record at most 8388608",
+        ShelfRefusal::Memory => return Ok(None),
+    };
+    Ok(Some(format!(in alloc; "{name}: {why}\n")?))
+}
+
+/// The hint on words that are no command.
+fn words_hint(alloc: Global, words: &[String]) -> Result<String, AllocError> {
+    let form = match words.first().map(|word| word.as_str()) {
+        Some("check") => "covd check DESIGN",
+        Some("count") => "covd count DESIGN RECORD",
+        _ => "covd check DESIGN, or covd count DESIGN RECORD",
+    };
+    format!(in alloc; "the words are: {form}; covd --help says more\n")
+}
+
+/// The hint on a record that is refused.
+fn record_hint(alloc: Global, name: &str, bytes: &[u8]) -> Result<Option<String>, AllocError> {
+    if bytes.starts_with(b"CVRC") {
+        return Ok(None);
+    }
+    Ok(Some(format!(in alloc; "{name} is no test record: it doesn't begin with CVRC\n")?))
+}
+
+/// The hint on the design text of a file.
+fn on_design<R: Files + AllocGlobal>(rt: &R, name: &str) -> Result<Option<String>, AllocError> {
+    match FileShelf::new(rt).load(rt.alloc(), name, LONGEST_DESIGN) {
+        Ok(text) => design_hint(rt.alloc(), name, &text),
+        Err(_) => Ok(None),
+    }
+}
+
+/// The hint on the record of a file.
+fn on_record<R: Files + AllocGlobal>(rt: &R, name: &str) -> Result<Option<String>, AllocError> {
+    match FileShelf::new(rt).load(rt.alloc(), name, LONGEST_RECORD) {
+        Ok(bytes) => record_hint(rt.alloc(), name, &bytes),
+        Err(_) => Ok(None),
+    }
+}
+
+/// The hint on the first file that can't be read.
+fn on_files<R: Files + AllocGlobal>(
+    rt: &R,
+    words: &[String],
+) -> Result<Option<String>, AllocError> {
+    let mut most = LONGEST_DESIGN;
+    for word in words.iter().skip(1) {
+        if let Err(cause) = FileShelf::new(rt).load(rt.alloc(), word.as_str(), most) {
+            return file_hint(rt.alloc(), word.as_str(), cause);
+        }
+        most = LONGEST_RECORD;
+    }
+    Ok(None)
+}
+
+/// The hint on how a command with these words ended.
+fn hint_on<R: Files + AllocGlobal>(
+    rt: &R,
+    words: &[String],
+    status: Status,
+) -> Result<Option<String>, AllocError> {
+    match (status, words) {
+        (Status::BadWords, _) => Ok(Some(words_hint(rt.alloc(), words)?)),
+        (Status::DesignRefused, [_, design, ..]) => on_design(rt, design.as_str()),
+        (Status::RecordRefused, [_, _, record, ..]) => on_record(rt, record.as_str()),
+        (Status::ShelfFault | Status::FileTooLong, _) => on_files(rt, words),
+        _ => Ok(None),
+    }
+}
+
+/// Prints why a command with these words ended so, where there is more to say than its line and status do.
+pub fn print_hint<R: Files + Eprint + AllocGlobal>(rt: &R, words: &[String], status: Status) {
+    if let Ok(Some(hint)) = hint_on(rt, words, status) {
+        // a hint that can't be printed is no failure of the command
+        let _ = eprint!(rt; "{hint}");
+    }
+}

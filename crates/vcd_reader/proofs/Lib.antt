@@ -1,0 +1,9 @@
+pub mod Found
+pub mod Widths
+pub mod Loops
+pub mod Each
+pub mod Tables
+pub mod Pushes
+pub mod Limited
+pub mod Instances
+pub mod Sampled

@@ -1,0 +1,17 @@
+pub mod Words
+pub mod Numbers
+pub mod Values
+pub mod Gives
+pub mod Header
+pub mod Body
+pub mod Reading
+pub mod Refusals
+pub mod Signals
+pub mod Watching
+pub mod Held
+pub mod Moments
+pub mod Pushing
+pub mod Starting
+pub mod Events
+pub mod Records
+pub mod Laws

@@ -1,0 +1,2 @@
+pub mod Distances
+pub use Rattle.wildcard_bins.specs.Patterns
