@@ -5,6 +5,7 @@ pub mod History
 pub mod Coverage
 pub mod Ranking
 pub mod Answers
+pub mod Turns
 pub mod Steps
 pub mod Laws
 pub mod Flags

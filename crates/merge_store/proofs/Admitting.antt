@@ -39,7 +39,7 @@ passed_is opening h a are =
     let y : is_over opening h History ≡ nat_lt 1048576 a.history = ap (nat_lt 1048576) (sym are.history) in
     rw (t, b, e, y) refl
 
-full_is : (opening : Design) (before after : List Entry) (now later : Amounts) → AreAmounts opening before now → AreAmounts opening after later → (w : Which) → answer.Full w (amount opening before w) (amount opening after w) ≡ answer.Full w (amount_in now w) (amount_in later w)
+pub full_is : (opening : Design) (before after : List Entry) (now later : Amounts) → AreAmounts opening before now → AreAmounts opening after later → (w : Which) → answer.Full w (amount opening before w) (amount opening after w) ≡ answer.Full w (amount_in now w) (amount_in later w)
 full_is opening before after now later a b Tests = λ i. answer.Full Tests (sym a.tests i) (sym b.tests i)
 full_is opening before after now later a b Bytes = λ i. answer.Full Bytes (sym a.bytes i) (sym b.bytes i)
 full_is opening before after now later a b Entries = λ i. answer.Full Entries (sym a.entries i) (sym b.entries i)

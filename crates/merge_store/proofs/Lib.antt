@@ -15,3 +15,11 @@ pub mod Merging
 pub mod Running
 pub mod Numbers
 pub mod Marking
+pub mod Setting
+pub mod Members
+pub mod Places
+pub mod Moving
+pub mod Latest
+pub mod Revising
+pub mod Served
+pub mod Refusing

@@ -203,7 +203,7 @@ out_less nodes ps out outs fewer path n h f there e = record {
         let ne : m ≢ n = λ k. true≢false (sym (eq-eqb m n k) ∙ e) in
         get_or-set_other out n m None None ne ∙ h.at m ∙ sym (find_filter (λ (p : List ℕ). is_node m (find_in nodes p)) (λ (p : List ℕ). not (bytes_eq p path)) (λ p t. by_bool (bytes_eq p path) (λ b. absurd (true≢false (sym t ∙ is_node_other m n (find_in nodes p) (ap (find_in nodes) (same_bytes p path b) ∙ f) ne))) (not_false (bytes_eq p path))) ps)
 
-find_true : {A : Type 0} (t : A → Bool) (xs : List A) (x : A) → find t xs ≡ Some x → t x ≡ true
+pub find_true : {A : Type 0} (t : A → Bool) (xs : List A) (x : A) → find t xs ≡ Some x → t x ≡ true
 find_true t [] x h = absurd (cc)
 find_true {A = A} t (y ∷ ys) x h =
     let rest = find_true t ys x in

@@ -9,3 +9,6 @@ pub mod Told
 pub mod May
 pub mod Now
 pub mod Sound
+pub mod Putting
+pub mod Lasts
+pub mod Remakes

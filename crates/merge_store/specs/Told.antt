@@ -14,6 +14,8 @@ use Rattle.merge_store.specs.declared.faults.Admitted.{Admitted}
 use Rattle.merge_store.specs.declared.faults.Admitted.TheVariants as admits
 use Rattle.merge_store.specs.declared.faults.AdmitFault.{AdmitFault}
 use Rattle.merge_store.specs.declared.faults.AdmitFault.TheVariants as refuses
+use Rattle.merge_store.specs.declared.faults.ReviseFault.{ReviseFault}
+use Rattle.merge_store.specs.declared.faults.ReviseFault.TheVariants as revises
 use Rattle.merge_store.specs.declared.faults.IncludeFault.{IncludeFault}
 use Rattle.merge_store.specs.declared.faults.IncludeFault.TheVariants as includes
 use Rattle.merge_store.specs.declared.faults.ExcludeFault.{ExcludeFault}
@@ -69,6 +71,16 @@ abbrev pub included : {A : Type 0} → Result A IncludeFault → Answer
 included (Ok x) = answer.Changed
 included (Err includes.NoSuchPath) = answer.NoSuchPath
 included (Err includes.NotExcluded) = answer.NotExcluded
+
+-- what revise answers
+abbrev pub not_revised : ReviseFault → Answer
+not_revised (revises.Moved since) = answer.Moved since
+not_revised (revises.Full which have want) = answer.Full which have want
+not_revised revises.Memory = answer.Memory
+
+abbrev pub revised : {A B : Type 0} → Result A (B × ReviseFault) → Answer
+revised (Ok x) = answer.Changed
+revised (Err f) = not_revised f.1
 
 -- ---- queries
 

@@ -27,7 +27,7 @@ pub(crate) enum Judged {
 
 impl Store {
     /// What its history amounts to.
-    fn amounts(&self) -> Amounts
+    pub(crate) fn amounts(&self) -> Amounts
         ensures { AreAmounts (opening_of self.now) (entries_of self.now) result }
     {
         Amounts {

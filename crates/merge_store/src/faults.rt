@@ -56,6 +56,20 @@ pub enum IncludeFault {
     NotExcluded,
 }
 
+/// Why the design of another text isn't taken.
+#[derive(Clone, Copy, Debug, PartialEq, Eq, Error)]
+pub enum ReviseFault {
+    /// A test was admitted, or the design revised, since this point.
+    #[error("the store has changed since point {since}")]
+    Moved { since: u64 },
+    /// A limit would be passed: the amount now, and the one afterwards.
+    #[error("the store is full: {have} now, {want} afterwards")]
+    Full { which: Which, have: u64, want: u64 },
+    /// Memory ran out.
+    #[error("memory ran out")]
+    Memory,
+}
+
 /// Why a query isn't answered.
 #[derive(Clone, Copy, Debug, PartialEq, Eq, Error)]
 pub enum QueryFault {
@@ -63,7 +77,7 @@ pub enum QueryFault {
     #[error("no node has this path")]
     NoSuchPath,
     /// No test has the id, or the place.
-    #[error("there is no such test")]
+    #[error("no tests have this id or place")]
     NoSuchTest,
     /// Memory ran out.
     #[error("memory ran out")]

@@ -13,7 +13,7 @@ use indexmap::IndexMap;
 use std::alloc::Global;
 use std::sync::Arc;
 
-fn nothing_out(alloc: Global, nodes: u32) -> Result<Vec<Option<Arc<Name>>>, Memory>
+pub(crate) fn nothing_out(alloc: Global, nodes: u32) -> Result<Vec<Option<Arc<Name>>>, Memory>
     ensures { IfOk result (λ out. out.items ≡ replicate nodes None) }
 {
     let mut out = Vec::new(alloc);

@@ -4,6 +4,7 @@ ghost use Rattle.sha2.specs.Sha256.{sha256};
 ghost use Rattle.record_codec.specs.Spelling.{spelling};
 
 use cov_tree::Name;
+use design_data::Design;
 use record_codec::Record;
 use sampler::Prepared;
 use std::sync::Arc;
@@ -15,6 +16,8 @@ pub(crate) enum HeldEvent {
     Admit(Arc<Record>),
     Exclude(Arc<Name>),
     Include(Arc<Name>),
+    /// A text with its design.
+    Revise(Name, Arc<Design>),
 }
 
 /// A change with the number of its caller.

@@ -1,8 +1,10 @@
-//! A store: tests that were admitted and nodes that are out of coverage, as one history over a design, with running sums.
+//! A store: tests that were admitted and nodes that are out of coverage, as one history over a design that may be revised, with
+//! running sums.
 #![tactic(auto)]
 
 mod admit;
 mod amounts;
+mod basis;
 mod book;
 mod branches;
 mod changes;
@@ -16,9 +18,13 @@ mod marks;
 mod merged;
 mod nodes;
 mod queries;
+mod remaking;
+mod revise;
 mod room;
 mod runs;
+mod serve;
+mod serving;
 mod store;
 
-pub use faults::{AdmitFault, Admitted, ExcludeFault, IncludeFault, QueryFault};
+pub use faults::{AdmitFault, Admitted, ExcludeFault, IncludeFault, QueryFault, ReviseFault};
 pub use store::Store;

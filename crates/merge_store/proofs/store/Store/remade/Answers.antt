@@ -1,0 +1,20 @@
+use Rattle.std.proofs.Common.{◌≡◌, sym, subst, map, List, ℕ, is_some, Option}
+use Rattle.std.specs.Prelude.{filter, option_map}
+use Rattle.std.specs.Arc.{arc_value}
+use Rattle.std.specs.declared.sync.Arc.{Arc}
+use Rattle.std.specs.declared.alloc.Global.{Global}
+use Rattle.cov_tree.specs.declared.name.Name.{Name}
+use Rattle.ucis_model.specs.declared.node.Node.{Node}
+use Rattle.ucis_model.specs.Paths.{find_in}
+use Rattle.merge_store.specs.Keeps.{HasOut}
+use Rattle.merge_store.specs.Now.{outs_now}
+use Rattle.merge_store.proofs.store.Store.remade.Goals as goal
+
+pub returns : goal.returns
+returns c =
+    let path : Option (Arc Name Global) → Option (List ℕ) = λ p. option_map (λ (a : Arc Name Global). arc_value a) p in
+    let b = c.in_ok-branches.branches in
+    record {
+      nodes_are = c.in_ok-branches.ensures;
+      outs_are = subst (λ (ns : List Node). HasOut b (filter (λ p. is_some (find_in ns p)) (outs_now c.args.self.now)) (map path c.in_ok-out.out.items) c.in_ok-out.outs) c.in_ok-branches.ensures c.in_ok-out.ensures;
+    }

@@ -1,0 +1,3 @@
+pub mod Rebins
+pub mod Bases
+pub mod Asks

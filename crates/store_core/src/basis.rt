@@ -1,0 +1,16 @@
+//! What a record is prepared under, and a text's design compared with.
+use cov_tree::List;
+use design_data::Design;
+use record_codec::Record;
+use std::sync::Arc;
+
+/// The design and the tests at a point of a history.
+#[derive(Drop)]
+pub struct Basis {
+    /// How many entries the history had.
+    pub point: u64,
+    /// Its design then.
+    pub design: Arc<Design>,
+    /// The records of its tests then, in order of admission.
+    pub records: List<Arc<Record>>,
+}

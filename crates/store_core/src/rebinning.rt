@@ -1,0 +1,157 @@
+//! A text with its design, for which the tests of a basis are counted anew.
+ghost use Rattle.std.specs.Prelude.{◌≡◌, ◌≤◌, Ok, length, map, sum_by, IfOk};
+ghost use Rattle.std.specs.Arc.{arc_value};
+ghost use Rattle.ucis_model.specs.declared.answers.Which.TheVariants.{Tests};
+ghost use Rattle.cov_compile.specs.Compiling.{Compiles};
+ghost use Rattle.cov_history.specs.History.{bins_hit, most};
+ghost use Rattle.cov_history.specs.Sums.{all_hits};
+ghost use Rattle.store_core.specs.Rebins.{tallies_of};
+ghost use Rattle.store_core.specs.Bases.{IsRebinned};
+
+use crate::Basis;
+use crate::counting::{count_records, shared_records};
+use cov_base::{Gate, Memory};
+use cov_compile::Compiled;
+use cov_tree::{List, Name};
+use design_data::Design;
+use record_codec::Record;
+use std::alloc::Global;
+use std::marker::Model;
+use std::sync::Arc;
+use std::thread::Threads;
+use tally::Tally;
+
+/// A text with its design, and what the tests of a basis count under that design: the tally of each test, the sums over
+/// all, and how many bins they hit together.
+#[derive(Drop)]
+pub struct Rebinned {
+    text: Name,
+    design: Arc<Design>,
+    since: u64,
+    records: List<Arc<Record>>,
+    tallies: Vec<Arc<Tally>>,
+    counts: Vec<u64>,
+    entries: u64,
+}
+
+impl Model for Rebinned {
+    ghost use Rattle.std.specs.Prelude.{◌≡◌, Ok, map, sum_by};
+    ghost use Rattle.std.specs.Arc.{arc_value};
+    ghost use Rattle.std.specs.Coded.{codes};
+    ghost use Rattle.cov_compile.specs.Compiling.{Compiles};
+    ghost use Rattle.cov_history.specs.History.{bins_hit};
+    ghost use Rattle.cov_history.specs.Sums.{all_hits};
+    ghost use Rattle.store_core.specs.Rebins.{Redone, tallies_of};
+    ghost use Rattle.design_data.specs.contracts.design.Design as design_type;
+    ghost use Rattle.record_codec.specs.contracts.record.Record as record_type;
+
+    ghost Value = { Redone };
+
+    ghost coded = { Prim.hlevel (codes, design_type.the_row.coded, record_type.the_row.coded) };
+
+    ghost view = { λ r. record {
+        text = r.text;
+        design = arc_value r.design;
+        since = r.since;
+        records = map arc_value r.records;
+    } };
+
+    ghost invariant = { λ r. Compiles r.text (Ok (arc_value r.design))
+        × (map arc_value r.tallies.items ≡ tallies_of (arc_value r.design) (map arc_value r.records))
+        × (r.counts.items ≡ all_hits (arc_value r.design) (map arc_value r.records))
+        × (r.entries ≡ sum_by (bins_hit (arc_value r.design)) (map arc_value r.records)) };
+}
+
+/// What a `Rebinned` holds.
+#[derive(Drop)]
+pub struct Parts {
+    pub text: Name,
+    pub design: Arc<Design>,
+    /// The tally of each test under the design, in order.
+    pub tallies: Vec<Arc<Tally>>,
+    /// For each bin, by its number, how often the tests hit it together.
+    pub counts: Vec<u64>,
+}
+
+impl Rebinned {
+    /// The text.
+    pub fn text(&self) -> &[u8]
+        ensures text { result.now ≡ self.now.text }
+        ensures declared { Compiles self.now.text (Ok self.now.design) }
+    {
+        self.text.as_slice()
+    }
+
+    /// The design that it declares.
+    pub fn design(&self) -> &Arc<Design>
+        ensures design { arc_value result.now ≡ self.now.design }
+        ensures declared { Compiles self.now.text (Ok self.now.design) }
+    {
+        &self.design
+    }
+
+    /// The point of the basis.
+    pub fn since(&self) -> u64
+        ensures { result ≡ self.now.since }
+    {
+        self.since
+    }
+
+    /// How many bins the tests hit, each test counted for itself.
+    pub fn entries(&self) -> u64
+        ensures { result ≡ sum_by (bins_hit self.now.design) self.now.records }
+    {
+        self.entries
+    }
+
+    /// How often the tests hit each bin together, by the bin's number.
+    pub fn counts(&self) -> &[u64]
+        ensures { result.now ≡ all_hits self.now.design self.now.records }
+    {
+        self.counts.as_slice()
+    }
+
+    /// Gives away what it holds. It takes no memory.
+    pub fn into_parts(self) -> Parts
+        ensures text { result.text ≡ self.text }
+        ensures design { arc_value result.design ≡ self.design }
+        ensures tallies { map arc_value result.tallies.items ≡ tallies_of self.design self.records }
+        ensures counts { result.counts.items ≡ all_hits self.design self.records }
+    {
+        Parts {
+            text: self.text,
+            design: self.design,
+            tallies: self.tallies,
+            counts: self.counts,
+        }
+    }
+}
+
+/// Counts the records of a basis under the design of a text. The gate is passed at place 3 before and at place 4 after it.
+pub fn rebin<R: Threads + Sync, G: Gate>(
+    rt: &R,
+    alloc: Global,
+    compiled: Compiled,
+    basis: &Basis,
+    gate: &G,
+) -> Result<Rebinned, Memory>
+    requires { length basis.now.records ≤ most Tests }
+    ensures { IfOk result (λ r. IsRebinned compiled basis.now r) }
+{
+    let _ = rt;
+    gate.pass(3);
+    let counted = count_records(alloc, compiled.design(), basis.records.as_slice())?;
+    gate.pass(4);
+    let text = Name::of(alloc, compiled.text())?;
+    let records = shared_records(alloc, basis.records.as_slice())?;
+    let design = compiled.design().clone()?;
+    Ok(Rebinned {
+        text,
+        design,
+        since: basis.point,
+        records,
+        tallies: counted.tallies,
+        counts: counted.counts,
+        entries: counted.entries,
+    })
+}
