@@ -1,5 +1,5 @@
 -- The items of an instance at one more sample.
-use Rattle.std.proofs.Common.{◌≡◌, ◌≢◌, ◌⊎◌, ◌↔◌, ℕ, zero, suc, ◌+◌, ◌<◌, ◌≤◌, List, [], ◌∷◌, length, get_or, set, Bool, true, false, Option, None, Some, refl, ap, sym, subst, ◌∙◌, inl, inr, arith}
+use Rattle.std.proofs.Common.{◌≡◌, ◌≢◌, ◌⊎◌, ◌↔◌, ℕ, zero, suc, ◌+◌, ◌<◌, ◌≤◌, List, [], ◌∷◌, length, get_or, set, true, Option, None, Some, refl, ap, sym, subst, ◌∙◌, inl, inr, arith}
 use Rattle.std.specs.Prelude.{slice_get, IsSomeAnd, IsTrue}
 use Rattle.std.specs.List.{AllByRecursion, Contains}
 use Rattle.std.specs.Global.{Vec}
@@ -8,7 +8,6 @@ use Rattle.std.proofs.lemmas.List.{length-set, get_or-set_same, get_or-set_other
 use Rattle.std.proofs.lemmas.Option.{slice_get_within, slice_get-get_or, get_or_from_slice_get}
 use Rattle.cov_spec.specs.Number.{Number}
 use Rattle.design_data.specs.declared.infos.ItemInfo.{ItemInfo}
-use Rattle.design_data.specs.declared.infos.BinInfo.{BinInfo}
 use Rattle.design_data.specs.declared.infos.ItemShape.{ItemShape}
 use Rattle.design_data.specs.declared.infos.ItemShape.TheVariants.{Point, Cross}
 use Rattle.design_data.specs.Bins.{is_point, IsNumberedFrom}
@@ -22,7 +21,7 @@ use Rattle.sampler.specs.declared.plan.ItemPlan.{ItemPlan}
 use Rattle.sampler.specs.declared.plan.ItemPlan.TheVariants as plan
 use Rattle.sampler.specs.declared.instance.ItemState.{ItemState}
 use Rattle.sampler.specs.declared.instance.ItemState.TheVariants as kept
-use Rattle.sampler.specs.Standing.{Stands, RowStands, RowsStand, AreNumbered, AreChosen, IsChosen, AllFit, Fits, AllStand, KeepsOthers, KeepsOutside, SomeTaken, AllTaken}
+use Rattle.sampler.specs.Standing.{Stands, RowStands, RowsStand, AreNumbered, AreChosen, IsChosen, AllFit, Fits, AllStand, KeepsOthers, SomeTaken, AllTaken}
 
 -- ---- rows of crossed points
 

@@ -3,4 +3,3 @@ pub mod Items
 pub mod Walks
 pub mod Starts
 mod Parts
-mod Merged

@@ -4,7 +4,7 @@ use Rattle.std.specs.Prelude.{ℤ, map, slice_get, ◌==◌}
 use Rattle.std.specs.List.{range_with_len}
 use Rattle.std.proofs.lemmas.Bool.{cases_lt, cases_order, ne_eqb, eq-eqb}
 use Rattle.std.proofs.lemmas.Option.{slice_get_within}
-use Rattle.std.proofs.lemmas.List.{length-map, ext_get_or, get_or_append_left, get_or-append-add, length-set, get_or-set_same, get_or-set_other}
+use Rattle.std.proofs.lemmas.List.{ext_get_or, get_or_append_left, get_or-append-add, length-set, get_or-set_same, get_or-set_other}
 use Rattle.std.proofs.lemmas.List.FromFn.{length-map-range_with_len, get_or-map-range_with_len}
 use Rattle.design_data.specs.declared.infos.ItemInfo.{ItemInfo}
 use Rattle.design_data.specs.declared.infos.ItemShape.{ItemShape}
@@ -13,7 +13,7 @@ use Rattle.record_codec.specs.declared.record.SignalRow.{SignalRow}
 use Rattle.record_codec.specs.declared.record.ArgRow.{ArgRow}
 use Rattle.record_codec.specs.declared.record.Event.{Event}
 use Rattle.record_codec.specs.declared.record.Event.TheVariants.{Set, Sample}
-use Rattle.record_codec.specs.Samples.{Env, env_of, signal_at, signal_value, arg_at, latest, envs_after, args_of, samples_of}
+use Rattle.record_codec.specs.Samples.{Env, env_of, signal_at, arg_at, envs_after, args_of, samples_of}
 use Rattle.sampler.specs.declared.plan.ItemPlan.{ItemPlan}
 use Rattle.sampler.specs.declared.instance.ItemState.{ItemState}
 use Rattle.design_data.specs.declared.infos.InstInfo.{InstInfo}

@@ -1,19 +1,16 @@
 -- What the items of an instance keep and count along its samples.
-use Rattle.std.specs.Prelude.{◌≡◌, ◌↔◌, ℕ, ◌+◌, ◌-◌, ◌^◌, ◌<◌, ◌≤◌, ◌⊎◌, List, [], length, drop, slice_get, slice_index, slice_index_or, Some}
-use Rattle.std.specs.List.{Contains, AllByRecursion}
+use Rattle.std.specs.Prelude.{◌≡◌, ℕ, ◌+◌, ◌-◌, ◌^◌, ◌<◌, ◌≤◌, List, [], length, drop, slice_get, slice_index, slice_index_or, Some}
+use Rattle.std.specs.List.{AllByRecursion}
 use Rattle.std.specs.Global.{Vec}
 use Rattle.const_eval.specs.Terms.{Term}
-use Rattle.cov_ground.specs.Limits.{most_events}
 use Rattle.design_data.specs.declared.infos.ItemInfo.{ItemInfo}
-use Rattle.design_data.specs.declared.infos.InstInfo.{InstInfo}
 use Rattle.design_data.specs.declared.infos.ItemShape.{ItemShape}
 use Rattle.design_data.specs.declared.infos.ItemShape.TheVariants.{Point, Cross}
-use Rattle.design_data.specs.Bins.{coverage_bins, sizes_of, IsNumberedFrom}
-use Rattle.design_data.specs.Limits.{IsItem, IsPointIndex}
+use Rattle.design_data.specs.Bins.{sizes_of, IsNumberedFrom}
+use Rattle.design_data.specs.Limits.{IsPointIndex}
 use Rattle.record_codec.specs.Samples.{Env, envs_after, args_of, samples_of}
 use Rattle.record_codec.specs.declared.record.Record.{Record}
 use Rattle.record_codec.specs.declared.record.Event.{Event}
-use Rattle.cov_counting.specs.Crosses.{SomeHitAt}
 use Rattle.point_sampler.specs.Plans as points
 use Rattle.point_sampler.specs.Points as points_stand
 use Rattle.cross_sampler.specs.Numbers.{row_at}

@@ -1,4 +1,4 @@
-use Rattle.std.proofs.Common.{◌≡◌, ◌∙◌, List, ap, sym, subst, length}
+use Rattle.std.proofs.Common.{◌∙◌, List, ap, sym, subst, length}
 use Rattle.std.specs.Prelude.{Option, ℤ}
 use Rattle.sampler.specs.Starting.{AreUnknown}
 use Rattle.sampler.proofs.Starts.{at_start}

@@ -1,4 +1,4 @@
-use Rattle.sampler.proofs.Parts.{whole, none_together}
+use Rattle.sampler.proofs.Parts.{whole}
 use Rattle.sampler.proofs.binning.counts_under.Goals as goal
 
 pub returns : goal.returns

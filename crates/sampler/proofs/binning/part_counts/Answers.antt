@@ -1,4 +1,4 @@
-use Rattle.std.proofs.Common.{◌≡◌, ◌∙◌, List, ℕ, ap, sym, Some}
+use Rattle.std.proofs.Common.{◌∙◌, List, ap, sym}
 use Rattle.std.specs.Prelude.{slice_get}
 use Rattle.design_data.specs.declared.infos.InstInfo.{InstInfo}
 use Rattle.sampler.proofs.Parts.{few_items}

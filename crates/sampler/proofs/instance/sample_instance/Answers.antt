@@ -1,4 +1,4 @@
-use Rattle.std.proofs.Common.{◌≡◌, ◌∙◌, List, ℕ, sym, subst}
+use Rattle.std.proofs.Common.{◌∙◌, List, ℕ, sym, subst}
 use Rattle.std.specs.Global.{Vec}
 use Rattle.sampler.specs.Standing.{RowsStand}
 use Rattle.sampler.proofs.instance.sample_instance.Goals as goal

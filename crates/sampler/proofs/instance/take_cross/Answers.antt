@@ -1,4 +1,4 @@
-use Rattle.std.proofs.Common.{◌≡◌, ◌+◌, List, ℕ, sym, subst}
+use Rattle.std.proofs.Common.{◌+◌, List, ℕ, sym, subst}
 use Rattle.std.specs.List.{AllByRecursion}
 use Rattle.design_data.specs.declared.infos.ItemShape.{ItemShape}
 use Rattle.sampler.specs.Standing.{IsChosen, IsCovered, Stands, CrossStands, point_first}

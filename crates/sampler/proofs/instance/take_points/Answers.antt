@@ -1,8 +1,6 @@
-use Rattle.std.proofs.Common.{◌≡◌, ◌∙◌, ◌<◌, ◌≤◌, ◌+◌, List, ℕ, length, get_or, Some, refl, ap, sym, subst, arith}
+use Rattle.std.proofs.Common.{◌≡◌, ◌∙◌, ◌<◌, length, Some, refl, sym, subst, arith}
 use Rattle.std.specs.Prelude.{slice_get}
 use Rattle.std.proofs.lemmas.List.{length-set}
-use Rattle.design_data.specs.declared.infos.ItemInfo.{ItemInfo}
-use Rattle.sampler.specs.declared.plan.ItemPlan.{ItemPlan}
 use Rattle.sampler.specs.declared.instance.ItemState.{ItemState}
 use Rattle.sampler.specs.Standing.{Fits, Stands, point_first}
 use Rattle.sampler.proofs.Items.{some_first, some_more, some_last, fits_more, read_at, rows_more, rows_all}

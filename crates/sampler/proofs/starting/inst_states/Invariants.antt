@@ -1,4 +1,4 @@
-use Rattle.std.proofs.Common.{◌≡◌, ℕ, ◌<◌, List, length, get_or}
+use Rattle.std.proofs.Common.{◌≡◌, ℕ, ◌<◌, length, get_or}
 use Rattle.sampler.specs.declared.instance.InstState.{InstState}
 use Rattle.sampler.specs.Starting.{AreAllZero}
 use Rattle.sampler.proofs.Starts.{InstFitsAt, InstStartsAt}

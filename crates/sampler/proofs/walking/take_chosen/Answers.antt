@@ -1,4 +1,4 @@
-use Rattle.std.proofs.Common.{◌≡◌, ◌∙◌, List, ap}
+use Rattle.std.proofs.Common.{◌∙◌, List, ap}
 use Rattle.std.specs.Prelude.{slice_get}
 use Rattle.record_codec.specs.declared.record.InstRow.{InstRow}
 use Rattle.record_codec.specs.Samples.{args_of}

@@ -1,4 +1,4 @@
-use Rattle.std.proofs.Common.{◌≡◌, ◌∙◌, ◌∷◌, ◌<◌, ◌≤◌, ◌+◌, List, ℕ, length, get_or, drop, ap, sym, subst, arith, refl, []}
+use Rattle.std.proofs.Common.{◌≡◌, ◌∙◌, ◌∷◌, ◌<◌, ◌≤◌, ◌+◌, List, length, get_or, drop, ap, sym, subst, arith}
 use Rattle.std.proofs.lemmas.List.{drop_more, drop_all}
 use Rattle.record_codec.specs.declared.record.Event.{Event}
 use Rattle.sampler.specs.Walking.{IsWork, WalkAt}
