@@ -162,6 +162,10 @@ read_at xs k x lt is = slice_get-get_or xs k x lt ∙ ap (λ (y : _). Some y) (s
 pub same_read : {X : Type 0} (xs : List X) (k : ℕ) (d x : X) → k < length xs → x ≡ get_or xs k x → get_or xs k d ≡ x
 same_read xs k d x lt is = get_or_from_slice_get xs k x d (read_at xs k x lt is)
 
+pub empty_list : {X : Type 0} (xs : List X) → length xs ≡ 0 → xs ≡ []
+empty_list [] e = refl
+empty_list (x ∷ xs) e = absurd (omega (arith, e))
+
 -- a row that is set
 pub row_same : (rows : List (Vec ℕ)) (k : ℕ) (row : Vec ℕ) → k < length rows → row_at (set rows k row) k ≡ row.items
 row_same rows k row lt =
