@@ -70,7 +70,7 @@ fn add_scopes(
     let mut shown = 0;
     for var in vars {
         if is_named(var, name) {
-            if shown == SHOWN {
+            if shown >= SHOWN {
                 return hint.push_str(" ..");
             }
             shown += 1;
