@@ -1,14 +1,13 @@
 -- The items of an instance at one more sample.
-use Rattle.std.proofs.Common.{◌≡◌, ◌≢◌, ◌⊎◌, ◌↔◌, ℕ, zero, suc, ◌+◌, ◌<◌, ◌≤◌, List, [], ◌∷◌, length, get_or, set, Bool, true, false, Option, None, Some, refl, ap, sym, subst, ◌∙◌, inl, inr, arith}
+use Rattle.std.proofs.Common.{◌≡◌, ◌≢◌, ◌⊎◌, ◌↔◌, ℕ, zero, suc, ◌+◌, ◌<◌, ◌≤◌, List, [], ◌∷◌, length, get_or, set, true, Option, None, Some, refl, ap, sym, subst, ◌∙◌, inl, inr, arith}
 use Rattle.std.specs.Prelude.{slice_get, IsSomeAnd, IsTrue}
 use Rattle.std.specs.List.{AllByRecursion, Contains}
 use Rattle.std.specs.Global.{Vec}
 use Rattle.std.proofs.lemmas.Bool.{cases_lt, cases_order, false≢true}
 use Rattle.std.proofs.lemmas.List.{length-set, get_or-set_same, get_or-set_other}
-use Rattle.std.proofs.lemmas.Option.{slice_get_within, slice_get-get_or}
+use Rattle.std.proofs.lemmas.Option.{slice_get_within, slice_get-get_or, get_or_from_slice_get}
 use Rattle.cov_spec.specs.Number.{Number}
 use Rattle.design_data.specs.declared.infos.ItemInfo.{ItemInfo}
-use Rattle.design_data.specs.declared.infos.BinInfo.{BinInfo}
 use Rattle.design_data.specs.declared.infos.ItemShape.{ItemShape}
 use Rattle.design_data.specs.declared.infos.ItemShape.TheVariants.{Point, Cross}
 use Rattle.design_data.specs.Bins.{is_point, IsNumberedFrom}
@@ -22,7 +21,7 @@ use Rattle.sampler.specs.declared.plan.ItemPlan.{ItemPlan}
 use Rattle.sampler.specs.declared.plan.ItemPlan.TheVariants as plan
 use Rattle.sampler.specs.declared.instance.ItemState.{ItemState}
 use Rattle.sampler.specs.declared.instance.ItemState.TheVariants as kept
-use Rattle.sampler.specs.Standing.{Stands, RowStands, RowsStand, AreNumbered, AllFit, Fits, AllStand, KeepsOthers, KeepsOutside, SomeTaken, AllTaken}
+use Rattle.sampler.specs.Standing.{Stands, RowStands, RowsStand, AreNumbered, AreChosen, IsChosen, AllFit, Fits, AllStand, KeepsOthers, SomeTaken, AllTaken}
 
 -- ---- rows of crossed points
 
@@ -35,9 +34,9 @@ by_item : (items : List ItemInfo) (all : List Env) (m axis : ℕ) (row : List �
 by_item items all m axis row None h rows n = absurd h
 by_item items all m axis row (Some point) h rows n = by_shape point all m point.shape row h (rows point refl) n
 
-pub are_hit : (items : List ItemInfo) (all : List Env) (m : ℕ) (rows : List (Vec ℕ)) (axes : List ℕ) → AllByRecursion (IsPointIndex items) axes → RowsStand items all m rows → AreHit items axes rows all m
-are_hit items all m rows [] h stand = tt
-are_hit items all m rows (axis ∷ axes) h stand = (λ n. by_item items all m axis (row_at rows axis) (slice_get items axis) h.0 (λ item e. stand axis item e) n, are_hit items all m rows axes h.1 stand)
+pub are_hit : (items : List ItemInfo) (chosen : List ℕ) (all : List Env) (m : ℕ) (rows : List (Vec ℕ)) (axes : List ℕ) → AllByRecursion (IsPointIndex items) axes → AllByRecursion (IsChosen chosen) axes → RowsStand items chosen all m rows → AreHit items axes rows all m
+are_hit items chosen all m rows [] h own stand = tt
+are_hit items chosen all m rows (axis ∷ axes) h own stand = (λ n. by_item items all m axis (row_at rows axis) (slice_get items axis) h.0 (λ item e. stand axis item own.0 e) n, are_hit items chosen all m rows axes h.1 own.1 stand)
 
 -- ---- counts of other items
 
@@ -79,63 +78,93 @@ others_stay items n k t a b old new h ne e f keeps i lt = elim (cases_order k t)
   | inr (inr more) ↦ let apart = ordered h.first items t k b a h.numbered more f e in keeps (a.first_bin + i) (inr (omega (arith, apart)))
 ]
 
--- ---- a loop over the items
+-- ---- a loop over the items that are taken along
 
-pub some_first : (items : List ItemInfo) (plans : List ItemPlan) (all : List Env) (before after : ItemShape → ℕ) (states : List ItemState) (counts : List ℕ) → AllStand items plans all before states counts → SomeTaken items plans all before after 0 counts states counts
-some_first items plans all before after states counts h = record { done = λ k item p s lt. absurd (omega (arith, lt)); left = λ k item p s le e f. h k item p s e f; outside = λ number o. refl }
+pub some_first : (items : List ItemInfo) (plans : List ItemPlan) (chosen : List ℕ) (all : List Env) (before after : ItemShape → ℕ) (states : List ItemState) (counts : List ℕ) → AllStand items plans chosen all before states counts → SomeTaken items plans chosen all before after 0 counts states counts
+some_first items plans chosen all before after states counts h = record { done = λ i k item p s lt. absurd (omega (arith, lt)); left = λ i k item p s le c e f. h i k item p s c e f; outside = λ number o. refl }
 
-pub some_last : (items : List ItemInfo) (plans : List ItemPlan) (all : List Env) (before after : ItemShape → ℕ) (t : ℕ) (old : List ℕ) (states : List ItemState) (counts : List ℕ) → length items ≤ t → SomeTaken items plans all before after t old states counts
-    → AllTaken items plans all after old states counts
-some_last items plans all before after t old states counts le h = record { stand = λ k item p s e f. h.done k item p s (omega (arith, le, slice_get_within items k item e)) e f; outside = h.outside }
+pub some_last : (items : List ItemInfo) (plans : List ItemPlan) (chosen : List ℕ) (all : List Env) (before after : ItemShape → ℕ) (t : ℕ) (old : List ℕ) (states : List ItemState) (counts : List ℕ) → length chosen ≤ t → SomeTaken items plans chosen all before after t old states counts
+    → AllTaken items plans chosen all after old states counts
+some_last items plans chosen all before after t old states counts le h = record { stand = λ i k item p s c e f. h.done i k item p s (omega (arith, le, slice_get_within chosen i k c)) c e f; outside = h.outside }
 
 pub one_of : {X : Type 0} (P : X → Type 0) (xs : List X) (k : ℕ) (x y : X) → slice_get xs k ≡ Some x → slice_get xs k ≡ Some y → P x → P y
 one_of P xs k x y e f h = let same : Some x ≡ Some y = sym e ∙ f in let equal : x ≡ y = cc in subst P equal h
 
-pub some_more : (items : List ItemInfo) (plans : List ItemPlan) (all : List Env) (before after : ItemShape → ℕ) (t n : ℕ) (start : List ℕ) (states : List ItemState) (old new : List ℕ) (item : ItemInfo) (p : ItemPlan) (state : ItemState)
-    → slice_get items t ≡ Some item → slice_get plans t ≡ Some p → t < length states → AreNumbered items n → Stands items item all (after item.shape) item.shape p state new → KeepsOthers item old new
-    → SomeTaken items plans all before after t start states old → SomeTaken items plans all before after (t + 1) start (set states t state) new
-some_more items plans all before after t n start states old new item p state e f inside numbered here keeps h = record {
-  done = λ k i q s lt ei fq. done k i q s lt ei fq (cases_lt k t);
-  left = λ k i q s le ei fq. stays (before i.shape) k i q s (λ same. absurd (omega (arith, same, le))) ei (h.left k i q s (omega (arith, le)) ei fq);
-  outside = λ number o. keeps number (o t item e) ∙ h.outside number o;
-}
-  where
-    stays : (m k : ℕ) (i : ItemInfo) (q : ItemPlan) (s : ItemState) → k ≢ t → slice_get items k ≡ Some i → Stands items i all m i.shape q (get_or states k s) old → Stands items i all m i.shape q (get_or (set states t state) k s) new
-    stays m k i q s ne ei stand = subst (λ (x : ItemState). Stands items i all m i.shape q x new) (sym (get_or-set_other states t k state s ne))
-        (stands_kept items i all m i.shape q (get_or states k s) old new (others_stay items n k t i item old new numbered ne ei e keeps) stand)
+-- what holds of the elements before a place, and of the one there
+pub each_more : {X : Type 0} (P : ℕ → X → Type 0) (xs : List X) (t : ℕ) (x : X) → slice_get xs t ≡ Some x → P t x → ((k : ℕ) (y : X) → k < t → slice_get xs k ≡ Some y → P k y) → (k : ℕ) (y : X) → k < t + 1 → slice_get xs k ≡ Some y → P k y
+each_more {X = X} P xs t x e own h k y lt at = elim (cases_lt k t) [
+  | inl lower ↦ h k y lower at
+  | inr ge ↦
+      let same : t ≡ k = omega (arith, lt, ge) in
+      one_of (λ (z : X). P k z) xs k x y (ap (λ (j : ℕ). slice_get xs j) (sym same) ∙ e) at (subst (λ (j : ℕ). P j x) same own)
+]
 
-    done : (k : ℕ) (i : ItemInfo) (q : ItemPlan) (s : ItemState) → k < t + 1 → slice_get items k ≡ Some i → slice_get plans k ≡ Some q → (k < t) ⊎ (t ≤ k) → Stands items i all (after i.shape) i.shape q (get_or (set states t state) k s) new
-    done k i q s lt ei fq (inl lower) = stays (after i.shape) k i q s (λ same. absurd (omega (arith, same, lower))) ei (h.done k i q s lower ei fq)
-    done k i q s lt ei fq (inr ge) =
-        let same : t ≡ k = omega (arith, lt, ge) in
-        let at_item : slice_get items k ≡ Some item = ap (λ (j : ℕ). slice_get items j) (sym same) ∙ e in
-        let at_plan : slice_get plans k ≡ Some p = ap (λ (j : ℕ). slice_get plans j) (sym same) ∙ f in
-        let read : get_or (set states t state) k s ≡ state = ap (λ (j : ℕ). get_or (set states t state) j s) (sym same) ∙ get_or-set_same states t state s inside in
-        one_of (λ (j : ItemInfo). Stands items j all (after j.shape) j.shape q (get_or (set states t state) k s) new) items k item i at_item ei
-        (one_of (λ (r : ItemPlan). Stands items item all (after item.shape) item.shape r (get_or (set states t state) k s) new) plans k p q at_plan fq
-        (subst (λ (x : ItemState). Stands items item all (after item.shape) item.shape p x new) (sym read) here))
+-- the number at a place is one
+pub one_number : (xs : List ℕ) (i k l : ℕ) → slice_get xs i ≡ Some k → slice_get xs i ≡ Some l → k ≡ l
+one_number xs i k l e f = one_of (λ (n : ℕ). k ≡ n) xs i k l e f refl
 
-pub fits_more : (items : List ItemInfo) (plans : List ItemPlan) (t : ℕ) (states : List ItemState) (item : ItemInfo) (p : ItemPlan) (state : ItemState) → slice_get items t ≡ Some item → slice_get plans t ≡ Some p → Fits item p state → AllFit items plans states
-    → AllFit items plans (set states t state)
-fits_more items plans t states item p state e f here h = record {
-  same_plans = h.same_plans;
-  same = length-set states t state ∙ h.same;
-  at = λ k i q s ei fq lt. at k i q s ei fq lt (cases_order k t);
-}
-  where
-    at : (k : ℕ) (i : ItemInfo) (q : ItemPlan) (s : ItemState) → slice_get items k ≡ Some i → slice_get plans k ≡ Some q → k < length items → (k ≡ t) ⊎ ((k < t) ⊎ (t < k)) → Fits i q (get_or (set states t state) k s)
-    at k i q s ei fq lt (inl same) =
-        let at_item : slice_get items k ≡ Some item = ap (λ (j : ℕ). slice_get items j) same ∙ e in
-        let at_plan : slice_get plans k ≡ Some p = ap (λ (j : ℕ). slice_get plans j) same ∙ f in
-        let read : get_or (set states t state) k s ≡ state = ap (λ (j : ℕ). get_or (set states t state) j s) same ∙ get_or-set_same states t state s (omega (arith, lt, same, h.same)) in
-        one_of (λ (j : ItemInfo). Fits j q (get_or (set states t state) k s)) items k item i at_item ei
-        (one_of (λ (r : ItemPlan). Fits item r (get_or (set states t state) k s)) plans k p q at_plan fq (subst (λ (x : ItemState). Fits item p x) (sym read) here))
-    at k i q s ei fq lt (inr (inl less)) = subst (λ (x : ItemState). Fits i q x) (sym (get_or-set_other states t k state s (λ same. absurd (omega (arith, same, less))))) (h.at k i q s ei fq lt)
-    at k i q s ei fq lt (inr (inr more)) = subst (λ (x : ItemState). Fits i q x) (sym (get_or-set_other states t k state s (λ same. absurd (omega (arith, same, more))))) (h.at k i q s ei fq lt)
+module _ (items : List ItemInfo) (plans : List ItemPlan) (chosen : List ℕ) (t at : ℕ) (item : ItemInfo) (p : ItemPlan) (state : ItemState) (here : AreChosen items chosen) (c : slice_get chosen t ≡ Some at) (e : slice_get items at ≡ Some item) (f : slice_get plans at ≡ Some p) where
+  -- another place is that of another item
+  other_item : (i k : ℕ) → (i ≡ t → ⊥) → slice_get chosen i ≡ Some k → (k ≡ at → ⊥)
+  other_item i k ne ci same = ne (here.once i t k ci (c ∙ ap (λ (n : ℕ). Some n) (sym same)))
+
+  -- what holds of the item at the place holds of what is found there
+  found : (P : ItemInfo → ItemPlan → Type 0) (i k : ℕ) (x : ItemInfo) (q : ItemPlan) → t ≡ i → slice_get chosen i ≡ Some k → slice_get items k ≡ Some x → slice_get plans k ≡ Some q → P item p → P x q
+  found P i k x q same ci ei fq h =
+      let number : at ≡ k = one_number chosen i at k (ap (λ (j : ℕ). slice_get chosen j) (sym same) ∙ c) ci in
+      let at_item : slice_get items k ≡ Some item = ap (λ (j : ℕ). slice_get items j) (sym number) ∙ e in
+      let at_plan : slice_get plans k ≡ Some p = ap (λ (j : ℕ). slice_get plans j) (sym number) ∙ f in
+      one_of (λ (j : ItemInfo). P j q) items k item x at_item ei (one_of (λ (r : ItemPlan). P item r) plans k p q at_plan fq h)
+
+  pub some_more : (all : List Env) (before after : ItemShape → ℕ) (n : ℕ) (start : List ℕ) (states : List ItemState) (old new : List ℕ)
+      → t < length states → AreNumbered items n → Stands items item all (after item.shape) item.shape p state new → KeepsOthers item old new
+      → SomeTaken items plans chosen all before after t start states old → SomeTaken items plans chosen all before after (t + 1) start (set states t state) new
+  some_more all before after n start states old new inside numbered stand keeps h = record {
+    done = λ i k x q s lt ci ei fq. done i k x q s lt ci ei fq (cases_lt i t);
+    left = λ i k x q s le ci ei fq. stays (before x.shape) i k x q s (λ same. absurd (omega (arith, same, le))) ci ei (h.left i k x q s (omega (arith, le)) ci ei fq);
+    outside = λ number o. keeps number (o at item (t, c) e) ∙ h.outside number o;
+  }
+    where
+      stays : (m i k : ℕ) (x : ItemInfo) (q : ItemPlan) (s : ItemState) → i ≢ t → slice_get chosen i ≡ Some k → slice_get items k ≡ Some x → Stands items x all m x.shape q (get_or states i s) old → Stands items x all m x.shape q (get_or (set states t state) i s) new
+      stays m i k x q s ne ci ei stands = subst (λ (y : ItemState). Stands items x all m x.shape q y new) (sym (get_or-set_other states t i state s ne))
+          (stands_kept items x all m x.shape q (get_or states i s) old new (others_stay items n k at x item old new numbered (other_item i k ne ci) ei e keeps) stands)
+
+      done : (i k : ℕ) (x : ItemInfo) (q : ItemPlan) (s : ItemState) → i < t + 1 → slice_get chosen i ≡ Some k → slice_get items k ≡ Some x → slice_get plans k ≡ Some q → (i < t) ⊎ (t ≤ i) → Stands items x all (after x.shape) x.shape q (get_or (set states t state) i s) new
+      done i k x q s lt ci ei fq (inl lower) = stays (after x.shape) i k x q s (λ same. absurd (omega (arith, same, lower))) ci ei (h.done i k x q s lower ci ei fq)
+      done i k x q s lt ci ei fq (inr ge) =
+          let same : t ≡ i = omega (arith, lt, ge) in
+          let read : get_or (set states t state) i s ≡ state = ap (λ (j : ℕ). get_or (set states t state) j s) (sym same) ∙ get_or-set_same states t state s inside in
+          found (λ (y : ItemInfo) (r : ItemPlan). Stands items y all (after y.shape) y.shape r (get_or (set states t state) i s) new) i k x q same ci ei fq
+          (subst (λ (y : ItemState). Stands items item all (after item.shape) item.shape p y new) (sym read) stand)
+
+  pub fits_more : (states : List ItemState) → t < length states → Fits item p state → AllFit items plans chosen states → AllFit items plans chosen (set states t state)
+  fits_more states inside fit h = record {
+    same_plans = h.same_plans;
+    same = length-set states t state ∙ h.same;
+    at = λ i k x q s ci ei fq. each i k x q s ci ei fq (cases_order i t);
+  }
+    where
+      stays : (i k : ℕ) (x : ItemInfo) (q : ItemPlan) (s : ItemState) → slice_get chosen i ≡ Some k → slice_get items k ≡ Some x → slice_get plans k ≡ Some q → i ≢ t → Fits x q (get_or (set states t state) i s)
+      stays i k x q s ci ei fq ne = subst (λ (y : ItemState). Fits x q y) (sym (get_or-set_other states t i state s ne)) (h.at i k x q s ci ei fq)
+
+      each : (i k : ℕ) (x : ItemInfo) (q : ItemPlan) (s : ItemState) → slice_get chosen i ≡ Some k → slice_get items k ≡ Some x → slice_get plans k ≡ Some q → (i ≡ t) ⊎ ((i < t) ⊎ (t < i)) → Fits x q (get_or (set states t state) i s)
+      each i k x q s ci ei fq (inl same) =
+          let read : get_or (set states t state) i s ≡ state = ap (λ (j : ℕ). get_or (set states t state) j s) same ∙ get_or-set_same states t state s inside in
+          found (λ (y : ItemInfo) (r : ItemPlan). Fits y r (get_or (set states t state) i s)) i k x q (sym same) ci ei fq (subst (λ (y : ItemState). Fits item p y) (sym read) fit)
+      each i k x q s ci ei fq (inr (inl less)) = stays i k x q s ci ei fq (λ same. absurd (omega (arith, same, less)))
+      each i k x q s ci ei fq (inr (inr more)) = stays i k x q s ci ei fq (λ same. absurd (omega (arith, same, more)))
 
 -- the item and the plan at an index that the code reads
 pub read_at : {X : Type 0} (xs : List X) (k : ℕ) (x : X) → k < length xs → x ≡ get_or xs k x → slice_get xs k ≡ Some x
 read_at xs k x lt is = slice_get-get_or xs k x lt ∙ ap (λ (y : _). Some y) (sym is)
+
+-- it is the same with another default
+pub same_read : {X : Type 0} (xs : List X) (k : ℕ) (d x : X) → k < length xs → x ≡ get_or xs k x → get_or xs k d ≡ x
+same_read xs k d x lt is = get_or_from_slice_get xs k x d (read_at xs k x lt is)
+
+pub empty_list : {X : Type 0} (xs : List X) → length xs ≡ 0 → xs ≡ []
+empty_list [] e = refl
+empty_list (x ∷ xs) e = absurd (omega (arith, e))
 
 -- a row that is set
 pub row_same : (rows : List (Vec ℕ)) (k : ℕ) (row : Vec ℕ) → k < length rows → row_at (set rows k row) k ≡ row.items
@@ -152,12 +181,21 @@ row_other rows index k row ne = ap items_of (get_other rows index k row ne)
     get_other (x ∷ rows) (suc index) zero row ne = refl
     get_other (x ∷ rows) (suc index) (suc k) row ne = get_other rows index k row (λ e. ne (ap suc e))
 
-pub rows_more : (items : List ItemInfo) (all : List Env) (m t : ℕ) (old new : List (Vec ℕ)) (item : ItemInfo) → slice_get items t ≡ Some item → RowStands item all m item.shape (row_at new t) → ((k : ℕ) → k ≢ t → row_at new k ≡ row_at old k)
-    → ((k : ℕ) (i : ItemInfo) → k < t → slice_get items k ≡ Some i → RowStands i all m i.shape (row_at old k)) → (k : ℕ) (i : ItemInfo) → k < t + 1 → slice_get items k ≡ Some i → RowStands i all m i.shape (row_at new k)
-rows_more items all m t old new item e here same h k i lt ei = elim (cases_lt k t) [
-  | inl lower ↦ subst (RowStands i all m i.shape) (sym (same k (λ eq. absurd (omega (arith, eq, lower))))) (h k i lower ei)
+-- the rows of the items before place t have what is hit
+abbrev pub SomeRows : List ItemInfo → (chosen : List ℕ) → List Env → (m t : ℕ) → List (Vec ℕ) → Type 0
+SomeRows items chosen all m t rows = (i k : ℕ) (item : ItemInfo) → i < t → slice_get chosen i ≡ Some k → slice_get items k ≡ Some item → RowStands item all m item.shape (row_at rows k)
+
+pub rows_more : (items : List ItemInfo) (chosen : List ℕ) (all : List Env) (m t at : ℕ) (old new : List (Vec ℕ)) (item : ItemInfo) → AreChosen items chosen → slice_get chosen t ≡ Some at → slice_get items at ≡ Some item
+    → RowStands item all m item.shape (row_at new at) → ((k : ℕ) → k ≢ at → row_at new k ≡ row_at old k) → SomeRows items chosen all m t old → SomeRows items chosen all m (t + 1) new
+rows_more items chosen all m t at old new item own c e here same h i k x lt ci ei = elim (cases_lt i t) [
+  | inl lower ↦ subst (RowStands x all m x.shape) (sym (same k (λ eq. absurd (let one : i ≡ t = own.once i t k ci (c ∙ ap (λ (n : ℕ). Some n) (sym eq)) in omega (arith, one, lower))))) (h i k x lower ci ei)
   | inr ge ↦
-      let at : t ≡ k = omega (arith, lt, ge) in
-      let here_item : slice_get items k ≡ Some item = ap (λ (j : ℕ). slice_get items j) (sym at) ∙ e in
-      one_of (λ (j : ItemInfo). RowStands j all m j.shape (row_at new k)) items k item i here_item ei (subst (λ (j : ℕ). RowStands item all m item.shape (row_at new j)) at here)
+      let place : t ≡ i = omega (arith, lt, ge) in
+      let number : at ≡ k = one_number chosen i at k (ap (λ (j : ℕ). slice_get chosen j) (sym place) ∙ c) ci in
+      let here_item : slice_get items k ≡ Some item = ap (λ (j : ℕ). slice_get items j) (sym number) ∙ e in
+      one_of (λ (j : ItemInfo). RowStands j all m j.shape (row_at new k)) items k item x here_item ei (subst (λ (j : ℕ). RowStands item all m item.shape (row_at new j)) number here)
 ]
+
+-- all rows have it at the end
+pub rows_all : (items : List ItemInfo) (chosen : List ℕ) (all : List Env) (m t : ℕ) (rows : List (Vec ℕ)) → length chosen ≤ t → SomeRows items chosen all m t rows → RowsStand items chosen all m rows
+rows_all items chosen all m t rows le h k item own e = h own.0 k item (omega (arith, le, slice_get_within chosen own.0 k own.1)) own.1 e

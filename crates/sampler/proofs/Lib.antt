@@ -2,3 +2,4 @@ pub mod Tables
 pub mod Items
 pub mod Walks
 pub mod Starts
+mod Parts

@@ -1,42 +1,45 @@
 -- What stands before the first sample, and after the last.
-use Rattle.std.proofs.Common.{◌≡◌, ◌⊎◌, ℕ, zero, suc, ◌+◌, ◌-◌, ◌<◌, ◌≤◌, List, [], ◌∷◌, ◌++◌, length, get_or, take, drop, Option, None, Some, refl, ap, sym, subst, ◌∙◌, inl, inr, arith, length-append}
+use Rattle.std.proofs.Common.{◌≡◌, ℕ, zero, suc, ◌+◌, ◌<◌, ◌≤◌, List, [], ◌∷◌, ◌++◌, length, get_or, take, Option, None, Some, refl, ap, sym, subst, ◌∙◌, inl, inr, arith, replicate}
 use Rattle.std.specs.Prelude.{ℤ, slice_get}
 use Rattle.std.specs.List.{All}
 use Rattle.std.proofs.Math.ListN.{get_or-eq_default}
-use Rattle.std.proofs.lemmas.List.{take-append-drop, get_or_append_left}
-use Rattle.std.proofs.lemmas.Option.{slice_get_within, slice_get-get_or}
+use Rattle.std.proofs.lemmas.Bool.{cases_lt}
+use Rattle.std.proofs.lemmas.List.{get_or_append_left, get_or-replicate, length-replicate}
+use Rattle.std.proofs.lemmas.Option.{slice_get_within}
 use Rattle.cov_spec.specs.Number.{Number}
 use Rattle.cov_spec.specs.Number.Number.{none}
 use Rattle.design_data.specs.declared.infos.ItemInfo.{ItemInfo}
+use Rattle.design_data.specs.declared.infos.InstInfo.{InstInfo}
 use Rattle.design_data.specs.declared.infos.BinInfo.{BinInfo}
 use Rattle.design_data.specs.declared.infos.ItemShape.{ItemShape}
 use Rattle.design_data.specs.declared.infos.ItemShape.TheVariants.{Point, Cross}
-use Rattle.design_data.specs.Bins.{bins_in, IsNumberedFrom}
 use Rattle.design_data.specs.Limits.{IsItem, IsShape}
 use Rattle.const_eval.specs.Terms.{Term}
 use Rattle.record_codec.specs.declared.record.Record.{Record}
+use Rattle.record_codec.specs.declared.record.Event.{Event}
 use Rattle.record_codec.specs.declared.record.SignalRow.{SignalRow}
-use Rattle.record_codec.specs.Samples.{Env, signal_value, signal_at, samples_of}
+use Rattle.record_codec.specs.Samples.{Env, signal_value, samples_of}
 use Rattle.cov_counting.specs.Hits.{HitAt}
 use Rattle.cov_counting.specs.Crosses.{CrossHitAt}
 use Rattle.cov_counting.specs.Tallies.{IsCount, ShapeHit}
-use Rattle.cov_counting.specs.Steps.{Extends, ItemsDone}
 use Rattle.point_sampler.specs.Plans.{IsPoint}
-use Rattle.sampler.specs.declared.plan.ItemPlan.{ItemPlan}
-use Rattle.sampler.specs.declared.plan.ItemPlan.TheVariants as plan
-use Rattle.sampler.specs.declared.instance.ItemState.{ItemState}
-use Rattle.sampler.specs.declared.instance.ItemState.TheVariants as kept
-use Rattle.sampler.specs.Values.{Holds, places}
-use Rattle.sampler.specs.Starting.{KeepsZeros, IsZeroAt, AreZero, AreUnknown}
-use Rattle.sampler.specs.Plans.{ItemsCounted}
-use Rattle.sampler.specs.Standing.{IsPlanOf, Stands, AreNumbered, AllStand, AllTaken, KeepsOutside, InstAt}
-use Rattle.sampler.proofs.Items.{numbered_ge, one_of}
-use Rattle.std.proofs.lemmas.Bool.{cases_lt}
 use Rattle.point_sampler.specs.Points.{StateStands}
 use Rattle.point_sampler.specs.declared.plan.PointPlan.{PointPlan}
 use Rattle.point_sampler.specs.declared.state.PointState.{PointState}
 use Rattle.cross_sampler.specs.declared.plan.CrossPlan.{CrossPlan}
 use Rattle.cross_sampler.specs.declared.state.CrossState.{CrossState}
+use Rattle.sampler.specs.declared.plan.ItemPlan.{ItemPlan}
+use Rattle.sampler.specs.declared.plan.ItemPlan.TheVariants as plan
+use Rattle.sampler.specs.declared.plan.InstPlan.{InstPlan}
+use Rattle.sampler.specs.declared.instance.ItemState.{ItemState}
+use Rattle.sampler.specs.declared.instance.ItemState.TheVariants as kept
+use Rattle.sampler.specs.declared.instance.InstState.{InstState}
+use Rattle.sampler.specs.Values.{places}
+use Rattle.sampler.specs.Starting.{IsZeroAt, AreAllZero, AllInstStart, AreUnknown}
+use Rattle.sampler.specs.Standing.{IsPlanOf, Fits, Stands, AllStand, InstAt}
+use Rattle.sampler.specs.Walking.{IsWork, InstFits, AllInstFit, WalkAt, ShareCounted}
+use Rattle.sampler.proofs.Items.{one_of, one_number}
+use Rattle.sampler.proofs.Walks.{at_end}
 
 -- ---- plans
 
@@ -45,11 +48,11 @@ is_point items item expr h e = record { few = h.bins; removing = h.removing; rul
 
 -- ---- zeros
 
-pub zero_push : (xs : List ℕ) (s : ℕ) → get_or xs s 0 ≡ 0 → get_or (xs ++ 0 ∷ []) s 0 ≡ 0
-zero_push [] zero e = refl
-zero_push [] (suc s) e = refl
-zero_push (x ∷ xs) zero e = e
-zero_push (x ∷ xs) (suc s) e = zero_push xs s e
+pub zero_all : (n : ℕ) (counts : List ℕ) → counts ≡ replicate n 0 → AreAllZero counts
+zero_all n counts e number = elim (cases_lt number n) [
+  | inl lt ↦ ap (λ (xs : List ℕ). get_or xs number 0) e ∙ get_or-replicate n number 0 0 lt
+  | inr ge ↦ get_or-eq_default counts 0 (let l : length counts ≡ n = ap length e ∙ length-replicate n 0 in omega (arith, l, ge))
+]
 
 pub none_push : (xs : List (Option ℤ)) → AreUnknown xs → (s : ℕ) → get_or (xs ++ None ∷ []) s None ≡ None
 none_push [] h zero = refl
@@ -57,20 +60,9 @@ none_push [] h (suc s) = refl
 none_push (x ∷ xs) h zero = h zero
 none_push (x ∷ xs) h (suc s) = none_push xs (λ t. h (suc t)) s
 
--- the counts behind those that there were
-pub zero_behind : (items : List ItemInfo) (old new : List ℕ) → IsNumberedFrom (length old) items → KeepsZeros old new → AreZero items new
-zero_behind items old new numbered zeros = λ k item e b lt.
-    let ge = numbered_ge (length old) items k item numbered e in
-    zeros (item.first_bin + b) (get_or-eq_default old 0 (omega (arith, ge)))
-
--- the items' bins are within as many counts as there are behind the first
-within : (first : ℕ) (items : List ItemInfo) (k : ℕ) (item : ItemInfo) → IsNumberedFrom first items → slice_get items k ≡ Some item → item.first_bin + length item.bins ≤ first + bins_in items
-within first [] k item h e = (cc)
-within first (x ∷ items) zero item h e = let same : x ≡ item = cc in omega (arith, h.0, ap (λ (i : ItemInfo). i.first_bin + length i.bins) same)
-within first (x ∷ items) (suc k) item h e = let more = within (first + length x.bins) items k item h.1 e in omega (arith, more)
-
-pub are_numbered : (items : List ItemInfo) (old n : ℕ) → IsNumberedFrom old items → n ≡ old + bins_in items → AreNumbered items n
-are_numbered items old n h len = record { first = old; numbered = h; room = λ k item e. let le = within old items k item h e in omega (arith, le, len) }
+-- the parts of an instance's work by other names
+pub by_parts : (P : List ItemInfo → List ItemPlan → List ℕ → Type 0) (items items' : List ItemInfo) (plans plans' : List ItemPlan) (chosen chosen' : List ℕ) → items ≡ items' → plans ≡ plans' → chosen ≡ chosen' → P items plans chosen → P items' plans' chosen'
+by_parts P items items' plans plans' chosen chosen' e f g h = subst (P items' plans') g (subst (λ (ps : List ItemPlan). P items' ps chosen) f (subst (λ (xs : List ItemInfo). P xs plans chosen) e h))
 
 -- ---- before the first sample
 
@@ -96,40 +88,72 @@ pub start_cross : (items : List ItemInfo) (item : ItemInfo) (all : List Env) (co
 start_cross items item all counts (Point expr) p s h samples marks zeros = absurd h
 start_cross items item all counts (Cross axes) p s h samples marks zeros = record { samples = samples; marks = marks; counted = cross_counted items item all axes counts zeros }
 
--- one item's state behind those of the items before
-pub each_push : (P : ItemInfo → ItemPlan → ItemState → Type 0) (items : List ItemInfo) (plans : List ItemPlan) (states new : List ItemState) (t : ℕ) (item : ItemInfo) (p : ItemPlan) (state : ItemState) → length states ≡ t → slice_get items t ≡ Some item → slice_get plans t ≡ Some p
-    → P item p state → new ≡ states ++ state ∷ [] → ((k : ℕ) (i : ItemInfo) (q : ItemPlan) (s : ItemState) → k < t → slice_get items k ≡ Some i → slice_get plans k ≡ Some q → P i q (get_or states k s))
-    → (k : ℕ) (i : ItemInfo) (q : ItemPlan) (s : ItemState) → k < t + 1 → slice_get items k ≡ Some i → slice_get plans k ≡ Some q → P i q (get_or new k s)
-each_push P items plans states new t item p state len e f here push h k i q s lt ei fq = elim (cases_lt k t) [
-  | inl lower ↦ subst (P i q) (sym (ap (λ (xs : List ItemState). get_or xs k s) push ∙ get_or_append_left states (state ∷ []) s k (omega (arith, lower, len)))) (h k i q s lower ei fq)
+-- what is kept of the item at a place fits, and stands before the first sample
+abbrev pub FitsAt : List ItemInfo → List ItemPlan → (chosen : List ℕ) → ℕ → ItemState → Type 0
+FitsAt items plans chosen i s = (k : ℕ) (item : ItemInfo) (p : ItemPlan) → slice_get chosen i ≡ Some k → slice_get items k ≡ Some item → slice_get plans k ≡ Some p → Fits item p s
+
+abbrev pub StartsAt : List ItemInfo → List ItemPlan → (chosen : List ℕ) → List Env → (counts : List ℕ) → ℕ → ItemState → Type 0
+StartsAt items plans chosen all counts i s = (k : ℕ) (item : ItemInfo) (p : ItemPlan) → slice_get chosen i ≡ Some k → slice_get items k ≡ Some item → slice_get plans k ≡ Some p → Stands items item all 0 item.shape p s counts
+
+module _ (items : List ItemInfo) (plans : List ItemPlan) (chosen : List ℕ) (i at : ℕ) (item : ItemInfo) (p : ItemPlan) (state : ItemState) (c : slice_get chosen i ≡ Some at) (e : slice_get items at ≡ Some item) (f : slice_get plans at ≡ Some p) where
+  at_place : (P : ItemInfo → ItemPlan → Type 0) → P item p → (k : ℕ) (x : ItemInfo) (q : ItemPlan) → slice_get chosen i ≡ Some k → slice_get items k ≡ Some x → slice_get plans k ≡ Some q → P x q
+  at_place P h k x q ck ex fq =
+      let number = one_number chosen i at k c ck in
+      one_of (λ (y : ItemInfo). P y q) items k item x (ap (λ (j : ℕ). slice_get items j) (sym number) ∙ e) ex (one_of (λ (y : ItemPlan). P item y) plans k p q (ap (λ (j : ℕ). slice_get plans j) (sym number) ∙ f) fq h)
+
+  pub fits_here : Fits item p state → FitsAt items plans chosen i state
+  fits_here h = at_place (λ (x : ItemInfo) (q : ItemPlan). Fits x q state) h
+
+  pub starts_here : (all : List Env) (counts : List ℕ) → AreAllZero counts → ((all : List Env) (counts : List ℕ) → IsZeroAt item counts → Stands items item all 0 item.shape p state counts) → StartsAt items plans chosen all counts i state
+  starts_here all counts zeros h = at_place (λ (x : ItemInfo) (q : ItemPlan). Stands items x all 0 x.shape q state counts) (h all counts (λ b lt. zeros (item.first_bin + b)))
+
+-- the same of instances
+abbrev pub InstFitsAt : List InstInfo → List InstPlan → (share : List (List ℕ)) → ℕ → InstState → Type 0
+InstFitsAt instances plans share j k = (inst : InstInfo) (p : InstPlan) (chosen : List ℕ) → slice_get instances j ≡ Some inst → slice_get plans j ≡ Some p → slice_get share j ≡ Some chosen → InstFits inst.items p.items chosen k
+
+abbrev pub InstStartsAt : List InstInfo → List InstPlan → (share : List (List ℕ)) → (counts : List ℕ) → ℕ → InstState → Type 0
+InstStartsAt instances plans share counts j k = (inst : InstInfo) (p : InstPlan) (chosen : List ℕ) (all : List Env) → slice_get instances j ≡ Some inst → slice_get plans j ≡ Some p → slice_get share j ≡ Some chosen → AllStand inst.items p.items chosen all (λ shape. 0) k.states.items counts
+
+module _ (instances : List InstInfo) (plans : List InstPlan) (share : List (List ℕ)) (j : ℕ) (inst : InstInfo) (p : InstPlan) (chosen : List ℕ) (kept : InstState) (e : slice_get instances j ≡ Some inst) (f : slice_get plans j ≡ Some p) (g : slice_get share j ≡ Some chosen) where
+  pub at_inst : (P : InstInfo → InstPlan → List ℕ → Type 0) → P inst p chosen → (x : InstInfo) (q : InstPlan) (own : List ℕ) → slice_get instances j ≡ Some x → slice_get plans j ≡ Some q → slice_get share j ≡ Some own → P x q own
+  at_inst P h x q own ex fq go =
+      one_of (λ (y : InstInfo). P y q own) instances j inst x e ex (one_of (λ (y : InstPlan). P inst y own) plans j p q f fq (one_of (λ (y : List ℕ). P inst p y) share j chosen own g go h))
+
+  pub inst_fits_here : InstFits inst.items p.items chosen kept → InstFitsAt instances plans share j kept
+  inst_fits_here h = at_inst (λ (x : InstInfo) (q : InstPlan) (own : List ℕ). InstFits x.items q.items own kept) h
+
+  pub inst_starts_here : (counts : List ℕ) → AreAllZero counts → ((all : List Env) (counts : List ℕ) → AreAllZero counts → AllStand inst.items p.items chosen all (λ shape. 0) kept.states.items counts) → InstStartsAt instances plans share counts j kept
+  inst_starts_here counts zeros h x q own all ex fq go = at_inst (λ (x : InstInfo) (q : InstPlan) (own : List ℕ). AllStand x.items q.items own all (λ shape. 0) kept.states.items counts) (h all counts zeros) x q own ex fq go
+
+last_of : {X : Type 0} (xs : List X) (x d : X) → get_or (xs ++ x ∷ []) (length xs) d ≡ x
+last_of [] x d = refl
+last_of (y ∷ xs) x d = last_of xs x d
+
+-- one state behind those before
+pub each_push : {X : Type 0} (P : ℕ → X → Type 0) (states new : List X) (t : ℕ) (state : X) → length states ≡ t → new ≡ states ++ state ∷ [] → P t state → ((i : ℕ) (s : X) → i < t → P i (get_or states i s)) → (i : ℕ) (s : X) → i < t + 1 → P i (get_or new i s)
+each_push {X = X} P states new t state len push own h i s lt = elim (cases_lt i t) [
+  | inl lower ↦ subst (P i) (sym (ap (λ (xs : List X). get_or xs i s) push ∙ get_or_append_left states (state ∷ []) s i (omega (arith, lower, len)))) (h i s lower)
   | inr ge ↦
-      let same : t ≡ k = omega (arith, lt, ge) in
-      let read : get_or new k s ≡ state = ap (λ (xs : List ItemState). get_or xs k s) push ∙ ap (λ (j : ℕ). get_or (states ++ state ∷ []) j s) (sym same ∙ sym len) ∙ last states state s in
-      let at_item : slice_get items k ≡ Some item = ap (λ (j : ℕ). slice_get items j) (sym same) ∙ e in
-      let at_plan : slice_get plans k ≡ Some p = ap (λ (j : ℕ). slice_get plans j) (sym same) ∙ f in
-      one_of (λ (j : ItemInfo). P j q (get_or new k s)) items k item i at_item ei (one_of (λ (r : ItemPlan). P item r (get_or new k s)) plans k p q at_plan fq (subst (P item p) (sym read) here))
+      let same : t ≡ i = omega (arith, lt, ge) in
+      let read : get_or new i s ≡ state = ap (λ (xs : List X). get_or xs i s) push ∙ ap (λ (j : ℕ). get_or (states ++ state ∷ []) j s) (sym same ∙ sym len) ∙ last_of states state s in
+      subst (P i) (sym read) (subst (λ (j : ℕ). P j state) same own)
 ]
-  where
-    last : (xs : List ItemState) (x d : ItemState) → get_or (xs ++ x ∷ []) (length xs) d ≡ x
-    last [] x d = refl
-    last (y ∷ xs) x d = last xs x d
 
 unset : (found : Option SignalRow) → signal_value found None ≡ None
 unset None = refl
 unset (Some row) = refl
 
-pub at_start : (r : Record) (j : ℕ) (items : List ItemInfo) (plans : List ItemPlan) (values : List (Option ℤ)) (states : List ItemState) (counts : List ℕ) → length values ≡ places → AreUnknown values
-    → AllStand items plans (samples_of r j) (λ shape. 0) states counts → InstAt r j items plans [] r.events values counts states counts
-unfolding samples_of
-at_start r j items plans values states counts len unknown stand = record {
-  holds = record { same = len; at = λ s lt. unknown s ∙ sym (unset (slice_get r.signals s)) };
-  m = 0;
-  within = omega arith;
-  few = omega arith;
-  outside = λ number o. refl;
-  left = refl;
-  stands = stand;
-}
+module _ (r : Record) (instances : List InstInfo) (plans : List InstPlan) (share : List (List ℕ)) (values : List (Option ℤ)) (kept : List InstState) (counts : List ℕ) where
+  inst_start : (j : ℕ) (items : List ItemInfo) (plans : List ItemPlan) (chosen : List ℕ) (states : List ItemState) → AllStand items plans chosen (samples_of r j) (λ shape. 0) states counts → InstAt r j items plans chosen [] r.events states counts
+  unfolding samples_of
+  inst_start j items plans chosen states stand = record { m = 0; within = omega arith; few = omega arith; left = refl; stands = stand }
+
+  pub at_start : length values ≡ places → AreUnknown values → AllInstStart instances plans share kept counts → WalkAt r instances plans share [] r.events values counts kept counts
+  at_start len unknown start = record {
+    holds = record { same = len; at = λ s lt. unknown s ∙ sym (unset (slice_get r.signals s)) };
+    outside = λ number o. refl;
+    each = λ j inst p chosen k e f g. inst_start j inst.items p.items chosen (get_or kept j k).states.items (start j inst p chosen k (samples_of r j) e f g);
+  }
 
 -- ---- after the last sample
 
@@ -141,55 +165,27 @@ count_of items item all (Point expr) (plan.Cross p) s counts e h = absurd h
 count_of items item all (Cross axes) p (kept.Point s) counts e h = absurd h
 count_of items item all (Cross axes) p (kept.Cross s) counts e h = λ b bin at. subst (λ (shape : ItemShape). Number (ShapeHit items item shape bin all) (length all) (get_or counts (item.first_bin + b) 0)) (sym e) (h.counted b bin at)
 
-some_of : {X : Type 0} (xs : List X) (k : ℕ) → k < length xs → (x : X) × (slice_get xs k ≡ Some x)
+pub some_of : {X : Type 0} (xs : List X) (k : ℕ) → k < length xs → (x : X) × (slice_get xs k ≡ Some x)
 some_of [] k lt = absurd (omega (arith, lt))
 some_of (x ∷ xs) zero lt = (x, refl)
 some_of (x ∷ xs) (suc k) lt = some_of xs k (omega (arith, lt))
 
-pub all_counted : (items : List ItemInfo) (plans : List ItemPlan) (all : List Env) (old new : List ℕ) (first states : List ItemState) → length plans ≡ length items → length first ≡ length items → AllTaken items plans all (λ shape. length all) old states new → ItemsCounted items all old new
-all_counted items plans all old new first states plans_len first_len h = record {
-  counts = λ k item b bin e at.
-      let lt = slice_get_within items k item e in
-      let p = some_of plans k (omega (arith, lt, plans_len)) in
-      let s = some_of first k (omega (arith, lt, first_len)) in
-      count_of items item all item.shape p.0 (get_or states k s.0) new refl (h.stand k item p.0 s.0 e p.1) b bin at;
+pub all_counted : (r : Record) (instances : List InstInfo) (plans : List InstPlan) (share : List (List ℕ)) (n : ℕ) (before : List Event) (values : List (Option ℤ)) (old new : List ℕ) (kept : List InstState) → IsWork instances plans share n → AllInstFit instances plans share kept
+    → WalkAt r instances plans share before [] values old kept new → ShareCounted r instances share old new
+all_counted r instances plans share n before values old new kept work fits h = record {
+  counted = λ j k b inst chosen item bin e g own is at.
+      let lt = slice_get_within instances j inst e in
+      let p = some_of plans j (omega (arith, lt, work.plan_count)) in
+      let s = some_of kept j (omega (arith, lt, fits.same)) in
+      let states = (get_or kept j s.0).states.items in
+      let here = work.each j inst p.0 chosen e p.1 g in
+      let fit = fits.at j inst p.0 chosen s.0 e p.1 g in
+      let q = some_of p.0.items k (omega (arith, slice_get_within inst.items k item is, here.same_plans)) in
+      let t = some_of states own.0 (omega (arith, fit.fits.same, slice_get_within chosen own.0 k own.1)) in
+      let stand = at_end r j inst.items p.0.items chosen before states new (h.each j inst p.0 chosen s.0 e p.1 g) in
+      count_of inst.items item (samples_of r j) item.shape q.0 (get_or states own.0 t.0) new refl (stand own.0 k item q.0 t.0 own.1 is q.1) b bin at;
   outside = h.outside;
 }
-
--- ---- one instance more
-
-extends_by : (old new : List ℕ) (n : ℕ) → length new ≡ length old + n → ((k : ℕ) → k < length old → get_or new k 0 ≡ get_or old k 0) → Extends old new n
-extends_by old new n len same = (drop (length old) new, split, drop_len)
-  where
-    front : take (length old) new ≡ old
-    front = prefix old new (omega (arith, len)) same
-      where
-        prefix : (old new : List ℕ) → length old ≤ length new → ((k : ℕ) → k < length old → get_or new k 0 ≡ get_or old k 0) → take (length old) new ≡ old
-        prefix [] new le h = refl
-        prefix (x ∷ old) [] le h = absurd (omega (arith, le))
-        prefix (x ∷ old) (y ∷ new) le h = ap (λ (z : ℕ). z ∷ take (length old) new) (h zero (omega arith)) ∙ ap (λ (zs : List ℕ). x ∷ zs) (prefix old new (omega (arith, le)) (λ k lt. h (suc k) (omega (arith, lt))))
-
-    split : new ≡ old ++ drop (length old) new
-    split = sym (take-append-drop (length old) new) ∙ ap (λ (zs : List ℕ). zs ++ drop (length old) new) front
-
-    drop_len : length (drop (length old) new) ≡ n
-    drop_len = let l = ap length split ∙ length-append old (drop (length old) new) in omega (arith, l, len)
-
-pub instance_done : (items : List ItemInfo) (all : List Env) (old mid new : List ℕ) → IsNumberedFrom (length old) items → Extends old mid (bins_in items) → length new ≡ length mid → ItemsCounted items all mid new
-    → Extends old new (bins_in items) × ItemsDone items all new
-instance_done items all old mid new numbered extends len h = (
-  extends_by old new (bins_in items) new_len (λ k lt. h.outside k (λ j item e. inl (let ge = numbered_ge (length old) items j item numbered e in omega (arith, ge, lt))) ∙ kept_front k lt),
-  λ k item e. record { within = (let le = within (length old) items k item numbered e in omega (arith, le, new_len)); at = λ b bin at. h.counts k item b bin e at },
-)
-  where
-    mid_len : length mid ≡ length old + bins_in items
-    mid_len = ap length extends.1 ∙ length-append old extends.0 ∙ ap (λ (n : ℕ). length old + n) extends.2
-
-    new_len : length new ≡ length old + bins_in items
-    new_len = len ∙ mid_len
-
-    kept_front : (k : ℕ) → k < length old → get_or mid k 0 ≡ get_or old k 0
-    kept_front k lt = ap (λ (xs : List ℕ). get_or xs k 0) extends.1 ∙ get_or_append_left old extends.0 0 k lt
 
 -- a slice written back
 pub written : (n : ℕ) (xs ys : List ℕ) → length xs ≡ n → take n (xs ++ ys) ≡ xs

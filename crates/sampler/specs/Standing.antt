@@ -1,19 +1,16 @@
 -- What the items of an instance keep and count along its samples.
-use Rattle.std.specs.Prelude.{◌≡◌, ◌↔◌, ℕ, ◌+◌, ◌-◌, ◌^◌, ◌<◌, ◌≤◌, ◌⊎◌, List, [], length, drop, slice_get, slice_index, slice_index_or, Some}
-use Rattle.std.specs.List.{Contains, AllByRecursion}
+use Rattle.std.specs.Prelude.{◌≡◌, ℕ, ◌+◌, ◌-◌, ◌^◌, ◌<◌, ◌≤◌, List, [], length, drop, slice_get, slice_index, slice_index_or, Some}
+use Rattle.std.specs.List.{AllByRecursion}
 use Rattle.std.specs.Global.{Vec}
 use Rattle.const_eval.specs.Terms.{Term}
-use Rattle.cov_ground.specs.Limits.{most_events}
 use Rattle.design_data.specs.declared.infos.ItemInfo.{ItemInfo}
-use Rattle.design_data.specs.declared.infos.InstInfo.{InstInfo}
 use Rattle.design_data.specs.declared.infos.ItemShape.{ItemShape}
 use Rattle.design_data.specs.declared.infos.ItemShape.TheVariants.{Point, Cross}
-use Rattle.design_data.specs.Bins.{coverage_bins, sizes_of, IsNumberedFrom}
-use Rattle.design_data.specs.Limits.{IsItem, IsPointIndex}
+use Rattle.design_data.specs.Bins.{sizes_of, IsNumberedFrom}
+use Rattle.design_data.specs.Limits.{IsPointIndex}
 use Rattle.record_codec.specs.Samples.{Env, envs_after, args_of, samples_of}
 use Rattle.record_codec.specs.declared.record.Record.{Record}
 use Rattle.record_codec.specs.declared.record.Event.{Event}
-use Rattle.cov_counting.specs.Crosses.{SomeHitAt}
 use Rattle.point_sampler.specs.Plans as points
 use Rattle.point_sampler.specs.Points as points_stand
 use Rattle.cross_sampler.specs.Numbers.{row_at}
@@ -23,7 +20,6 @@ use Rattle.sampler.specs.declared.plan.ItemPlan.{ItemPlan}
 use Rattle.sampler.specs.declared.plan.ItemPlan.TheVariants as plan
 use Rattle.sampler.specs.declared.instance.ItemState.{ItemState}
 use Rattle.sampler.specs.declared.instance.ItemState.TheVariants as kept
-use Rattle.sampler.specs.Values.{Holds}
 
 -- the m-th sample of all has these values
 pub record IsSample (all : List Env) (m : ℕ) (env : Env) : Type 0 where
@@ -92,28 +88,45 @@ pub record AreNumbered (items : List ItemInfo) (counts : ℕ) : Type 0 where
 abbrev pub ArePlans : List ItemInfo → List ItemPlan → Type 0
 ArePlans items plans = (k : ℕ) (item : ItemInfo) (p : ItemPlan) → slice_get items k ≡ Some item → slice_get plans k ≡ Some p → IsPlanOf items item item.shape p
 
--- each item keeps what its plan asks for
-pub record AllFit (items : List ItemInfo) (plans : List ItemPlan) (states : List ItemState) : Type 0 where
+-- ---- the items that a walk takes along, by their indexes
+
+-- the item at this index is taken along
+abbrev pub IsChosen : (chosen : List ℕ) → ℕ → Type 0
+IsChosen chosen k = (place : ℕ) × (slice_get chosen place ≡ Some k)
+
+-- with a cross its points are taken along
+abbrev pub IsCovered : (chosen : List ℕ) → ItemShape → Type 0
+IsCovered chosen (Point expr) = Unit {0}
+IsCovered chosen (Cross axes) = AllByRecursion (IsChosen chosen) axes
+
+-- items of the instance, each once, and with each cross its points
+pub record AreChosen (items : List ItemInfo) (chosen : List ℕ) : Type 0 where
+  pub once : (i j k : ℕ) → slice_get chosen i ≡ Some k → slice_get chosen j ≡ Some k → i ≡ j
+  pub within : (i k : ℕ) → slice_get chosen i ≡ Some k → k < length items
+  pub covered : (k : ℕ) (item : ItemInfo) → IsChosen chosen k → slice_get items k ≡ Some item → IsCovered chosen item.shape
+
+-- each item that is taken along keeps what its plan asks for
+pub record AllFit (items : List ItemInfo) (plans : List ItemPlan) (chosen : List ℕ) (states : List ItemState) : Type 0 where
   pub same_plans : length plans ≡ length items
-  pub same : length states ≡ length items
-  pub at : (k : ℕ) (item : ItemInfo) (p : ItemPlan) (s : ItemState) → slice_get items k ≡ Some item → slice_get plans k ≡ Some p → k < length items → Fits item p (slice_index_or states k s)
+  pub same : length states ≡ length chosen
+  pub at : (i k : ℕ) (item : ItemInfo) (p : ItemPlan) (s : ItemState) → slice_get chosen i ≡ Some k → slice_get items k ≡ Some item → slice_get plans k ≡ Some p → Fits item p (slice_index_or states i s)
 
--- each item stands after as many samples as its shape says
-abbrev pub AllStand : List ItemInfo → List ItemPlan → List Env → (samples : ItemShape → ℕ) → List ItemState → (counts : List ℕ) → Type 0
-AllStand items plans all samples states counts = (k : ℕ) (item : ItemInfo) (p : ItemPlan) (s : ItemState) → slice_get items k ≡ Some item → slice_get plans k ≡ Some p
-    → Stands items item all (samples item.shape) item.shape p (slice_index_or states k s) counts
+-- each of them stands after as many samples as its shape says
+abbrev pub AllStand : List ItemInfo → List ItemPlan → (chosen : List ℕ) → List Env → (samples : ItemShape → ℕ) → List ItemState → (counts : List ℕ) → Type 0
+AllStand items plans chosen all samples states counts = (i k : ℕ) (item : ItemInfo) (p : ItemPlan) (s : ItemState) → slice_get chosen i ≡ Some k → slice_get items k ≡ Some item → slice_get plans k ≡ Some p
+    → Stands items item all (samples item.shape) item.shape p (slice_index_or states i s) counts
 
--- the rows of the points have what is hit at the m-th sample
-abbrev pub RowsStand : List ItemInfo → List Env → ℕ → List (Vec ℕ) → Type 0
-RowsStand items all m rows = (k : ℕ) (item : ItemInfo) → slice_get items k ≡ Some item → RowStands item all m item.shape (row_at rows k)
+-- the rows of the points among them have what is hit at the m-th sample
+abbrev pub RowsStand : List ItemInfo → (chosen : List ℕ) → List Env → ℕ → List (Vec ℕ) → Type 0
+RowsStand items chosen all m rows = (k : ℕ) (item : ItemInfo) → IsChosen chosen k → slice_get items k ≡ Some item → RowStands item all m item.shape (row_at rows k)
 
 -- the counts at the numbers that are those of no bin of the item are as before
 abbrev pub KeepsOthers : ItemInfo → (old new : List ℕ) → Type 0
 KeepsOthers item old new = (number : ℕ) → points_stand.IsOutside item number → slice_index new number ≡ slice_index old number
 
--- the same of the numbers that are those of no bin of the items
-abbrev pub KeepsOutside : List ItemInfo → (old new : List ℕ) → Type 0
-KeepsOutside items old new = (number : ℕ) → ((k : ℕ) (item : ItemInfo) → slice_get items k ≡ Some item → points_stand.IsOutside item number) → slice_index new number ≡ slice_index old number
+-- the same of the numbers that are those of no bin of the items that are taken along
+abbrev pub KeepsOutside : List ItemInfo → (chosen : List ℕ) → (old new : List ℕ) → Type 0
+KeepsOutside items chosen old new = (number : ℕ) → ((k : ℕ) (item : ItemInfo) → IsChosen chosen k → slice_get items k ≡ Some item → points_stand.IsOutside item number) → slice_index new number ≡ slice_index old number
 
 -- a cross has taken a sample, and the counts of no other item changed
 pub record CrossTaken (items : List ItemInfo) (item : ItemInfo) (axes : List ℕ) (all : List Env) (samples : ℕ) (old_counts : List ℕ) (new : ItemState) (new_counts : List ℕ) : Type 0 where
@@ -126,24 +139,27 @@ pub record ItemTaken (items : List ItemInfo) (item : ItemInfo) (all : List Env) 
   pub others : KeepsOthers item old_counts new_counts
 
 -- the items before place t have taken a sample, the others haven't yet
-pub record SomeTaken (items : List ItemInfo) (plans : List ItemPlan) (all : List Env) (before after : ItemShape → ℕ) (t : ℕ) (old_counts : List ℕ) (states : List ItemState) (counts : List ℕ) : Type 0 where
-  pub done : (k : ℕ) (item : ItemInfo) (p : ItemPlan) (s : ItemState) → k < t → slice_get items k ≡ Some item → slice_get plans k ≡ Some p → Stands items item all (after item.shape) item.shape p (slice_index_or states k s) counts
-  pub left : (k : ℕ) (item : ItemInfo) (p : ItemPlan) (s : ItemState) → t ≤ k → slice_get items k ≡ Some item → slice_get plans k ≡ Some p → Stands items item all (before item.shape) item.shape p (slice_index_or states k s) counts
-  pub outside : KeepsOutside items old_counts counts
+pub record SomeTaken (items : List ItemInfo) (plans : List ItemPlan) (chosen : List ℕ) (all : List Env) (before after : ItemShape → ℕ) (t : ℕ) (old_counts : List ℕ) (states : List ItemState) (counts : List ℕ) : Type 0 where
+  pub done : (i k : ℕ) (item : ItemInfo) (p : ItemPlan) (s : ItemState) → i < t → slice_get chosen i ≡ Some k → slice_get items k ≡ Some item → slice_get plans k ≡ Some p → Stands items item all (after item.shape) item.shape p (slice_index_or states i s) counts
+  pub left : (i k : ℕ) (item : ItemInfo) (p : ItemPlan) (s : ItemState) → t ≤ i → slice_get chosen i ≡ Some k → slice_get items k ≡ Some item → slice_get plans k ≡ Some p → Stands items item all (before item.shape) item.shape p (slice_index_or states i s) counts
+  pub outside : KeepsOutside items chosen old_counts counts
 
 -- all items have taken one more sample, and the counts of no others changed
-pub record AllTaken (items : List ItemInfo) (plans : List ItemPlan) (all : List Env) (after : ItemShape → ℕ) (old_counts : List ℕ) (states : List ItemState) (counts : List ℕ) : Type 0 where
-  pub stand : AllStand items plans all after states counts
-  pub outside : KeepsOutside items old_counts counts
+pub record AllTaken (items : List ItemInfo) (plans : List ItemPlan) (chosen : List ℕ) (all : List Env) (after : ItemShape → ℕ) (old_counts : List ℕ) (states : List ItemState) (counts : List ℕ) : Type 0 where
+  pub stand : AllStand items plans chosen all after states counts
+  pub outside : KeepsOutside items chosen old_counts counts
 
 -- ---- along the events
 
 -- Where an instance stands between the events before, latest first, and those that are left.
-pub record InstAt (r : Record) (instance : ℕ) (items : List ItemInfo) (plans : List ItemPlan) (before events : List Event) (values : Env) (old_counts : List ℕ) (states : List ItemState) (counts : List ℕ) : Type 0 where
-  pub holds : Holds r.signals before values
+pub record InstAt (r : Record) (instance : ℕ) (items : List ItemInfo) (plans : List ItemPlan) (chosen : List ℕ) (before events : List Event) (states : List ItemState) (counts : List ℕ) : Type 0 where
   pub m : ℕ
   pub within : m ≤ length (samples_of r instance)
   pub few : m ≤ length before
-  pub outside : KeepsOutside items old_counts counts
   pub left : drop m (samples_of r instance) ≡ envs_after r.signals (args_of (slice_get r.instances instance)) instance before events
-  pub stands : AllStand items plans (samples_of r instance) (λ shape. m) states counts
+  pub stands : AllStand items plans chosen (samples_of r instance) (λ shape. m) states counts
+
+-- an instance has taken one more event, and the counts of no others changed
+pub record InstTaken (r : Record) (instance : ℕ) (items : List ItemInfo) (plans : List ItemPlan) (chosen : List ℕ) (before events : List Event) (old_counts : List ℕ) (states : List ItemState) (counts : List ℕ) : Type 0 where
+  pub at : InstAt r instance items plans chosen before events states counts
+  pub outside : KeepsOutside items chosen old_counts counts

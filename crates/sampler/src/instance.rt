@@ -1,9 +1,11 @@
 //! One sample of an instance.
-ghost use Rattle.std.specs.Prelude.{◌≡◌, ◌≢◌, ◌+◌, ◌<◌, ◌≤◌, ℕ, List, length, OnOk};
+ghost use Rattle.std.specs.Prelude.{◌≡◌, ◌≢◌, ◌+◌, ◌<◌, ◌≤◌, ℕ, List, length, slice_get, Some, OnOk};
 ghost use Rattle.cross_sampler.specs.Numbers.{row_at};
 ghost use Rattle.record_codec.specs.Samples.{Env};
 ghost use Rattle.point_sampler.specs.Points.{RowStands as PointRowStands};
-ghost use Rattle.sampler.specs.Standing.{IsSample, IsPointPlan, IsCrossPlan, IsPlanOf, Fits, PointStands, CrossStands, Stands, point_first, RowStands, AreNumbered, ArePlans, AllFit, AllStand, RowsStand, KeepsOthers, CrossTaken, ItemTaken, AllTaken};
+ghost use Rattle.sampler.specs.Standing.{IsSample, IsPointPlan, IsCrossPlan, IsPlanOf, Fits, PointStands, CrossStands, Stands, point_first, RowStands, AreNumbered, ArePlans, AreChosen, IsChosen, IsCovered, AllFit, AllStand, RowsStand, KeepsOthers, CrossTaken, ItemTaken, AllTaken};
+ghost use Rattle.std.specs.List.{AllByRecursion};
+ghost use Rattle.sampler.specs.Walking.{InstFits};
 
 use crate::plan::ItemPlan;
 use const_eval::Bound;
@@ -17,6 +19,15 @@ use point_sampler::PointState;
 pub enum ItemState {
     Point(PointState),
     Cross(CrossState),
+}
+
+/// What an instance keeps along its samples.
+#[derive(Drop)]
+pub struct InstState {
+    /// What each item keeps that is taken along.
+    pub states: Vec<ItemState>,
+    /// For each item a row: of a point that is taken along, which of its coverage bins the latest sample hits.
+    pub rows: Vec<Vec<u32>>,
 }
 
 /// Takes a point over a sample, and puts into `row` which of its coverage bins are hit.
@@ -105,32 +116,46 @@ fn take_point_at(
     Ok(())
 }
 
-/// Takes the points of an instance over a sample.
+/// The index of the chosen item at this place.
+pub(crate) fn chosen_at(items: &[ItemInfo], chosen: &[u32], place: usize) -> usize
+    requires chosen { AreChosen items.now chosen.now }
+    requires place { place < length chosen.now }
+    ensures at { slice_get chosen.now place ≡ Some result }
+    ensures within { result < length items.now }
+{
+    let _ = items;
+    chosen[place] as usize
+}
+
+/// Takes the points among the chosen items of an instance over a sample.
 fn take_points(
     items: &[ItemInfo],
     plans: &[ItemPlan],
+    chosen: &[u32],
     states: &mut Vec<ItemState>,
     rows: &mut Vec<Vec<u32>>,
     env: &[Option<Int>],
     counts: &mut [u64],
 ) -> Result<(), Memory>
     requires plans { ArePlans items.now plans.now }
-    requires fits { AllFit items.now plans.now states.old.items }
+    requires chosen { AreChosen items.now chosen.now }
+    requires fits { AllFit items.now plans.now chosen.now states.old.items }
     requires rows { length rows.old.items ≡ length items.now }
     requires numbered { AreNumbered items.now (length counts.old) }
-    ensures fits { OnOk result (AllFit items.now plans.now states.new.items) }
+    ensures fits { OnOk result (AllFit items.now plans.now chosen.now states.new.items) }
     ensures rows { OnOk result (length rows.new.items ≡ length items.now) }
-    ensures taken { OnOk result ((all : List Env) (m : ℕ) → IsSample all m env.now → AllStand items.now plans.now all (λ shape. m) states.old.items counts.old
-        → AllTaken items.now plans.now all (λ shape. point_first shape m) counts.old states.new.items counts.new) }
-    ensures hit { OnOk result ((all : List Env) (m : ℕ) → IsSample all m env.now → AllStand items.now plans.now all (λ shape. m) states.old.items counts.old
-        → RowsStand items.now all m rows.new.items) }
+    ensures taken { OnOk result ((all : List Env) (m : ℕ) → IsSample all m env.now → AllStand items.now plans.now chosen.now all (λ shape. m) states.old.items counts.old
+        → AllTaken items.now plans.now chosen.now all (λ shape. point_first shape m) counts.old states.new.items counts.new) }
+    ensures hit { OnOk result ((all : List Env) (m : ℕ) → IsSample all m env.now → AllStand items.now plans.now chosen.now all (λ shape. m) states.old.items counts.old
+        → RowsStand items.now chosen.now all m rows.new.items) }
 {
-    for t in 0..items.len() {
+    for i in 0..chosen.len() {
+        let t = chosen_at(items, chosen, i);
         take_point_at(
             items,
             &items[t],
             &plans[t],
-            &mut states[t],
+            &mut states[i],
             rows,
             t,
             env,
@@ -155,7 +180,7 @@ fn cross_taken(
     requires fits { Fits item.now plan.now state.old }
     requires counts { item.now.first_bin + length item.now.bins ≤ length counts.old }
     ensures fits { OnOk result (Fits item.now plan.now state.new) }
-    ensures taken { OnOk result ((all : List Env) (m : ℕ) → IsSample all m env.now → RowsStand items.now all m rows.now
+    ensures taken { OnOk result ((all : List Env) (m : ℕ) (chosen : List ℕ) → IsSample all m env.now → AllByRecursion (IsChosen chosen) axes.now → RowsStand items.now chosen all m rows.now
         → CrossStands items.now item.now axes.now all m state.old counts.old
         → CrossTaken items.now item.now axes.now all (m + 1) counts.old state.new counts.new) }
 {
@@ -186,7 +211,7 @@ fn take_cross(
     requires fits { Fits item.now plan.now state.old }
     requires counts { item.now.first_bin + length item.now.bins ≤ length counts.old }
     ensures fits { OnOk result (Fits item.now plan.now state.new) }
-    ensures taken { OnOk result ((all : List Env) (m : ℕ) → IsSample all m env.now → RowsStand items.now all m rows.now
+    ensures taken { OnOk result ((all : List Env) (m : ℕ) (chosen : List ℕ) → IsSample all m env.now → IsCovered chosen item.now.shape → RowsStand items.now chosen all m rows.now
         → Stands items.now item.now all (point_first item.now.shape m) item.now.shape plan.now state.old counts.old
         → ItemTaken items.now item.now all (m + 1) plan.now counts.old state.new counts.new) }
 {
@@ -199,29 +224,32 @@ fn take_cross(
     }
 }
 
-/// Takes the crosses of an instance over a sample, after its points.
+/// Takes the crosses among the chosen items of an instance over a sample, after its points.
 fn take_crosses(
     items: &[ItemInfo],
     plans: &[ItemPlan],
+    chosen: &[u32],
     states: &mut Vec<ItemState>,
     rows: &[Vec<u32>],
     env: &[Option<Int>],
     counts: &mut [u64],
 ) -> Result<(), Memory>
     requires plans { ArePlans items.now plans.now }
-    requires fits { AllFit items.now plans.now states.old.items }
+    requires chosen { AreChosen items.now chosen.now }
+    requires fits { AllFit items.now plans.now chosen.now states.old.items }
     requires numbered { AreNumbered items.now (length counts.old) }
-    ensures fits { OnOk result (AllFit items.now plans.now states.new.items) }
-    ensures taken { OnOk result ((all : List Env) (m : ℕ) → IsSample all m env.now → RowsStand items.now all m rows.now
-        → AllStand items.now plans.now all (λ shape. point_first shape m) states.old.items counts.old
-        → AllTaken items.now plans.now all (λ shape. m + 1) counts.old states.new.items counts.new) }
+    ensures fits { OnOk result (AllFit items.now plans.now chosen.now states.new.items) }
+    ensures taken { OnOk result ((all : List Env) (m : ℕ) → IsSample all m env.now → RowsStand items.now chosen.now all m rows.now
+        → AllStand items.now plans.now chosen.now all (λ shape. point_first shape m) states.old.items counts.old
+        → AllTaken items.now plans.now chosen.now all (λ shape. m + 1) counts.old states.new.items counts.new) }
 {
-    for t in 0..items.len() {
+    for i in 0..chosen.len() {
+        let t = chosen_at(items, chosen, i);
         take_cross(
             items,
             &items[t],
             &plans[t],
-            &mut states[t],
+            &mut states[i],
             rows,
             env,
             counts,
@@ -230,25 +258,40 @@ fn take_crosses(
     Ok(())
 }
 
-/// Takes an instance over one of its samples: its points, and then the crosses of these.
+/// Takes the chosen items of an instance over one of its samples: the points, and then the crosses of these.
 pub(crate) fn sample_instance(
     items: &[ItemInfo],
     plans: &[ItemPlan],
-    states: &mut Vec<ItemState>,
-    rows: &mut Vec<Vec<u32>>,
+    chosen: &[u32],
+    kept: &mut InstState,
     env: &[Option<Int>],
     counts: &mut [u64],
 ) -> Result<(), Memory>
     requires plans { ArePlans items.now plans.now }
-    requires fits { AllFit items.now plans.now states.old.items }
-    requires rows { length rows.old.items ≡ length items.now }
+    requires chosen { AreChosen items.now chosen.now }
+    requires fits { InstFits items.now plans.now chosen.now kept.old }
     requires numbered { AreNumbered items.now (length counts.old) }
-    ensures fits { OnOk result (AllFit items.now plans.now states.new.items) }
-    ensures rows { OnOk result (length rows.new.items ≡ length items.now) }
-    ensures taken { OnOk result ((all : List Env) (m : ℕ) → IsSample all m env.now → AllStand items.now plans.now all (λ shape. m) states.old.items counts.old
-        → AllTaken items.now plans.now all (λ shape. m + 1) counts.old states.new.items counts.new) }
+    ensures fits { OnOk result (InstFits items.now plans.now chosen.now kept.new) }
+    ensures taken { OnOk result ((all : List Env) (m : ℕ) → IsSample all m env.now → AllStand items.now plans.now chosen.now all (λ shape. m) kept.old.states.items counts.old
+        → AllTaken items.now plans.now chosen.now all (λ shape. m + 1) counts.old kept.new.states.items counts.new) }
 {
-    take_points(items, plans, states, rows, env, counts)?;
-    take_crosses(items, plans, states, rows.as_slice(), env, counts)?;
+    take_points(
+        items,
+        plans,
+        chosen,
+        &mut kept.states,
+        &mut kept.rows,
+        env,
+        counts,
+    )?;
+    take_crosses(
+        items,
+        plans,
+        chosen,
+        &mut kept.states,
+        kept.rows.as_slice(),
+        env,
+        counts,
+    )?;
     Ok(())
 }

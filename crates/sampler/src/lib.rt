@@ -8,12 +8,13 @@ mod plan;
 mod planning;
 mod prepared;
 mod shape;
+mod sharing;
 mod starting;
 mod values;
 mod walking;
 
 pub use binning::{bin_record, bin_record_under, counts_under};
-pub use instance::ItemState;
+pub use instance::{InstState, ItemState};
 pub use plan::{InstPlan, ItemPlan, Plan};
-pub use prepared::{Prepared, prepare};
+pub use prepared::{Prepared, prepare, prepare_under};
 pub use shape::{WrongShape, shape_fits};

@@ -2,9 +2,10 @@
 ghost use Rattle.std.specs.Prelude.{◌≡◌, IfOk};
 ghost use Rattle.std.specs.Arc.{arc_value};
 ghost use Rattle.record_codec.specs.Spelling.{spelling};
-ghost use Rattle.sampler.specs.Plans.{IsTallyOf};
+ghost use Rattle.sampler.specs.Plans.{IsDesignPlan, IsTallyOf};
 
-use crate::binning::bin_record;
+use crate::binning::{bin_record, bin_record_under};
+use crate::plan::Plan;
 use cov_base::{Gate, Memory};
 use design_data::Design;
 use record_codec::{Record, encode};
@@ -80,6 +81,29 @@ impl Prepared {
     }
 }
 
+/// The record with its encoding, and with this tally.
+fn sealed(
+    alloc: Global,
+    design: &Arc<Design>,
+    rec: Record,
+    tally: Tally,
+) -> Result<Prepared, Memory>
+    requires { IsTallyOf (arc_value design.now) rec tally }
+    ensures design { IfOk result (λ p. p.under ≡ arc_value design.now) }
+    ensures of { IfOk result (λ p. p.of ≡ rec) }
+{
+    let bytes = encode(alloc, &rec)?;
+    let rec = Arc::new(alloc, rec)?;
+    let tally = Arc::new(alloc, tally)?;
+    let design = design.clone()?;
+    Ok(Prepared {
+        design,
+        rec,
+        bytes,
+        tally,
+    })
+}
+
 /// The record with its encoding and its tally under the design. The gate is passed at place 1 before the record is binned
 /// and at place 2 after it.
 pub fn prepare<G: Gate>(
@@ -94,14 +118,23 @@ pub fn prepare<G: Gate>(
     gate.pass(1);
     let tally = bin_record(alloc, design, &rec)?;
     gate.pass(2);
-    let bytes = encode(alloc, &rec)?;
-    let rec = Arc::new(alloc, rec)?;
-    let tally = Arc::new(alloc, tally)?;
-    let design = design.clone()?;
-    Ok(Prepared {
-        design,
-        rec,
-        bytes,
-        tally,
-    })
+    sealed(alloc, design, rec, tally)
+}
+
+/// The same by what is worked out of the design, for callers that prepare many records under one design.
+pub fn prepare_under<G: Gate>(
+    alloc: Global,
+    plan: &Plan,
+    design: &Arc<Design>,
+    rec: Record,
+    gate: &G,
+) -> Result<Prepared, Memory>
+    requires { IsDesignPlan (arc_value design.now).instances plan.now }
+    ensures design { IfOk result (λ p. p.under ≡ arc_value design.now) }
+    ensures of { IfOk result (λ p. p.of ≡ rec) }
+{
+    gate.pass(1);
+    let tally = bin_record_under(alloc, plan, design, &rec)?;
+    gate.pass(2);
+    sealed(alloc, design, rec, tally)
 }

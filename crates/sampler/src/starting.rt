@@ -1,46 +1,23 @@
-//! What an instance keeps before its first sample.
-ghost use Rattle.std.specs.Prelude.{◌≡◌, ℕ, List, length, IfOk, OnOk};
+//! What stands before the first sample.
+ghost use Rattle.std.specs.Prelude.{◌≡◌, ℕ, List, length, IfOk};
 ghost use Rattle.record_codec.specs.Samples.{Env};
-ghost use Rattle.design_data.specs.Bins.{bins_in};
-ghost use Rattle.cov_counting.specs.Steps.{Extends};
-ghost use Rattle.sampler.specs.Standing.{IsPlanOf, Fits, Stands, ArePlans, AllFit, AllStand};
+ghost use Rattle.sampler.specs.Standing.{IsPlanOf, Fits, Stands, ArePlans, AreChosen, AllFit, AllStand};
+ghost use Rattle.sampler.specs.Walking.{IsWork, InstFits, AllInstFit};
 ghost use Rattle.sampler.specs.Values.{places};
-ghost use Rattle.sampler.specs.Starting.{KeepsZeros, IsZeroAt, AreZero, AreUnknown};
+ghost use Rattle.sampler.specs.Starting.{IsZeroAt, AreAllZero, AllInstStart, AreUnknown};
 
-use crate::instance::ItemState;
-use crate::plan::ItemPlan;
+use crate::instance::{InstState, ItemState, chosen_at};
+use crate::plan::{InstPlan, ItemPlan};
 use cov_base::{Int, Memory};
 use cov_ground::limits::{MOST_ARGUMENTS, MOST_SIGNALS};
+use cov_tree::List;
 use cross_sampler::CrossState;
-use design_data::ItemInfo;
+use design_data::{InstInfo, ItemInfo};
 use point_sampler::PointState;
 use std::alloc::Global;
 
 /// A place for each signal and argument.
 const PLACES: usize = MOST_SIGNALS + MOST_ARGUMENTS;
-
-/// Puts so many counts of 0 behind those of the bins before.
-fn push_zeros(count: usize, counts: &mut Vec<u64>) -> Result<(), Memory>
-    ensures extends { OnOk result (Extends counts.old.items counts.new.items count) }
-    ensures zeros { OnOk result (KeepsZeros counts.old.items counts.new.items) }
-{
-    for index in 0..count {
-        let _ = index;
-        counts.push(0)?;
-    }
-    Ok(())
-}
-
-/// Puts a count of 0 for each bin of the items behind the counts of the bins before.
-pub(crate) fn add_zeros(items: &[ItemInfo], counts: &mut Vec<u64>) -> Result<(), Memory>
-    ensures extends { OnOk result (Extends counts.old.items counts.new.items (bins_in items.now)) }
-    ensures zeros { OnOk result (KeepsZeros counts.old.items counts.new.items) }
-{
-    for item in items {
-        push_zeros(item.bins.as_slice().len(), counts)?;
-    }
-    Ok(())
-}
 
 /// What an item keeps before the first sample.
 fn item_state(
@@ -63,19 +40,22 @@ fn item_state(
     }
 }
 
-/// What the items of an instance keep before the first sample.
-pub(crate) fn item_states(
+/// What the chosen items of an instance keep before the first sample.
+fn item_states(
     alloc: Global,
     items: &[ItemInfo],
     plans: &[ItemPlan],
+    chosen: &[u32],
 ) -> Result<Vec<ItemState>, Memory>
     requires same { length plans.now ≡ length items.now }
     requires plans { ArePlans items.now plans.now }
-    ensures fits { IfOk result (λ states. AllFit items.now plans.now states.items) }
-    ensures stands { IfOk result (λ states. (all : List Env) (counts : List ℕ) → AreZero items.now counts → AllStand items.now plans.now all (λ shape. 0) states.items counts) }
+    requires chosen { AreChosen items.now chosen.now }
+    ensures fits { IfOk result (λ states. AllFit items.now plans.now chosen.now states.items) }
+    ensures stands { IfOk result (λ states. (all : List Env) (counts : List ℕ) → AreAllZero counts → AllStand items.now plans.now chosen.now all (λ shape. 0) states.items counts) }
 {
     let mut states = Vec::new(alloc);
-    for t in 0..items.len() {
+    for i in 0..chosen.len() {
+        let t = chosen_at(items, chosen, i);
         states.push(item_state(alloc, items, &items[t], &plans[t])?)?;
     }
     Ok(states)
@@ -91,6 +71,47 @@ pub(crate) fn empty_rows(alloc: Global, count: usize) -> Result<Vec<Vec<u32>>, M
         rows.push(Vec::new(alloc))?;
     }
     Ok(rows)
+}
+
+/// What an instance keeps before the first sample.
+fn inst_state(
+    alloc: Global,
+    items: &[ItemInfo],
+    plans: &[ItemPlan],
+    chosen: &[u32],
+) -> Result<InstState, Memory>
+    requires same { length plans.now ≡ length items.now }
+    requires plans { ArePlans items.now plans.now }
+    requires chosen { AreChosen items.now chosen.now }
+    ensures fits { IfOk result (λ kept. InstFits items.now plans.now chosen.now kept) }
+    ensures stands { IfOk result (λ kept. (all : List Env) (counts : List ℕ) → AreAllZero counts → AllStand items.now plans.now chosen.now all (λ shape. 0) kept.states.items counts) }
+{
+    let states = item_states(alloc, items, plans, chosen)?;
+    let rows = empty_rows(alloc, items.len())?;
+    Ok(InstState { states, rows })
+}
+
+/// What the instances keep before the first sample.
+pub(crate) fn inst_states(
+    alloc: Global,
+    instances: &[InstInfo],
+    plans: &[InstPlan],
+    share: &[List<u32>],
+    counts: &[u64],
+) -> Result<Vec<InstState>, Memory>
+    requires work { IsWork instances.now plans.now share.now (length counts.now) }
+    ensures fits { IfOk result (λ kept. AllInstFit instances.now plans.now share.now kept.items) }
+    ensures stand { IfOk result (λ kept. AreAllZero counts.now → AllInstStart instances.now plans.now share.now kept.items counts.now) }
+{
+    let _ = counts;
+    let mut kept = Vec::new(alloc);
+    for j in 0..instances.len() {
+        let items = instances[j].items.as_slice();
+        let own = plans[j].items.as_slice();
+        let chosen = share[j].as_slice();
+        kept.push(inst_state(alloc, items, own, chosen)?)?;
+    }
+    Ok(kept)
 }
 
 /// The values before the first event: all are Unknown.

@@ -1,5 +1,5 @@
 //! The values of signals and arguments along the events.
-ghost use Rattle.std.specs.Prelude.{◌≡◌, ◌∷◌, List, length};
+ghost use Rattle.std.specs.Prelude.{◌≡◌, ◌∷◌, [], ℕ, List, Option, length};
 ghost use Rattle.record_codec.specs.declared.record.Event.{Event as AnyEvent};
 ghost use Rattle.record_codec.specs.declared.record.Event.TheVariants.{Set};
 ghost use Rattle.sampler.specs.Values.{places, Holds, Writes};
@@ -26,11 +26,25 @@ pub(crate) fn set_signal(
     values[index] = signal_value(rows, index, bits);
 }
 
+/// Makes the places of all arguments Unknown.
+fn clear_args(values: &mut [Option<Int>])
+    requires places { length values.old ≡ places }
+    ensures { (args : List (Option ℕ)) → Writes [] args values.old values.new 16 }
+{
+    for slot in 0..MOST_ARGUMENTS {
+        values[MOST_SIGNALS + slot] = None;
+    }
+}
+
 /// Writes the arguments of a sample behind the signals' values; the places of further ones become Unknown.
 pub(crate) fn write_args(values: &mut [Option<Int>], rows: &[ArgRow], args: &[Option<u64>])
     requires places { length values.old ≡ places }
     ensures { Writes rows.now args.now values.old values.new 16 }
 {
+    if rows.is_empty() {
+        clear_args(values);
+        return;
+    }
     for k in 0..MOST_ARGUMENTS {
         values[MOST_SIGNALS + k] = arg_value(rows, args, k);
     }

@@ -2,15 +2,17 @@
 ghost use Rattle.std.specs.Prelude.{◌≡◌, ◌+◌, ◌-◌, ◌^◌, ◌<◌, ◌≤◌, ◌∷◌, [], ℕ, List, length, slice_get, OnOk};
 ghost use Rattle.record_codec.specs.declared.record.Event.{Event as AnyEvent};
 ghost use Rattle.record_codec.specs.declared.record.Event.TheVariants.{Sample};
-ghost use Rattle.record_codec.specs.Samples.{args_of, samples_of};
-ghost use Rattle.sampler.specs.Values.{places};
-ghost use Rattle.sampler.specs.Standing.{AreNumbered, ArePlans, AllFit, AllTaken, InstAt};
+ghost use Rattle.record_codec.specs.Samples.{args_of};
+ghost use Rattle.sampler.specs.Values.{places, Holds};
+ghost use Rattle.sampler.specs.Standing.{AreNumbered, ArePlans, AreChosen, InstAt, InstTaken};
+ghost use Rattle.sampler.specs.Walking.{IsInstWork, IsWork, InstFits, AllInstFit, WalkAt, ShareCounted};
 
-use crate::instance::{ItemState, sample_instance};
-use crate::plan::ItemPlan;
+use crate::instance::{InstState, sample_instance};
+use crate::plan::{InstPlan, ItemPlan};
 use crate::values::{set_signal, write_args};
 use cov_base::{Int, Memory};
-use design_data::ItemInfo;
+use cov_tree::List;
+use design_data::{InstInfo, ItemInfo};
 use record_codec::{ArgRow, Event, InstRow, Record};
 
 /// The arguments of the instance at this index.
@@ -23,110 +25,124 @@ fn arguments(instances: &[InstRow], index: usize) -> &[ArgRow]
     }
 }
 
-/// Takes an instance over its sample with these arguments.
+/// Takes the chosen items of an instance over its sample with these arguments.
+fn take_chosen(
+    rec: &Record,
+    instance: usize,
+    items: &[ItemInfo],
+    plans: &[ItemPlan],
+    chosen: &[u32],
+    values: &mut [Option<Int>],
+    kept: &mut InstState,
+    args: &[Option<u64>],
+    counts: &mut [u64],
+) -> Result<(), Memory>
+    requires places { length values.old ≡ places }
+    requires work { IsInstWork items.now plans.now chosen.now (length counts.old) }
+    requires fits { InstFits items.now plans.now chosen.now kept.old }
+    ensures fits { OnOk result (InstFits items.now plans.now chosen.now kept.new) }
+    ensures holds { OnOk result ((before : List AnyEvent) → Holds rec.now.signals before values.old
+        → Holds rec.now.signals (Sample instance args.now ∷ before) values.new) }
+    ensures at { OnOk result ((before events : List AnyEvent) → length before < 2 ^ 32 - 1 → Holds rec.now.signals before values.old
+        → InstAt rec.now instance items.now plans.now chosen.now before (Sample instance args.now ∷ events) kept.old.states.items counts.old
+        → InstTaken rec.now instance items.now plans.now chosen.now (Sample instance args.now ∷ before) events counts.old kept.new.states.items counts.new) }
+{
+    let arg_rows = arguments(rec.instances.as_slice(), instance);
+    write_args(values, arg_rows, args);
+    sample_instance(items, plans, chosen, kept, values, counts)?;
+    Ok(())
+}
+
+/// The same, in no time where no item is chosen.
 fn take_sample(
     rec: &Record,
     instance: usize,
     items: &[ItemInfo],
     plans: &[ItemPlan],
+    chosen: &[u32],
     values: &mut [Option<Int>],
-    states: &mut Vec<ItemState>,
-    rows: &mut Vec<Vec<u32>>,
+    kept: &mut InstState,
     args: &[Option<u64>],
     counts: &mut [u64],
 ) -> Result<(), Memory>
     requires places { length values.old ≡ places }
-    requires plans { ArePlans items.now plans.now }
-    requires fits { AllFit items.now plans.now states.old.items }
-    requires rows { length rows.old.items ≡ length items.now }
-    requires numbered { AreNumbered items.now (length counts.old) }
-    ensures fits { OnOk result (AllFit items.now plans.now states.new.items) }
-    ensures rows { OnOk result (length rows.new.items ≡ length items.now) }
-    ensures at { OnOk result ((start : List ℕ) (before events : List AnyEvent) → length before < 2 ^ 32 - 1
-        → InstAt rec.now instance items.now plans.now before (Sample instance args.now ∷ events) values.old start states.old.items counts.old
-        → InstAt rec.now instance items.now plans.now (Sample instance args.now ∷ before) events values.new start states.new.items counts.new) }
+    requires work { IsInstWork items.now plans.now chosen.now (length counts.old) }
+    requires fits { InstFits items.now plans.now chosen.now kept.old }
+    ensures fits { OnOk result (InstFits items.now plans.now chosen.now kept.new) }
+    ensures holds { OnOk result ((before : List AnyEvent) → Holds rec.now.signals before values.old
+        → Holds rec.now.signals (Sample instance args.now ∷ before) values.new) }
+    ensures at { OnOk result ((before events : List AnyEvent) → length before < 2 ^ 32 - 1 → Holds rec.now.signals before values.old
+        → InstAt rec.now instance items.now plans.now chosen.now before (Sample instance args.now ∷ events) kept.old.states.items counts.old
+        → InstTaken rec.now instance items.now plans.now chosen.now (Sample instance args.now ∷ before) events counts.old kept.new.states.items counts.new) }
 {
-    let arg_rows = arguments(rec.instances.as_slice(), instance);
-    write_args(values, arg_rows, args);
-    sample_instance(items, plans, states, rows, values, counts)?;
+    if chosen.is_empty() {
+        return Ok(());
+    }
+    take_chosen(
+        rec, instance, items, plans, chosen, values, kept, args, counts,
+    )?;
     Ok(())
 }
 
-/// Takes an instance over one event.
+/// Takes the instances over one event.
 fn take_event(
     rec: &Record,
-    instance: usize,
-    items: &[ItemInfo],
-    plans: &[ItemPlan],
+    instances: &[InstInfo],
+    plans: &[InstPlan],
+    share: &[List<u32>],
     values: &mut [Option<Int>],
-    states: &mut Vec<ItemState>,
-    rows: &mut Vec<Vec<u32>>,
+    kept: &mut Vec<InstState>,
     event: &Event,
     counts: &mut [u64],
 ) -> Result<(), Memory>
     requires places { length values.old ≡ places }
-    requires plans { ArePlans items.now plans.now }
-    requires fits { AllFit items.now plans.now states.old.items }
-    requires rows { length rows.old.items ≡ length items.now }
-    requires numbered { AreNumbered items.now (length counts.old) }
-    ensures fits { OnOk result (AllFit items.now plans.now states.new.items) }
-    ensures rows { OnOk result (length rows.new.items ≡ length items.now) }
+    requires work { IsWork instances.now plans.now share.now (length counts.old) }
+    requires fits { AllInstFit instances.now plans.now share.now kept.old.items }
+    ensures fits { OnOk result (AllInstFit instances.now plans.now share.now kept.new.items) }
     ensures at { OnOk result ((start : List ℕ) (before events : List AnyEvent) → length before < 2 ^ 32 - 1
-        → InstAt rec.now instance items.now plans.now before (event.now ∷ events) values.old start states.old.items counts.old
-        → InstAt rec.now instance items.now plans.now (event.now ∷ before) events values.new start states.new.items counts.new) }
+        → WalkAt rec.now instances.now plans.now share.now before (event.now ∷ events) values.old start kept.old.items counts.old
+        → WalkAt rec.now instances.now plans.now share.now (event.now ∷ before) events values.new start kept.new.items counts.new) }
 {
     match event {
         Event::Set { signal, value } => {
             set_signal(values, rec.signals.as_slice(), *signal, *value);
             Ok(())
         }
-        Event::Sample {
-            instance: sampled,
-            args,
-        } => {
-            if *sampled as usize != instance {
+        Event::Sample { instance, args } => {
+            let index = *instance as usize;
+            if index >= instances.len() {
                 return Ok(());
             }
-            take_sample(
-                rec,
-                instance,
-                items,
-                plans,
-                values,
-                states,
-                rows,
-                args.as_slice(),
-                counts,
-            )?;
+            let items = instances[index].items.as_slice();
+            let own = plans[index].items.as_slice();
+            let chosen = share[index].as_slice();
+            let args = args.as_slice();
+            let state = &mut kept[index];
+            take_sample(rec, index, items, own, chosen, values, state, args, counts)?;
             Ok(())
         }
     }
 }
 
-/// Takes an instance over a record's events, each event once.
+/// Takes the items of a share over a record's events, each event once.
 pub(crate) fn walk(
     rec: &Record,
-    instance: usize,
-    items: &[ItemInfo],
-    plans: &[ItemPlan],
+    instances: &[InstInfo],
+    plans: &[InstPlan],
+    share: &[List<u32>],
     values: &mut [Option<Int>],
-    states: &mut Vec<ItemState>,
-    rows: &mut Vec<Vec<u32>>,
+    kept: &mut Vec<InstState>,
     counts: &mut [u64],
 ) -> Result<(), Memory>
     requires places { length values.old ≡ places }
-    requires plans { ArePlans items.now plans.now }
-    requires fits { AllFit items.now plans.now states.old.items }
-    requires rows { length rows.old.items ≡ length items.now }
-    requires numbered { AreNumbered items.now (length counts.old) }
+    requires work { IsWork instances.now plans.now share.now (length counts.old) }
+    requires fits { AllInstFit instances.now plans.now share.now kept.old.items }
     requires few { length rec.now.events < 2 ^ 32 - 1 }
-    requires at { InstAt rec.now instance items.now plans.now [] rec.now.events values.old counts.old states.old.items counts.old }
-    ensures { OnOk result (AllTaken items.now plans.now (samples_of rec.now instance) (λ shape. length (samples_of rec.now instance)) counts.old states.new.items counts.new) }
+    requires at { WalkAt rec.now instances.now plans.now share.now [] rec.now.events values.old counts.old kept.old.items counts.old }
+    ensures { OnOk result (ShareCounted rec.now instances.now share.now counts.old counts.new) }
 {
     for event in rec.events.as_slice() {
-        take_event(
-            rec, instance, items, plans, values, states, rows, event, counts,
-        )?;
+        take_event(rec, instances, plans, share, values, kept, event, counts)?;
     }
     Ok(())
 }

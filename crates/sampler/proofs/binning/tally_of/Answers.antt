@@ -1,4 +1,4 @@
-use Rattle.std.proofs.Common.{◌≡◌, arith}
+use Rattle.std.proofs.Common.{arith}
 use Rattle.sampler.proofs.binning.tally_of.Goals as goal
 
 pub of-requires : goal.of-requires

@@ -1,4 +1,4 @@
-use Rattle.std.proofs.Common.{◌≡◌, ◌∙◌, List, ℕ, ap, sym, subst}
+use Rattle.std.proofs.Common.{◌∙◌, List, ℕ, sym, subst}
 use Rattle.std.specs.Global.{Vec}
 use Rattle.sampler.specs.Standing.{RowsStand}
 use Rattle.sampler.proofs.instance.sample_instance.Goals as goal
@@ -7,6 +7,6 @@ pub returns-clause-taken : goal.returns-clause-taken
 returns-clause-taken c = λ all m sample h.
     let points = c.in_ok-take_points.ensures.taken all m sample h in
     let hit = c.in_ok-take_points.ensures.hit all m sample h in
-    let rows = subst (λ (rs : List (Vec ℕ)). RowsStand c.args.items.now all m rs) (sym c.as_slice.ensures.value) hit in
+    let rows = subst (λ (rs : List (Vec ℕ)). RowsStand c.args.items.now c.args.chosen.now all m rs) (sym c.as_slice.ensures.value) hit in
     let crosses = c.in_ok-take_crosses.ensures.taken all m sample rows points.stand in
     record { stand = crosses.stand; outside = λ number o. crosses.outside number o ∙ points.outside number o }

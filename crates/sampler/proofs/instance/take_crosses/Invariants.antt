@@ -3,12 +3,12 @@ use Rattle.record_codec.specs.Samples.{Env}
 use Rattle.sampler.specs.Standing.{IsSample, AllFit, AllStand, SomeTaken, RowsStand, point_first}
 use Rattle.sampler.proofs.instance.take_crosses.Given as goal
 
-abbrev pub invariant-loop-t : goal.invariant-loop-t
-invariant-loop-t l = record {
+abbrev pub invariant-loop-i : goal.invariant-loop-i
+invariant-loop-i l = record {
   plans_len : length l.plans ≡ length l.items;
-  states_len : length l.states.items ≡ length l.items;
+  states_len : length l.states.items ≡ length l.chosen;
   counts_len : length l.counts ≡ length l.initial.counts;
-  fits : AllFit l.items l.plans l.states.items;
-  taken : (all : List Env) (m : ℕ) → IsSample all m l.env → RowsStand l.items all m l.rows → AllStand l.items l.plans all (λ shape. point_first shape m) l.initial.states.items l.initial.counts
-      → SomeTaken l.items l.plans all (λ shape. point_first shape m) (λ shape. m + 1) l.t l.initial.counts l.states.items l.counts;
+  fits : AllFit l.items l.plans l.chosen l.states.items;
+  taken : (all : List Env) (m : ℕ) → IsSample all m l.env → RowsStand l.items l.chosen all m l.rows → AllStand l.items l.plans l.chosen all (λ shape. point_first shape m) l.initial.states.items l.initial.counts
+      → SomeTaken l.items l.plans l.chosen all (λ shape. point_first shape m) (λ shape. m + 1) l.i l.initial.counts l.states.items l.counts;
 }

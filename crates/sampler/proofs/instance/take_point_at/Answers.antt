@@ -1,4 +1,4 @@
-use Rattle.std.proofs.Common.{◌≡◌, ◌∙◌, List, ℕ, sym, subst}
+use Rattle.std.proofs.Common.{sym, subst}
 use Rattle.sampler.specs.Standing.{RowStands}
 use Rattle.sampler.proofs.Items.{row_same, row_other}
 use Rattle.sampler.proofs.instance.take_point_at.Goals as goal

@@ -1,20 +1,18 @@
-use Rattle.std.proofs.Common.{◌≡◌, ℕ, ◌<◌, List, length, Some}
-use Rattle.std.specs.Prelude.{slice_get}
-use Rattle.design_data.specs.declared.infos.ItemInfo.{ItemInfo}
+use Rattle.std.proofs.Common.{◌≡◌, ℕ, List, length}
 use Rattle.record_codec.specs.Samples.{Env}
-use Rattle.cross_sampler.specs.Numbers.{row_at}
-use Rattle.sampler.specs.Standing.{IsSample, AllFit, AllStand, SomeTaken, RowStands, point_first}
+use Rattle.sampler.specs.Standing.{IsSample, AllFit, AllStand, SomeTaken, point_first}
+use Rattle.sampler.proofs.Items.{SomeRows}
 use Rattle.sampler.proofs.instance.take_points.Given as goal
 
-abbrev pub invariant-loop-t : goal.invariant-loop-t
-invariant-loop-t l = record {
+abbrev pub invariant-loop-i : goal.invariant-loop-i
+invariant-loop-i l = record {
   plans_len : length l.plans ≡ length l.items;
-  states_len : length l.states.items ≡ length l.items;
+  states_len : length l.states.items ≡ length l.chosen;
   rows_len : length l.rows.items ≡ length l.items;
   counts_len : length l.counts ≡ length l.initial.counts;
-  fits : AllFit l.items l.plans l.states.items;
-  taken : (all : List Env) (m : ℕ) → IsSample all m l.env → AllStand l.items l.plans all (λ shape. m) l.initial.states.items l.initial.counts
-      → SomeTaken l.items l.plans all (λ shape. m) (λ shape. point_first shape m) l.t l.initial.counts l.states.items l.counts;
-  hit : (all : List Env) (m : ℕ) → IsSample all m l.env → AllStand l.items l.plans all (λ shape. m) l.initial.states.items l.initial.counts
-      → (k : ℕ) (item : ItemInfo) → k < l.t → slice_get l.items k ≡ Some item → RowStands item all m item.shape (row_at l.rows.items k);
+  fits : AllFit l.items l.plans l.chosen l.states.items;
+  taken : (all : List Env) (m : ℕ) → IsSample all m l.env → AllStand l.items l.plans l.chosen all (λ shape. m) l.initial.states.items l.initial.counts
+      → SomeTaken l.items l.plans l.chosen all (λ shape. m) (λ shape. point_first shape m) l.i l.initial.counts l.states.items l.counts;
+  hit : (all : List Env) (m : ℕ) → IsSample all m l.env → AllStand l.items l.plans l.chosen all (λ shape. m) l.initial.states.items l.initial.counts
+      → SomeRows l.items l.chosen all m l.i l.rows.items;
 }

@@ -1,4 +1,4 @@
-use Rattle.std.proofs.Common.{◌≡◌, subst}
+use Rattle.std.proofs.Common.{subst}
 use Rattle.design_data.specs.Limits.{IsShape}
 use Rattle.cov_counting.proofs.Wide.{few}
 use Rattle.sampler.proofs.planning.cross_plan.Goals as goal

@@ -1,17 +1,13 @@
-use Rattle.std.proofs.Common.{◌≡◌, ℕ, ◌<◌, List, length, Some, get_or}
-use Rattle.std.specs.Prelude.{slice_get}
-use Rattle.design_data.specs.declared.infos.ItemInfo.{ItemInfo}
+use Rattle.std.proofs.Common.{◌≡◌, ℕ, ◌<◌, List, length, get_or}
 use Rattle.record_codec.specs.Samples.{Env}
-use Rattle.sampler.specs.declared.plan.ItemPlan.{ItemPlan}
 use Rattle.sampler.specs.declared.instance.ItemState.{ItemState}
-use Rattle.sampler.specs.Standing.{Fits, Stands}
-use Rattle.sampler.specs.Starting.{AreZero}
+use Rattle.sampler.specs.Starting.{AreAllZero}
+use Rattle.sampler.proofs.Starts.{FitsAt, StartsAt}
 use Rattle.sampler.proofs.starting.item_states.Given as goal
 
-abbrev pub invariant-loop-t : goal.invariant-loop-t
-invariant-loop-t l = record {
-  same : length l.states.items ≡ l.t;
-  fits : (k : ℕ) (item : ItemInfo) (p : ItemPlan) (s : ItemState) → k < l.t → slice_get l.items k ≡ Some item → slice_get l.plans k ≡ Some p → Fits item p (get_or l.states.items k s);
-  stands : (all : List Env) (counts : List ℕ) → AreZero l.items counts → (k : ℕ) (item : ItemInfo) (p : ItemPlan) (s : ItemState) → k < l.t → slice_get l.items k ≡ Some item → slice_get l.plans k ≡ Some p
-      → Stands l.items item all 0 item.shape p (get_or l.states.items k s) counts;
+abbrev pub invariant-loop-i : goal.invariant-loop-i
+invariant-loop-i l = record {
+  same : length l.states.items ≡ l.i;
+  fits : (i : ℕ) (s : ItemState) → i < l.i → FitsAt l.items l.plans l.chosen i (get_or l.states.items i s);
+  stands : (all : List Env) (counts : List ℕ) → AreAllZero counts → (i : ℕ) (s : ItemState) → i < l.i → StartsAt l.items l.plans l.chosen all counts i (get_or l.states.items i s);
 }

@@ -1,12 +1,9 @@
-use Rattle.std.proofs.Common.{◌≡◌, ◌∙◌, ap}
-use Rattle.std.specs.Prelude.{slice_get}
-use Rattle.record_codec.specs.declared.record.InstRow.{InstRow}
-use Rattle.record_codec.specs.Samples.{args_of}
-use Rattle.std.specs.Prelude.{List}
-use Rattle.sampler.proofs.Walks.{at_sample}
+use Rattle.std.proofs.Common.{◌≡◌, length, sym}
+use Rattle.std.proofs.lemmas.Bool.{eqb-true}
+use Rattle.sampler.proofs.Walks.{at_none}
 use Rattle.sampler.proofs.walking.take_sample.Goals as goal
 
-pub returns-clause-at : goal.returns-clause-at
-returns-clause-at c = λ start before events few h.
-    at_sample c.args.rec.now c.args.instance c.args.items.now c.args.plans.now start before events c.args.args.now c.arguments-arg_rows.result.now c.args.values.now c.write_args.new.values c.args.states.now.items c.sample_instance.new.states.items
-    c.args.counts.now c.sample_instance.new.counts (c.arguments-arg_rows.ensures ∙ ap (λ (xs : List InstRow). args_of (slice_get xs c.args.instance)) c.as_slice.ensures) c.write_args.ensures few c.in_ok-sample_instance.ensures.taken h
+pub returns-then-is_empty-clause-at : goal.returns-then-is_empty-clause-at
+returns-then-is_empty-clause-at c = λ before events few holds h.
+    let none : length c.args.chosen.now ≡ 0 = eqb-true (length c.args.chosen.now) 0 (sym c.if-is_empty.ensures) in
+    at_none c.args.rec.now c.args.instance c.args.items.now c.args.plans.now c.args.chosen.now before events c.args.args.now c.args.kept.now.states.items c.args.counts.now none few h
