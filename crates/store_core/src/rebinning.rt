@@ -50,10 +50,10 @@ impl Model for Rebinned {
     ghost coded = { Prim.hlevel (codes, design_type.the_row.coded, record_type.the_row.coded) };
 
     ghost view = { λ r. record {
-        text = r.text;
-        design = arc_value r.design;
-        since = r.since;
-        records = map arc_value r.records;
+      text = r.text;
+      design = arc_value r.design;
+      since = r.since;
+      records = map arc_value r.records;
     } };
 
     ghost invariant = { λ r. Compiles r.text (Ok (arc_value r.design))
