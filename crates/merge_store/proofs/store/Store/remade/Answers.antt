@@ -1,4 +1,4 @@
-use Rattle.std.proofs.Common.{◌≡◌, sym, subst, map, List, ℕ, is_some, Option}
+use Rattle.std.proofs.Common.{◌≡◌, sym, subst, map, List, ℕ, is_some, Option, true}
 use Rattle.std.specs.Prelude.{filter, option_map}
 use Rattle.std.specs.Arc.{arc_value}
 use Rattle.std.specs.declared.sync.Arc.{Arc}
@@ -7,14 +7,20 @@ use Rattle.cov_tree.specs.declared.name.Name.{Name}
 use Rattle.ucis_model.specs.declared.node.Node.{Node}
 use Rattle.ucis_model.specs.Paths.{find_in}
 use Rattle.merge_store.specs.Keeps.{HasOut}
+use Rattle.merge_store.specs.Runs.{HasMarks}
 use Rattle.merge_store.specs.Now.{outs_now}
 use Rattle.merge_store.proofs.store.Store.remade.Goals as goal
 
-pub returns : goal.returns
-returns c =
+pub returns-clause-is : goal.returns-clause-is
+returns-clause-is c =
     let path : Option (Arc Name Global) → Option (List ℕ) = λ p. option_map (λ (a : Arc Name Global). arc_value a) p in
     let b = c.in_ok-branches.branches in
     record {
       nodes_are = c.in_ok-branches.ensures;
       outs_are = subst (λ (ns : List Node). HasOut b (filter (λ p. is_some (find_in ns p)) (outs_now c.args.self.now)) (map path c.in_ok-out.out.items) c.in_ok-out.outs) c.in_ok-branches.ensures c.in_ok-out.ensures;
     }
+
+pub returns-clause-marked : goal.returns-clause-marked
+returns-clause-marked c =
+    let seen : List (Option (Arc Name Global)) → List (Option (List ℕ)) = λ xs. map (λ (p : Option (Arc Name Global)). option_map arc_value p) xs in
+    subst (λ (xs : List (Option (Arc Name Global))). HasMarks c.in_ok-branches.branches c.args.counts.now (seen xs) (λ p. true) c.in_ok-runs.runs) c.as_slice.ensures.value c.in_ok-runs.ensures
