@@ -1,9 +1,12 @@
 pub mod Designs
+pub mod Dumping
 pub mod Grown
 pub mod Had
 pub mod Items
 pub mod Leaving
 pub mod OneAnswer
+pub mod Parsing
 pub mod Records
 pub mod Refusals
+pub mod Trees
 pub mod Unread
