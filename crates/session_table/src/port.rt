@@ -1,5 +1,6 @@
 //! Where the turns of a session go.
 ghost use Rattle.std.specs.Prelude.{◌≡◌, ℕ, List, length, true, IfOk};
+ghost use Rattle.std.specs.Thread.{IsSync};
 ghost use Rattle.design_data.specs.declared.design.Design.{Design};
 ghost use Rattle.cov_history.specs.declared.entry.Entry.{Entry};
 ghost use Rattle.cov_history.specs.History.{is_legal};
@@ -33,7 +34,8 @@ pub trait Port {
 
     /// Takes a turn. The ask is answered at a place of the history that isn't before what was seen.
     fn turn<R: Threads + Sync>(&mut self, rt: &R, ask: Ask) -> Answered
-        requires { Meets (opening self.old) (seen self.old) ask }
+        requires meets { Meets (opening self.old) (seen self.old) ask }
+        requires sync { IsSync R.row }
         ensures rest { rest self.new ≡ rest self.old }
         ensures opening { opening self.new ≡ opening self.old }
         ensures caller { caller self.new ≡ caller self.old }
