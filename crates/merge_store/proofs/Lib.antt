@@ -1,0 +1,12 @@
+pub mod Trees
+pub mod Ranges
+pub mod Children
+pub mod Outs
+pub mod Steps
+pub mod Beginning
+pub mod Stored
+pub mod Excluding
+pub mod Tallied
+pub mod ById
+pub mod Admitting
+pub mod Walks

@@ -1,0 +1,9 @@
+pub mod Branches
+pub mod Amounts
+pub mod Keeps
+pub mod Words
+pub mod Stores
+pub mod Told
+pub mod May
+pub mod Now
+pub mod Sound

@@ -1,0 +1,112 @@
+//! Coverage, over running sums (IEEE 1800-2017, 19.11).
+ghost use Rattle.std.specs.Prelude.{◌≡◌, ◌+◌, ◌<◌, ◌≤◌, ◌^◌, ◌&&◌, ◌++◌, ℕ, List, Some, None, cond, count_by, filter, length, nat_lt, not, if◌then◌else◌, option_to_list, IfOk};
+ghost use Rattle.percent.specs.Millionths.{sums};
+ghost use Rattle.ucis_model.specs.Paths.{node_at};
+ghost use Rattle.cov_history.specs.Coverage as cover;
+ghost use Rattle.cov_history.specs.Answers.{cover_row, coverage_at};
+ghost use Rattle.merge_store.specs.Told.{Reads, cover_read};
+ghost use Rattle.merge_store.specs.Now.{nodes_now, outs_now, count_now, excluded_now};
+ghost use Rattle.merge_store.specs.Stores.{opening_of, entries_of};
+
+use crate::{QueryFault, Store};
+use cov_base::Memory;
+use percent::{Mean, item};
+use ucis_model::{CoverRow, NodeKind};
+
+/// Takes a part of a mean, if it is one.
+fn add_part(mean: &mut Mean, part: Option<(u32, u32)>)
+    requires { mean.old.pairs + 1 < 2 ^ 64 }
+    ensures sums { (parts : List (ℕ × ℕ)) → mean.old ≡ sums parts → mean.new ≡ sums (parts ++ option_to_list part) }
+    ensures pairs { mean.new.pairs ≤ mean.old.pairs + 1 }
+{
+    if let Some((weight, value)) = part {
+        mean.add(weight, value);
+    }
+}
+
+impl Store {
+    /// Whether a bin is live and covered, and whether it is live, as 0 or 1.
+    fn bin_counts(&self, bin: u32) -> (u32, u32)
+        ensures covered { result.0 ≡ cond (cover.is_live (nodes_now self.now) (excluded_now self.now) bin) (cond (cover.is_covered (nodes_now self.now) (count_now self.now) bin) 1 0) 0 }
+        ensures live { result.1 ≡ cond (cover.is_live (nodes_now self.now) (excluded_now self.now) bin) 1 0 }
+        ensures fewer { result.0 ≤ result.1 }
+        ensures one { result.1 ≤ 1 }
+    {
+        if !self.is_live(bin) {
+            return (0, 0);
+        }
+        if self.is_covered(bin) { (1, 1) } else { (0, 1) }
+    }
+
+    /// How many live bins under a node are covered, and how many they are.
+    fn under(&self, node: u32) -> (u32, u32)
+        ensures covered { result.0 ≡ cover.covered_under (nodes_now self.now) (count_now self.now) (excluded_now self.now) node }
+        ensures live { result.1 ≡ length (cover.live_under (nodes_now self.now) (excluded_now self.now) node) }
+        ensures fewer { result.0 ≤ result.1 }
+    {
+        let mut covered = 0;
+        let mut live = 0;
+        for bin in self.bins_under(node) {
+            let counts = self.bin_counts(*bin);
+            covered += counts.0;
+            live += counts.1;
+        }
+        (covered, live)
+    }
+
+    /// Of an item, or of a bin, which counts itself.
+    #[tactic(auto, unfolding(cov_history::specs::Coverage::item_coverage))]
+    fn item(&self, node: u32) -> u32
+        ensures { result ≡ cover.item_coverage (nodes_now self.now) (count_now self.now) (excluded_now self.now) node }
+    {
+        let (covered, live) = self.under(node);
+        item(covered, live)
+    }
+
+    /// What an item adds to the mean of its instance: nothing where it has no live bin.
+    #[tactic(auto, unfolding(cov_history::specs::Coverage::item_coverage))]
+    fn item_part(&self, node: u32) -> Option<(u32, u32)>
+        ensures { result ≡ (if cover.has_live (nodes_now self.now) (excluded_now self.now) node
+            then Some ((node_at (nodes_now self.now) node).weight, cover.item_coverage (nodes_now self.now) (count_now self.now) (excluded_now self.now) node)
+            else None) }
+    {
+        let (covered, live) = self.under(node);
+        if live == 0 {
+            return None;
+        }
+        Some((self.facts(node).weight, item(covered, live)))
+    }
+
+    fn instance(&self, node: u32) -> u32
+        ensures { result ≡ cover.instance_coverage (nodes_now self.now) (count_now self.now) (excluded_now self.now) node }
+    {
+        let mut mean = Mean::new();
+        for child in self.children(node) {
+            add_part(&mut mean, self.item_part(*child));
+        }
+        mean.get()
+    }
+
+    /// What an instance adds to the mean of its type: nothing where it is excluded.
+    fn instance_part(&self, node: u32) -> Option<(u32, u32)>
+        ensures { result ≡ (if not (cover.is_excluded (nodes_now self.now) (outs_now self.now) node)
+            then Some ((node_at (nodes_now self.now) node).weight, cover.instance_coverage (nodes_now self.now) (count_now self.now) (excluded_now self.now) node)
+            else None) }
+    {
+        if self.is_excluded(node) {
+            return None;
+        }
+        Some((self.facts(node).weight, self.instance(node)))
+    }
+
+    /// Of a type without merging.
+    fn plain(&self, node: u32) -> u32
+        ensures { result ≡ cover.plain_coverage (nodes_now self.now) (count_now self.now) (excluded_now self.now) node }
+    {
+        let mut mean = Mean::new();
+        for child in self.children(node) {
+            add_part(&mut mean, self.instance_part(*child));
+        }
+        mean.get()
+    }
+}

@@ -1,0 +1,116 @@
+//! What a store says of single nodes.
+ghost use Rattle.std.specs.Prelude.{◌≡◌, ◌<◌, ◌≤◌, ◌^◌, ℕ, length, cond, slice_index};
+ghost use Rattle.ucis_model.specs.Paths.{find_in, node_at};
+ghost use Rattle.cov_history.specs.Nodes.{children as children_meant, bins_under as bins_meant, bin_kind};
+ghost use Rattle.cov_history.specs.Coverage as cover;
+ghost use Rattle.cov_history.specs.Answers.{count_row};
+ghost use Rattle.merge_store.specs.Branches.{facts_of};
+ghost use Rattle.merge_store.specs.Now.{nodes_now, outs_now, count_now, excluded_now};
+
+use crate::Store;
+use crate::branches::Facts;
+use design_data::BinKind;
+use ucis_model::{CountRow, NodeKind};
+
+/// The number of an index, and 0 where there is none.
+fn number_at(numbers: &[u64], index: u32) -> u64
+    ensures { result ≡ slice_index numbers.now index }
+{
+    match numbers.get(index as usize) {
+        Some(number) => *number,
+        None => 0,
+    }
+}
+
+/// The kind of the bin that a node is.
+fn kind_of(kind: NodeKind) -> BinKind
+    ensures { result ≡ bin_kind kind }
+{
+    match kind {
+        NodeKind::Bin(kind) => kind,
+        _ => BinKind::DefaultBin,
+    }
+}
+
+impl Store {
+    /// The least node that has the path.
+    pub(crate) fn find(&self, path: &[u8]) -> Option<u32>
+        ensures { result ≡ find_in (nodes_now self.now) path.now }
+    {
+        self.branches.find(path)
+    }
+
+    /// What a node says apart from its name.
+    pub(crate) fn facts(&self, node: u32) -> Facts
+        ensures { result ≡ facts_of (node_at (nodes_now self.now) node) }
+    {
+        self.branches.facts(node)
+    }
+
+    /// The nodes right below one, in order.
+    pub(crate) fn children(&self, node: u32) -> &[u32]
+        ensures { result.now ≡ children_meant (nodes_now self.now) node }
+    {
+        self.branches.children(node)
+    }
+
+    /// The nodes of the bins under a node.
+    pub(crate) fn bins_under(&self, node: u32) -> &[u32]
+        ensures bins { result.now ≡ bins_meant (nodes_now self.now) node }
+        ensures few { length result.now < 2 ^ 32 }
+    {
+        self.branches.bins_under(node)
+    }
+
+    /// Whether the node or one above it is out.
+    pub(crate) fn is_excluded(&self, node: u32) -> bool
+        ensures { result ≡ cover.is_excluded (nodes_now self.now) (outs_now self.now) node }
+    {
+        let mut at = node;
+        while !self.is_out(at) {
+            if at == 0 {
+                return false;
+            }
+            at = self.facts(at).parent;
+        }
+        true
+    }
+
+    /// How often the bin that a node is was hit.
+    pub(crate) fn count(&self, node: u32) -> u64
+        ensures { result ≡ cover.count_at (nodes_now self.now) (count_now self.now) node }
+    {
+        number_at(self.counts.as_slice(), self.facts(node).first_bin)
+    }
+
+    /// Whether the node is a coverage bin that isn't excluded.
+    pub(crate) fn is_live(&self, node: u32) -> bool
+        ensures { result ≡ cover.is_live (nodes_now self.now) (excluded_now self.now) node }
+    {
+        match self.facts(node).kind {
+            NodeKind::Bin(BinKind::CvgBin) => !self.is_excluded(node),
+            _ => false,
+        }
+    }
+
+    /// Whether the bin was hit often enough.
+    pub(crate) fn is_covered(&self, node: u32) -> bool
+        ensures { result ≡ cover.is_covered (nodes_now self.now) (count_now self.now) node }
+    {
+        u64::from(self.facts(node).at_least) <= self.count(node)
+    }
+
+    /// A bin with a count of it.
+    pub(crate) fn count_row(&self, node: u32, count: u64) -> CountRow
+        ensures { (meant : ℕ → ℕ) → count ≡ cover.count_at (nodes_now self.now) meant node
+            → result ≡ count_row (nodes_now self.now) meant (excluded_now self.now) node }
+    {
+        let facts = self.facts(node);
+        CountRow {
+            bin: facts.first_bin,
+            kind: kind_of(facts.kind),
+            excluded: self.is_excluded(node),
+            count,
+        }
+    }
+}
