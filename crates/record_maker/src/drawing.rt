@@ -7,6 +7,7 @@ use cov_tree::List;
 use design_data::Signal;
 
 const FACTOR: u64 = 6_364_136_223_846_793_005;
+
 const ADDEND: u64 = 1_442_695_040_888_963_407;
 
 /// The number drawn after another.

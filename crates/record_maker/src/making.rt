@@ -46,7 +46,13 @@ fn filled(
 {
     let start = start_of(alloc, design, seed, rounds, test)?;
     let mut builder = begin(alloc, start)?;
-    push_rounds(alloc, &mut builder, design, rounds, first_number(seed, test))?;
+    push_rounds(
+        alloc,
+        &mut builder,
+        design,
+        rounds,
+        first_number(seed, test),
+    )?;
     Ok(builder)
 }
 
