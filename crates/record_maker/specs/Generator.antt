@@ -1,5 +1,5 @@
 -- The generator of records: numbers drawn one after the other, and the events that are made of them.
-use Rattle.std.specs.Prelude.{ℕ, zero, suc, ◌+◌, ◌-◌, ◌*◌, ◌/◌, ◌%◌, ◌^◌, List, [], ◌∷◌, ◌++◌, codes, decimal, length, nat_lt, Option, Some, Bool, if◌then◌else◌}
+use Rattle.std.specs.Prelude.{ℕ, zero, suc, ◌+◌, ◌-◌, ◌*◌, ◌/◌, ◌%◌, ◌^◌, List, [], ◌∷◌, ◌++◌, codes, decimal, length, ◌==◌, not, Option, Some, Bool, if◌then◌else◌}
 use Rattle.std.specs.List.{list_any}
 use Rattle.record_codec.specs.declared.record.Event.{Event}
 use Rattle.record_codec.specs.declared.record.Event.TheVariants.{Set, Sample}
@@ -63,7 +63,7 @@ rounds_from d zero x = []
 rounds_from d (suc rounds) x = round d x ++ rounds_from d rounds (after_round d x)
 
 abbrev pub has_args : InstInfo → Bool
-has_args inst = nat_lt 0 (length inst.args)
+has_args inst = not (length inst.args == 0)
 
 -- arguments need version 2
 abbrev pub version_of : Design → ℕ

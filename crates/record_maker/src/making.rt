@@ -1,5 +1,5 @@
 //! The record of a test.
-ghost use Rattle.std.specs.Prelude.{◌≡◌, ◌<◌, ◌^◌, List, [], length, IfOk};
+ghost use Rattle.std.specs.Prelude.{◌≡◌, ℕ, ◌<◌, ◌^◌, List, [], length, IfOk};
 ghost use Rattle.record_codec.specs.declared.record.Event.{Event as AnyEvent};
 ghost use Rattle.record_codec.specs.declared.record.Start.{Start as AnyStart};
 ghost use Rattle.record_codec.specs.Builders.{HasPushed};

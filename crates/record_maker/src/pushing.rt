@@ -54,17 +54,20 @@ fn push_sets(builder: &mut RecordBuilder, signals: &[Signal], x: u64) -> Result<
 fn push_sample(
     alloc: Global,
     builder: &mut RecordBuilder,
-    instance: u16,
-    args: &[Signal],
+    number: u16,
+    instance: &InstInfo,
     x: u64,
 ) -> Result<u64, Memory>
-    ensures pushed { OnOk result (Pushed builder.old builder.new (Sample instance (values_of args.now x) ∷ [])) }
-    ensures last { IfOk result (λ y. y ≡ after args.now x) }
+    ensures pushed { OnOk result (Pushed builder.old builder.new (Sample number (values_of instance.now.args x) ∷ [])) }
+    ensures last { IfOk result (λ y. y ≡ after instance.now.args x) }
 {
-    let mut values = List::new(alloc);
-    let last = push_values(&mut values, args, x)?;
-    let args = values;
-    push(builder, Event::Sample { instance, args })?;
+    let mut args = List::new(alloc);
+    let last = push_values(&mut args, instance.args.as_slice(), x)?;
+    let event = Event::Sample {
+        instance: number,
+        args,
+    };
+    push(builder, event)?;
     Ok(last)
 }
 
@@ -83,7 +86,7 @@ fn push_samples(
     let mut number: u16 = 0;
     let mut rest = instances;
     while let Some((instance, later)) = rest.split_first() {
-        last = push_sample(alloc, builder, number, instance.args.as_slice(), last)?;
+        last = push_sample(alloc, builder, number, instance, last)?;
         number += 1;
         rest = later;
     }
@@ -101,8 +104,9 @@ fn push_round(
     ensures pushed { OnOk result (Pushed builder.old builder.new (round design.now x)) }
     ensures last { IfOk result (λ y. y ≡ after_round design.now x) }
 {
-    let last = push_sets(builder, design.signals(), x)?;
-    push_samples(alloc, builder, design.instances(), last)
+    let middle = push_sets(builder, design.signals(), x)?;
+    let last = push_samples(alloc, builder, design.instances(), middle)?;
+    Ok(last)
 }
 
 /// The events of so many rounds.

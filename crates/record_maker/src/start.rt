@@ -1,7 +1,8 @@
 //! What the record of a test says before its events.
 ghost use Rattle.std.specs.Prelude.{◌≡◌, ◌++◌, codes, decimal, map, slice_get, IfOk};
+ghost use Rattle.std.specs.List.{list_any};
 ghost use Rattle.sampler.specs.Shape.{signal_row as row_of_signal, arg_row as row_of_arg, arg_rows as rows_of_args, name_of, instance_row as row_of_instance};
-ghost use Rattle.record_maker.specs.Generator.{version_of as version_meant, start_of as start_meant};
+ghost use Rattle.record_maker.specs.Generator.{has_args, version_of as version_meant, start_of as start_meant};
 
 use cov_ground::Memory;
 use cov_tree::{List, Name};
@@ -104,16 +105,20 @@ fn instance_rows(
     Ok(rows)
 }
 
+/// Whether some instance has arguments.
+fn have_args(instances: &[InstInfo]) -> bool
+    ensures { result ≡ list_any has_args instances.now }
+{
+    instances
+        .iter()
+        .any(|instance| !instance.args.as_slice().is_empty())
+}
+
 /// The version of a record: 2 where some instance has arguments.
 fn version_of(design: &Design) -> u16
     ensures { result ≡ version_meant design.now }
 {
-    for instance in design.instances() {
-        if !instance.args.as_slice().is_empty() {
-            return 2;
-        }
-    }
-    1
+    if have_args(design.instances()) { 2 } else { 1 }
 }
 
 /// The id of a test: `t` and its number.
