@@ -11,12 +11,20 @@ Usage:
                              design has, and a line a bin
   covd count DESIGN RECORD   counts how often the record hits each bin of the
                              design, and prints a line a bin
+  covd record DESIGN DUMP SCOPE ID
+                             writes the record of a simulator's dump to standard
+                             output: covd record bus.sv bus.vcd tb t1 > t1.rec
   covd --help                prints this text
   covd --version             prints the version
 
 Files:
   DESIGN   a design text in SystemVerilog, at most 1,048,576 bytes
   RECORD   a test record, binary, at most 8,388,608 bytes
+  DUMP     a value change dump (VCD), at most 33,554,432 bytes
+
+Words:
+  SCOPE    the scope of the dump whose variables are the design's: tb, TOP.tb
+  ID       the test's name, 1 to 255 letters, digits and signs without blanks
 
 What is printed goes to standard output. The exit status is one of:
    0   done
@@ -27,6 +35,7 @@ What is printed goes to standard output. The exit status is one of:
    7   standard output failed
    8   a file could not be read
   12   a file is too long
+  13   the dump is refused
 ";
 
 /// What `covd --version` prints.

@@ -2,12 +2,13 @@
 ghost use Rattle.std.specs.Prelude.{◌+◌, ◌<◌, ◌≤◌, ◌^◌, length};
 ghost use Rattle.cov_ground.specs.Limits.{longest_design};
 
+use crate::dump_hints::on_dump;
 use cov_base::{Shelf, ShelfRefusal};
 use cov_ground::limits::{LONGEST_DESIGN, LONGEST_RECORD};
 use cov_lexer::LexFault;
 use cov_net::FileShelf;
 use cov_parser::ParseFault;
-use covd_core::{CompileFault, Refusal, Status, compile, refusal_of};
+use covd_core::{CompileFault, LONGEST_DUMP, Refusal, Status, compile, refusal_of};
 use elab_base::{ElabFault, ElabKind};
 use std::alloc::{AllocError, Global};
 use std::rt::Files;
@@ -152,7 +153,7 @@ fn file_hint(alloc: Global, name: &str, cause: ShelfRefusal) -> Result<Option<St
         ShelfRefusal::Failed =>
             "it is no file that can be read: is it there, is it a folder, may you read it?",
         ShelfRefusal::TooLong { .. } =>
-            "a design text has at most 1048576 bytes, a record at most 8388608",
+            "a design text has at most 1048576 bytes, a record at most 8388608, a dump at most 33554432",
         ShelfRefusal::Memory => return Ok(None),
     };
     Ok(Some(format!(in alloc; "{name}: {why}\n")?))
@@ -163,7 +164,9 @@ fn words_hint(alloc: Global, words: &[String]) -> Result<String, AllocError> {
     let form = match words.first().map(|word| word.as_str()) {
         Some("check") => "covd check DESIGN",
         Some("count") => "covd count DESIGN RECORD",
-        _ => "covd check DESIGN, or covd count DESIGN RECORD",
+        Some("record") =>
+            "covd record DESIGN DUMP SCOPE ID, where ID has 1 to 255 signs from ! to ~",
+        _ => "covd check DESIGN, covd count DESIGN RECORD, or covd record DESIGN DUMP SCOPE ID",
     };
     format!(in alloc; "the words are: {form}; covd --help says more\n")
 }
@@ -192,19 +195,38 @@ fn on_record<R: Files + AllocGlobal>(rt: &R, name: &str) -> Result<Option<String
     }
 }
 
-/// The hint on the first file that can't be read.
+/// The hint on a file of at most so many bytes, where it can't be read.
+fn on_file<R: Files + AllocGlobal>(
+    rt: &R,
+    name: &str,
+    most: u64,
+) -> Result<Option<String>, AllocError> {
+    match FileShelf::new(rt).load(rt.alloc(), name, most) {
+        Ok(_) => Ok(None),
+        Err(cause) => file_hint(rt.alloc(), name, cause),
+    }
+}
+
+/// The hint on the first file that can't be read: a design text, and a record or a dump.
 fn on_files<R: Files + AllocGlobal>(
     rt: &R,
     words: &[String],
 ) -> Result<Option<String>, AllocError> {
-    let mut most = LONGEST_DESIGN;
-    for word in words.iter().skip(1) {
-        if let Err(cause) = FileShelf::new(rt).load(rt.alloc(), word.as_str(), most) {
-            return file_hint(rt.alloc(), word.as_str(), cause);
-        }
-        most = LONGEST_RECORD;
+    let [command, design, rest @ ..] = words else {
+        return Ok(None);
+    };
+    if let Some(hint) = on_file(rt, design.as_str(), LONGEST_DESIGN)? {
+        return Ok(Some(hint));
     }
-    Ok(None)
+    let most = if command.as_str() == "record" {
+        LONGEST_DUMP
+    } else {
+        LONGEST_RECORD
+    };
+    match rest.first() {
+        Some(name) => on_file(rt, name.as_str(), most),
+        None => Ok(None),
+    }
 }
 
 /// The hint on how a command with these words ended.
@@ -217,6 +239,13 @@ fn hint_on<R: Files + AllocGlobal>(
         (Status::BadWords, _) => Ok(Some(words_hint(rt.alloc(), words)?)),
         (Status::DesignRefused, [_, design, ..]) => on_design(rt, design.as_str()),
         (Status::RecordRefused, [_, _, record, ..]) => on_record(rt, record.as_str()),
+        (Status::DumpRefused, [_, design, dump, scope, id]) => on_dump(
+            rt,
+            design.as_str(),
+            dump.as_str(),
+            scope.as_str(),
+            id.as_str(),
+        ),
         (Status::ShelfFault | Status::FileTooLong, _) => on_files(rt, words),
         _ => Ok(None),
     }

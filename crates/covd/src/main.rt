@@ -1,6 +1,7 @@
 //! The program `covd`: its words, files and standard streams.
 #![tactic(auto)]
 
+mod dump_hints;
 mod ending;
 mod help;
 mod hints;

@@ -7,10 +7,10 @@ use Rattle.covd_core.specs.Command.{Files, Answers, Leaves}
 
 module _ (words : List (List ℕ)) (files : Files) (before now : ℕ) (text : List ℕ) where
   no_memory : Answers words files before now status.Memory text → ⊥
-  no_memory h = elim h [ inl a ↦ absurd (cc a.1) | inr x ↦ elim x [ inl a ↦ a.2 | inr a ↦ a.3 ] ]
+  no_memory h = elim h [ inl a ↦ absurd (cc a.1) | inr x ↦ elim x [ inl a ↦ a.2 | inr y ↦ elim y [ inl a ↦ a.3 | inr a ↦ a.5 ] ] ]
 
   no_write_fault : Answers words files before now status.WriteFault text → ⊥
-  no_write_fault h = elim h [ inl a ↦ absurd (cc a.1) | inr x ↦ elim x [ inl a ↦ a.2 | inr a ↦ a.3 ] ]
+  no_write_fault h = elim h [ inl a ↦ absurd (cc a.1) | inr x ↦ elim x [ inl a ↦ a.2 | inr y ↦ elim y [ inl a ↦ a.3 | inr a ↦ a.5 ] ] ]
 
   pub leaves_whole : (faults faults_now : ℕ) (written written_now : Option (List ℕ)) (s : Status) → Answers words files before now s text → Grows written written_now text → Leaves words files before now faults faults_now written written_now s
   leaves_whole faults faults_now written written_now status.Memory h grows = absurd (no_memory h)

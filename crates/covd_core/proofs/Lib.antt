@@ -1,4 +1,5 @@
 pub mod Designs
+pub mod Dumping
 pub mod Grown
 pub mod Had
 pub mod Items
@@ -6,4 +7,5 @@ pub mod Leaving
 pub mod OneAnswer
 pub mod Records
 pub mod Refusals
+pub mod Trees
 pub mod Unread

@@ -1,12 +1,14 @@
 -- Told files and a shelf that didn't fail leave one status and one text to the words.
 use Rattle.std.proofs.Common.{◌≡◌, ℕ, ◌<◌, ◌≤◌, List, [], ◌∷◌, length, take, Some, None, inl, inr, refl, sym, ap, subst, ◌∙◌, arith}
-use Rattle.std.specs.Prelude.{◌⊎◌, slice_index_or}
+use Rattle.std.specs.Prelude.{◌⊎◌, slice_index_or, Result, Ok, Err}
 use Rattle.cov_spec.specs.Causes.{Rose}
 use Rattle.cov_spec.specs.Files.{file_of}
 use Rattle.cov_counting.specs.Tallies.{IsTally}
 use Rattle.cov_counting.proofs.Bins.{one as tally_is_one}
 use Rattle.record_codec.specs.declared.record.Record.{Record}
-use Rattle.record_codec.specs.Spelling.{Encodes}
+use Rattle.record_codec.specs.declared.record.Fields.{Fields}
+use Rattle.record_codec.specs.Bytes.{bytes_of}
+use Rattle.record_codec.specs.Spelling.{Encodes, fields_of}
 use Rattle.design_data.specs.declared.design.Design.{Design}
 use Rattle.cov_design.specs.Elaboration.{Parts, parts_of}
 use Rattle.covd_core.specs.declared.status.Status.{Status}
@@ -14,14 +16,43 @@ use Rattle.covd_core.specs.declared.status.Status.TheVariants as status
 use Rattle.cov_compile.specs.declared.fault.CompileFault.{CompileFault}
 use Rattle.cov_compile.specs.Compiling.{IsDesign, IsDesignFault}
 use Rattle.cov_ground.specs.Limits.{longest_design, longest_record}
-use Rattle.covd_core.specs.Lines.{count_text, check_text, IsDesignFaultText, cannot_read_text, too_long_text}
-use Rattle.covd_core.specs.Command.{Files, IsCheckCommand, IsCountCommand, NotLoaded, HasDesign, HasNoDesign, HasRecord, HasNoRecord, IsCountText, IsRefusedText, Checks, Counts, Answers, HasOneAnswer}
-use Rattle.covd_core.proofs.Refusals.{IsReading, design_text_one, refused_text_one}
+use Rattle.cov_tree.specs.declared.declarations.DesignText.{DesignText}
+use Rattle.vcd_reader.specs.declared.fault.DumpFault.{DumpFault}
+use Rattle.vcd_reader.specs.Reading.{longest_dump}
+use Rattle.covd_core.specs.Lines.{count_text, check_text, IsDesignFaultText, IsDumpFaultText, bad_words_text, cannot_read_text, too_long_text}
+use Rattle.covd_core.specs.Dumps.{HasText, HasMade, IsTextOf, made_of}
+use Rattle.covd_core.specs.Command.{Files, IsCheckCommand, IsCountCommand, IsRecordCommand, IsNoCommand, NotLoaded, HasDesign, HasNoDesign, HasRecord, HasNoRecord, IsCountText, IsRefusedText, Checks, Counts, Records, Answers, HasOneAnswer}
+use Rattle.covd_core.proofs.Refusals.{IsReading, design_text_one, dump_text_one, refused_text_one}
+use Rattle.covd_core.proofs.Dumping.{has_design}
+use Rattle.covd_core.proofs.Trees.{one_tree}
 use Rattle.cov_compile.proofs.Texts.{design_one as text_design, fault_one}
 use Rattle.covd_core.proofs.Designs.{design_is}
 
 abbrev Told : Type 0
 Told = List (List ℕ × List ℕ)
+
+-- ---- cases, each with one answer, of which one at most holds
+
+abbrev Family : Type 1
+Family = Status → List ℕ → Type 0
+
+abbrev IsOne : Family → Type 0
+IsOne F = (s s' : Status) (text text' : List ℕ) → F s text → F s' text' → (s ≡ s') × (text ≡ text')
+
+abbrev AreApart : Family → Family → Type 0
+AreApart F G = (s s' : Status) (text text' : List ℕ) → F s text → G s' text' → ⊥
+
+abbrev Either : Family → Family → Family
+Either F G s text = F s text ⊎ G s text
+
+either_one : (F G : Family) → IsOne F → IsOne G → AreApart F G → IsOne (Either F G)
+either_one F G f g apart s s' text text' h k = elim h [
+  | inl a ↦ elim k [ inl b ↦ f s s' text text' a b | inr b ↦ absurd (apart s s' text text' a b) ]
+  | inr a ↦ elim k [ inl b ↦ absurd (apart s' s text' text b a) | inr b ↦ g s s' text text' a b ]
+]
+
+apart_both : (F G H : Family) → AreApart F G → AreApart F H → AreApart F (Either G H)
+apart_both F G H g h s s' text text' a k = elim k [ inl b ↦ g s s' text text' a b | inr b ↦ h s s' text text' a b ]
 
 -- ---- a record has one tally
 
@@ -225,42 +256,152 @@ module _ (spells : IsReading) (all : Told) where
     count_one : (s s' : Status) (text text' : List ℕ) → Counts (Some all) before now design rec s text → Counts (Some all) before now design rec s' text' → (s ≡ s') × (text ≡ text')
     count_one s s' text text' h k = case_one all (Ends rec) (ends_one rec) design s s' text text' (count_case s text h) (count_case s' text' k)
 
+-- ---- record
+
+module _ (all : Told) (design dump scope id : List ℕ) where
+  trees_one : (d : Design) (tree other : DesignText) → HasText (Some all) design tree d → HasText (Some all) design other d → tree ≡ other
+  trees_one d tree other h k =
+      one_tree k.text tree other (subst (λ (text : List ℕ). IsTextOf tree d text) (same_file all design h.text k.text h.file k.file) h.is_text).declares k.is_text.declares
+
+  module _ (d : Design) where
+    record IsUnmade (s : Status) (text : List ℕ) : Type 0 where
+      tree : DesignText
+      has : HasText (Some all) design tree d
+      fault : DumpFault
+      made : HasMade (Some all) dump tree d scope id (Err fault)
+      says : IsDumpFaultText fault text
+      is_status : s ≡ status.DumpRefused
+
+    record IsWritten (s : Status) (text : List ℕ) : Type 0 where
+      tree : DesignText
+      has : HasText (Some all) design tree d
+      r : Record
+      made : HasMade (Some all) dump tree d scope id (Ok (fields_of r))
+      encodes : Encodes r text
+      is_status : s ≡ status.Done
+
+    made_one : (tree other : DesignText) (made given : Result Fields DumpFault) → HasText (Some all) design tree d → HasText (Some all) design other d
+        → HasMade (Some all) dump tree d scope id made → HasMade (Some all) dump other d scope id given → made ≡ given
+    made_one tree other made given h k m g =
+        let files = same_file all dump m.bytes g.bytes m.file g.file in
+        let trees = trees_one d tree other h k in
+        sym m.is_made ∙ ap (λ (bytes : List ℕ). made_of tree d bytes scope id) files ∙ ap (λ (t : DesignText). made_of t d g.bytes scope id) trees ∙ g.is_made
+
+    -- the answer once the design is there
+    abbrev MakesEnds : Status → List ℕ → Type 0
+    MakesEnds s text = IsRefused all dump longest_dump s text ⊎ (IsUnmade s text ⊎ IsWritten s text)
+
+    unmade_one : (s s' : Status) (text text' : List ℕ) → IsUnmade s text → IsUnmade s' text' → (s ≡ s') × (text ≡ text')
+    unmade_one s s' text text' a b =
+        let made = made_one a.tree b.tree (Err a.fault) (Err b.fault) a.has b.has a.made b.made in
+        let same : a.fault ≡ b.fault = cc made in
+        (a.is_status ∙ sym b.is_status, dump_text_one b.fault text text' (subst (λ (fault : DumpFault). IsDumpFaultText fault text) same a.says) b.says)
+
+    written_one : (s s' : Status) (text text' : List ℕ) → IsWritten s text → IsWritten s' text' → (s ≡ s') × (text ≡ text')
+    written_one s s' text text' a b =
+        let made = made_one a.tree b.tree (Ok (fields_of a.r)) (Ok (fields_of b.r)) a.has b.has a.made b.made in
+        let same : fields_of a.r ≡ fields_of b.r = cc made in
+        (a.is_status ∙ sym b.is_status, a.encodes.spelled ∙ ap bytes_of same ∙ sym b.encodes.spelled)
+
+    unmade_or_written : (s s' : Status) (text text' : List ℕ) → IsUnmade s text → IsWritten s' text' → ⊥
+    unmade_or_written s s' text text' a b = let made = made_one a.tree b.tree (Err a.fault) (Ok (fields_of b.r)) a.has b.has a.made b.made in cc made
+
+    loaded : (s s' : Status) (text text' : List ℕ) → IsRefused all dump longest_dump s text → IsUnmade s' text' ⊎ IsWritten s' text' → ⊥
+    loaded s s' text text' a k = elim k [
+      | inl b ↦ not_refused all dump longest_dump s text b.made.bytes b.made.file b.made.short a
+      | inr b ↦ not_refused all dump longest_dump s text b.made.bytes b.made.file b.made.short a
+    ]
+
+    makes_one : IsOne MakesEnds
+    makes_one = either_one (IsRefused all dump longest_dump) (Either IsUnmade IsWritten) (refused_one all dump longest_dump) (either_one IsUnmade IsWritten unmade_one written_one unmade_or_written) loaded
+
+  module _ (before now : ℕ) (calm : Rose before now → ⊥) where
+    record_case : (s : Status) (text : List ℕ) → Records (Some all) before now design dump scope id s text → Case all MakesEnds makes_one design s text
+    record_case status.Done text h = inr (inr (record { d = h.1; has = has_design (Some all) design h.0 h.1 h.2; ends = inr (inr (record { tree = h.0; has = h.2; r = h.3; made = h.4; encodes = h.5; is_status = refl })) }))
+    record_case status.DesignRefused text h = inr (inl (record { none = h; is_status = refl }))
+    record_case status.DumpRefused text h = inr (inr (record { d = h.1; has = has_design (Some all) design h.0 h.1 h.2; ends = inr (inl (record { tree = h.0; has = h.2; fault = h.3; made = h.4; says = h.5; is_status = refl })) }))
+    record_case status.ShelfFault text h = elim h [
+      | inl a ↦ inl (refused all design before now calm longest_design status.ShelfFault text a)
+      | inr a ↦ inr (inr (record { d = a.0; has = a.1; ends = inl (refused all dump before now calm longest_dump status.ShelfFault text a.2) }))
+    ]
+    record_case status.FileTooLong text h = elim h [
+      | inl a ↦ inl (refused all design before now calm longest_design status.FileTooLong text a)
+      | inr a ↦ inr (inr (record { d = a.0; has = a.1; ends = inl (refused all dump before now calm longest_dump status.FileTooLong text a.2) }))
+    ]
+    record_case other text h = absurd h
+
+    record_one_answer : IsOne (Records (Some all) before now design dump scope id)
+    record_one_answer s s' text text' h k = case_one all MakesEnds makes_one design s s' text text' (record_case s text h) (record_case s' text' k)
+
 -- ---- the words
 
-module _ (spells : IsReading) (words : List (List ℕ)) (all : Told) (before now : ℕ) (calm : Rose before now → ⊥) (s s' : Status) (text text' : List ℕ) where
-  same_check : (design : List ℕ) → IsCheckCommand words design → Checks (Some all) before now design s text → (other : List ℕ) → IsCheckCommand words other → Checks (Some all) before now other s' text' → (s ≡ s') × (text ≡ text')
-  same_check design e h other f k =
-      let same : other ≡ design = cc (e, f) in
-      check_one all design before now calm s s' text text' h (subst (λ (d : List ℕ). Checks (Some all) before now d s' text') same k)
+module _ (spells : IsReading) (words : List (List ℕ)) (all : Told) (before now : ℕ) (calm : Rose before now → ⊥) where
+  abbrev NoCommand : Family
+  NoCommand s text = IsNoCommand words × (s ≡ status.BadWords) × (text ≡ bad_words_text)
 
-  same_count : (design rec : List ℕ) → IsCountCommand words design rec → Counts (Some all) before now design rec s text → (other more : List ℕ) → IsCountCommand words other more → Counts (Some all) before now other more s' text'
-      → (s ≡ s') × (text ≡ text')
-  same_count design rec e h other more f k =
-      let one : other ≡ design = cc (e, f) in
-      let two : more ≡ rec = cc (e, f) in
-      let k' = subst (λ (d : List ℕ). Counts (Some all) before now d rec s' text') one (subst (λ (r : List ℕ). Counts (Some all) before now other r s' text') two k) in
-      count_one spells all design rec before now calm s s' text text' h k'
+  abbrev CheckCommand : Family
+  CheckCommand s text = (design : List ℕ) × IsCheckCommand words design × Checks (Some all) before now design s text
 
-  check_or_count : (design other rec : List ℕ) → IsCheckCommand words design → IsCountCommand words other rec → ⊥
-  check_or_count design other rec e f = let n : length words ≡ 2 = ap length e in let m : length words ≡ 3 = ap length f in omega arith
+  abbrev CountCommand : Family
+  CountCommand s text = (design rec : List ℕ) × IsCountCommand words design rec × Counts (Some all) before now design rec s text
 
-  answer_one : Answers words (Some all) before now s text → Answers words (Some all) before now s' text' → (s ≡ s') × (text ≡ text')
-  answer_one h k = elim h [
-    | inl a ↦ elim k [
-      | inl b ↦ (a.1 ∙ sym b.1, a.2 ∙ sym b.2)
-      | inr y ↦ elim y [ inl b ↦ absurd (a.0.0 b.0 b.1) | inr b ↦ absurd (a.0.1 b.0 b.1 b.2) ]
-    ]
-    | inr x ↦ elim x [
-      | inl a ↦ elim k [
-        | inl b ↦ absurd (b.0.0 a.0 a.1)
-        | inr y ↦ elim y [ inl b ↦ same_check a.0 a.1 a.2 b.0 b.1 b.2 | inr b ↦ absurd (check_or_count a.0 b.0 b.1 a.1 b.2) ]
-      ]
-      | inr a ↦ elim k [
-        | inl b ↦ absurd (b.0.1 a.0 a.1 a.2)
-        | inr y ↦ elim y [ inl b ↦ absurd (check_or_count b.0 a.0 a.1 b.1 a.2) | inr b ↦ same_count a.0 a.1 a.2 a.3 b.0 b.1 b.2 b.3 ]
-      ]
-    ]
-  ]
+  abbrev RecordCommand : Family
+  RecordCommand s text = (design dump scope id : List ℕ) × IsRecordCommand words design dump scope id × Records (Some all) before now design dump scope id s text
+
+  none_one : IsOne NoCommand
+  none_one s s' text text' a b = (a.1 ∙ sym b.1, a.2 ∙ sym b.2)
+
+  checks_one : IsOne CheckCommand
+  checks_one s s' text text' a b =
+      let same : b.0 ≡ a.0 = cc (a.1, b.1) in
+      check_one all a.0 before now calm s s' text text' a.2 (subst (λ (d : List ℕ). Checks (Some all) before now d s' text') same b.2)
+
+  counts_one : IsOne CountCommand
+  counts_one s s' text text' a b =
+      let one : b.0 ≡ a.0 = cc (a.2, b.2) in
+      let two : b.1 ≡ a.1 = cc (a.2, b.2) in
+      let k = subst (λ (d : List ℕ). Counts (Some all) before now d a.1 s' text') one (subst (λ (r : List ℕ). Counts (Some all) before now b.0 r s' text') two b.3) in
+      count_one spells all a.0 a.1 before now calm s s' text text' a.3 k
+
+  records_one : IsOne RecordCommand
+  records_one s s' text text' a b =
+      let words_a = a.4.0 in
+      let words_b = b.4.0 in
+      let one : b.0 ≡ a.0 = cc (words_a, words_b) in
+      let two : b.1 ≡ a.1 = cc (words_a, words_b) in
+      let three : b.2 ≡ a.2 = cc (words_a, words_b) in
+      let four : b.3 ≡ a.3 = cc (words_a, words_b) in
+      let k : Records (Some all) before now a.0 a.1 a.2 a.3 s' text' = rw (sym one, sym two, sym three, sym four) b.5 in
+      record_one_answer all a.0 a.1 a.2 a.3 before now calm s s' text text' a.5 k
+
+  check_or_count : AreApart CheckCommand CountCommand
+  check_or_count s s' text text' a b = let n : length words ≡ 2 = ap length a.1 in let m : length words ≡ 3 = ap length b.2 in omega arith
+
+  check_or_record : AreApart CheckCommand RecordCommand
+  check_or_record s s' text text' a b = let n : length words ≡ 2 = ap length a.1 in let m : length words ≡ 5 = ap length b.4.0 in omega arith
+
+  count_or_record : AreApart CountCommand RecordCommand
+  count_or_record s s' text text' a b = let n : length words ≡ 3 = ap length a.2 in let m : length words ≡ 5 = ap length b.4.0 in omega arith
+
+  none_or_check : AreApart NoCommand CheckCommand
+  none_or_check s s' text text' a b = a.0.0 b.0 b.1
+
+  none_or_count : AreApart NoCommand CountCommand
+  none_or_count s s' text text' a b = a.0.1 b.0 b.1 b.2
+
+  none_or_record : AreApart NoCommand RecordCommand
+  none_or_record s s' text text' a b = a.0.2 b.0 b.1 b.2 b.3 b.4
+
+  count_and_more : IsOne (Either CountCommand RecordCommand)
+  count_and_more = either_one CountCommand RecordCommand counts_one records_one count_or_record
+
+  check_and_more : IsOne (Either CheckCommand (Either CountCommand RecordCommand))
+  check_and_more = either_one CheckCommand (Either CountCommand RecordCommand) checks_one count_and_more (apart_both CheckCommand CountCommand RecordCommand check_or_count check_or_record)
+
+  answer_one : IsOne (Answers words (Some all) before now)
+  answer_one =
+      either_one NoCommand (Either CheckCommand (Either CountCommand RecordCommand)) none_one check_and_more
+      (apart_both NoCommand CheckCommand (Either CountCommand RecordCommand) none_or_check (apart_both NoCommand CountCommand RecordCommand none_or_count none_or_record))
 
 pub has_one_answer : IsReading → (words : List (List ℕ)) (files : Files) (before now : ℕ) → HasOneAnswer words files before now
 has_one_answer spells words files before now all told calm s s' text text' h k =

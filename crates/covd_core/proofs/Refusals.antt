@@ -13,7 +13,9 @@ use Rattle.elab_base.specs.declared.fault.ElabFault.TheVariants as elaborating
 use Rattle.design_data.specs.declared.design.Design.{Design}
 use Rattle.sampler.specs.Shape.{Fits, IsWrongAt}
 use Rattle.sampler.proofs.Tables.{place_one}
-use Rattle.covd_core.specs.Lines.{IsDesignFaultText, IsFaultText, wrong_shape_text}
+use Rattle.vcd_reader.specs.declared.fault.DumpFault.{DumpFault}
+use Rattle.vcd_reader.specs.declared.fault.DumpFault.TheVariants as dumping
+use Rattle.covd_core.specs.Lines.{IsDesignFaultText, IsFaultText, IsDumpFaultText, wrong_shape_text}
 use Rattle.covd_core.specs.Command.{IsRefusedText}
 
 -- Bytes spell one record at most and have one fault at most, and not both.
@@ -46,6 +48,17 @@ design_text_one (Parse (parsing.TooDeep at)) text other h k = h ∙ sym k
 design_text_one (Parse parsing.Memory) text other h k = absurd h
 design_text_one (Elab (elaborating.Fault kind at)) text other h k = h ∙ sym k
 design_text_one (Elab elaborating.Memory) text other h k = absurd h
+
+pub dump_text_one : (fault : DumpFault) (text other : List ℕ) → IsDumpFaultText fault text → IsDumpFaultText fault other → text ≡ other
+dump_text_one (dumping.Syntax at) text other h k = h ∙ sym k
+dump_text_one (dumping.TimeBack at) text other h k = h ∙ sym k
+dump_text_one (dumping.UnknownCode at) text other h k = h ∙ sym k
+dump_text_one (dumping.BadEvent at) text other h k = h ∙ sym k
+dump_text_one (dumping.NoSignal number) text other h k = h ∙ sym k
+dump_text_one (dumping.WidthDiffers number) text other h k = h ∙ sym k
+dump_text_one (dumping.TooManyEvents count) text other h k = h ∙ sym k
+dump_text_one (dumping.TooLong size) text other h k = h ∙ sym k
+dump_text_one dumping.Memory text other h k = absurd h
 
 pub refused_text_one : IsReading → (d : Design) (bytes text other : List ℕ) → IsRefusedText d bytes text → IsRefusedText d bytes other → text ≡ other
 refused_text_one read d bytes text other h k = elim h [

@@ -7,7 +7,8 @@ use Rattle.cov_ground.specs.Limits.{longest_record}
 use Rattle.design_data.specs.declared.design.Design.{Design}
 use Rattle.covd_core.specs.declared.status.Status.{Status}
 use Rattle.covd_core.specs.declared.status.Status.TheVariants as status
-use Rattle.covd_core.specs.Command.{Files, NotLoaded, HasDesign, Counts}
+use Rattle.vcd_reader.specs.Reading.{longest_dump}
+use Rattle.covd_core.specs.Command.{Files, NotLoaded, HasDesign, Counts, Records}
 
 up_to : (before middle now most : ℕ) → before ≤ middle → min (middle + 1) most ≤ now → min (before + 1) most ≤ now
 up_to before middle now most le rose =
@@ -36,3 +37,14 @@ by_record files before now design rec d other text has h = absurd h
 pub no_record_file : (files same : Files) (before middle now : ℕ) (design rec : List ℕ) (d : Design) (s : Status) (text : List ℕ) → same ≡ files → before ≤ middle → HasDesign files design d → NotLoaded same middle now rec longest_record s text → Counts files before now design rec s text
 no_record_file files same before middle now design rec d s text is le has h =
     by_record files before now design rec d s text has (not_loaded files before middle now rec longest_record s text le (subst (λ (f : Files). NotLoaded f middle now rec longest_record s text) is h))
+
+by_dump : (files : Files) (before now : ℕ) (design dump scope id : List ℕ) (d : Design) (s : Status) (text : List ℕ) → HasDesign files design d → NotLoaded files before now dump longest_dump s text → Records files before now design dump scope id s text
+by_dump files before now design dump scope id d status.ShelfFault text has h = inr (d, has, h)
+by_dump files before now design dump scope id d status.FileTooLong text has h = inr (d, has, h)
+by_dump files before now design dump scope id d other text has h = absurd h
+
+-- the answer to a design that is had, and a dump that isn't
+pub no_dump_file : (files same : Files) (before middle now : ℕ) (design dump scope id : List ℕ) (d : Design) (s : Status) (text : List ℕ) → same ≡ files → before ≤ middle → HasDesign files design d → NotLoaded same middle now dump longest_dump s text
+    → Records files before now design dump scope id s text
+no_dump_file files same before middle now design dump scope id d s text is le has h =
+    by_dump files before now design dump scope id d s text has (not_loaded files before middle now dump longest_dump s text le (subst (λ (f : Files). NotLoaded f middle now dump longest_dump s text) is h))

@@ -1,24 +1,28 @@
 -- What a command answers: a status and a text, from its words and the files of a shelf. The steps are: words, load of
--- the design, compiling, and for `count` load of the record, decoding and shape; then printing. The first step that
--- refuses decides.
-use Rattle.std.specs.Prelude.{◌≡◌, ◌⊎◌, ℕ, ◌≤◌, List, [], ◌∷◌, length, Option, Some, codes}
+-- the design, compiling; for `count` load of the record, decoding and shape; for `record` load of the dump, reading it
+-- and making its record; then printing. The first step that refuses decides.
+use Rattle.std.specs.Prelude.{◌≡◌, ◌⊎◌, ℕ, ◌≤◌, List, [], ◌∷◌, length, Option, Some, Result, Ok, Err, codes}
 use Rattle.cov_spec.specs.Causes.{Rose}
 use Rattle.cov_spec.specs.Told.{Grows, GrowsByFront, Stays}
 use Rattle.cov_base.specs.Loads.{HasFile, LacksFile, HasLongFile}
 use Rattle.record_codec.specs.declared.record.Record.{Record}
 use Rattle.record_codec.specs.declared.fault.RecordFault.{RecordFault}
-use Rattle.record_codec.specs.Spelling.{Encodes}
+use Rattle.record_codec.specs.Spelling.{Encodes, fields_of}
 use Rattle.record_codec.specs.Reading.{HasFault}
 use Rattle.cov_compile.specs.declared.fault.CompileFault.{CompileFault}
 use Rattle.cov_compile.specs.Compiling.{IsDesign, IsDesignFault}
 use Rattle.cov_counting.specs.Tallies.{IsTally}
 use Rattle.cov_design.specs.Elaboration.{Parts, parts_of}
 use Rattle.cov_ground.specs.Limits.{longest_design, longest_record}
+use Rattle.cov_tree.specs.declared.declarations.DesignText.{DesignText}
 use Rattle.design_data.specs.declared.design.Design.{Design}
 use Rattle.covd_core.specs.declared.status.Status.{Status}
 use Rattle.covd_core.specs.declared.status.Status.TheVariants as status
 use Rattle.sampler.specs.Shape.{Fits, IsWrongAt}
-use Rattle.covd_core.specs.Lines.{count_text, check_text, bad_words_text, IsDesignFaultText, IsFaultText, wrong_shape_text, cannot_read_text, too_long_text}
+use Rattle.vcd_reader.specs.declared.fault.DumpFault.{DumpFault}
+use Rattle.vcd_reader.specs.Reading.{longest_dump}
+use Rattle.covd_core.specs.Lines.{count_text, check_text, bad_words_text, IsDesignFaultText, IsFaultText, wrong_shape_text, IsDumpFaultText, cannot_read_text, too_long_text}
+use Rattle.covd_core.specs.Dumps.{IsTestId, HasText, HasMade}
 
 -- the files of a shelf, where it tells them
 abbrev pub Files : Type 0
@@ -34,14 +38,21 @@ IsCheckCommand words design = words ≡ codes "check" ∷ design ∷ []
 abbrev pub IsCountCommand : List (List ℕ) → List ℕ → List ℕ → Type 0
 IsCountCommand words design rec = words ≡ codes "count" ∷ design ∷ rec ∷ []
 
+-- the words are `record`, the names of the design, the dump and the scope, and the id of the test
+abbrev pub IsRecordCommand : List (List ℕ) → (design dump scope id : List ℕ) → Type 0
+IsRecordCommand words design dump scope id = (words ≡ codes "record" ∷ design ∷ dump ∷ scope ∷ id ∷ []) × IsTestId id
+
 abbrev pub IsNoCheck : List (List ℕ) → Type 0
 IsNoCheck words = (design : List ℕ) → IsCheckCommand words design → ⊥
 
 abbrev pub IsNoCount : List (List ℕ) → Type 0
 IsNoCount words = (design rec : List ℕ) → IsCountCommand words design rec → ⊥
 
+abbrev pub IsNoRecord : List (List ℕ) → Type 0
+IsNoRecord words = (design dump scope id : List ℕ) → IsRecordCommand words design dump scope id → ⊥
+
 abbrev pub IsNoCommand : List (List ℕ) → Type 0
-IsNoCommand words = IsNoCheck words × IsNoCount words
+IsNoCommand words = IsNoCheck words × IsNoCount words × IsNoRecord words
 
 -- ---- files
 
@@ -118,12 +129,26 @@ Counts files before now design rec status.ShelfFault text = NotLoaded files befo
 Counts files before now design rec status.FileTooLong text = NotLoaded files before now design longest_design status.FileTooLong text ⊎ ((d : Design) × HasDesign files design d × NotLoaded files before now rec longest_record status.FileTooLong text)
 Counts files before now design rec other text = ⊥
 
+-- Status and text of `record DESIGN DUMP SCOPE ID`: the cause of each status.
+abbrev pub Records : Files → ℕ → ℕ → (design dump scope id : List ℕ) → Status → List ℕ → Type 0
+Records files before now design dump scope id status.Done text =
+    (tree : DesignText) × (d : Design) × HasText files design tree d
+    × (r : Record) × HasMade files dump tree d scope id (Ok (fields_of r)) × Encodes r text
+Records files before now design dump scope id status.DesignRefused text = HasNoDesign files design text
+Records files before now design dump scope id status.DumpRefused text =
+    (tree : DesignText) × (d : Design) × HasText files design tree d
+    × (fault : DumpFault) × HasMade files dump tree d scope id (Err fault) × IsDumpFaultText fault text
+Records files before now design dump scope id status.ShelfFault text = NotLoaded files before now design longest_design status.ShelfFault text ⊎ ((d : Design) × HasDesign files design d × NotLoaded files before now dump longest_dump status.ShelfFault text)
+Records files before now design dump scope id status.FileTooLong text = NotLoaded files before now design longest_design status.FileTooLong text ⊎ ((d : Design) × HasDesign files design d × NotLoaded files before now dump longest_dump status.FileTooLong text)
+Records files before now design dump scope id other text = ⊥
+
 -- Status and text of any words; `before` and `now` are the counts of the shelf's faults.
 abbrev pub Answers : List (List ℕ) → Files → ℕ → ℕ → Status → List ℕ → Type 0
 Answers words files before now s text =
     (IsNoCommand words × (s ≡ status.BadWords) × (text ≡ bad_words_text))
     ⊎ (((design : List ℕ) × IsCheckCommand words design × Checks files before now design s text)
-    ⊎ ((design rec : List ℕ) × IsCountCommand words design rec × Counts files before now design rec s text))
+    ⊎ (((design rec : List ℕ) × IsCountCommand words design rec × Counts files before now design rec s text)
+    ⊎ ((design dump scope id : List ℕ) × IsRecordCommand words design dump scope id × Records files before now design dump scope id s text)))
 
 -- What a run leaves in the sink. Where memory ran out: nothing. Where the sink failed, its count having risen: some of
 -- the answer's text from the front. Else: the whole text of the answer, whose status it is.

@@ -1,5 +1,6 @@
 pub mod Columns
 pub mod Command
+pub mod Dumps
 pub mod Lines
 pub mod Statuses
 pub mod Steps
@@ -15,3 +16,5 @@ pub use Rattle.record_codec.specs.Limits
 pub use Rattle.record_codec.specs.Reading
 pub use Rattle.record_codec.specs.Spelling
 pub use Rattle.sampler.specs.Shape
+pub use Rattle.vcd_reader.specs.Reading
+pub use Rattle.vcd_reader.specs.Records

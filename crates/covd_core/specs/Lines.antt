@@ -17,6 +17,8 @@ use Rattle.design_data.specs.declared.infos.ItemInfo.{ItemInfo}
 use Rattle.elab_base.specs.declared.fault.ElabFault.TheVariants as elaborating
 use Rattle.elab_base.specs.declared.fault.ElabKind.{ElabKind}
 use Rattle.elab_base.specs.declared.fault.ElabKind.TheVariants as kinds
+use Rattle.vcd_reader.specs.declared.fault.DumpFault.{DumpFault}
+use Rattle.vcd_reader.specs.declared.fault.DumpFault.TheVariants as dumping
 
 abbrev pub newline : List ℕ
 newline = 10 ∷ []
@@ -167,3 +169,19 @@ cannot_read_text name = codes "cannot read " ++ (name ++ newline)
 
 abbrev pub too_long_text : List ℕ → ℕ → List ℕ
 too_long_text name size = codes "too long " ++ (name ++ 32 ∷ (decimal size ++ newline))
+
+-- the kind of the refusal of a dump and its number
+abbrev pub dump_refused_text : List ℕ → ℕ → List ℕ
+dump_refused_text kind number = codes "dump refused " ++ (kind ++ 32 ∷ (decimal number ++ newline))
+
+-- The line of a dump's refusal. Want of memory has no line.
+abbrev pub IsDumpFaultText : DumpFault → List ℕ → Type 0
+IsDumpFaultText (dumping.Syntax at) text = text ≡ dump_refused_text (codes "Syntax") at
+IsDumpFaultText (dumping.TimeBack at) text = text ≡ dump_refused_text (codes "TimeBack") at
+IsDumpFaultText (dumping.UnknownCode at) text = text ≡ dump_refused_text (codes "UnknownCode") at
+IsDumpFaultText (dumping.BadEvent at) text = text ≡ dump_refused_text (codes "BadEvent") at
+IsDumpFaultText (dumping.NoSignal number) text = text ≡ dump_refused_text (codes "NoSignal") number
+IsDumpFaultText (dumping.WidthDiffers number) text = text ≡ dump_refused_text (codes "WidthDiffers") number
+IsDumpFaultText (dumping.TooManyEvents count) text = text ≡ dump_refused_text (codes "TooManyEvents") count
+IsDumpFaultText (dumping.TooLong size) text = text ≡ dump_refused_text (codes "TooLong") size
+IsDumpFaultText dumping.Memory text = ⊥

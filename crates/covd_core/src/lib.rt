@@ -6,6 +6,7 @@ mod check;
 mod count;
 mod lines;
 mod loading;
+mod record;
 mod running;
 mod status;
 mod texts;
@@ -13,6 +14,7 @@ mod writing;
 
 pub use cov_compile::{CompileFault, compile};
 pub use loading::{Refusal, refusal_of};
+pub use record::{DumpRefusal, LONGEST_DUMP, dump_fault, dump_refusal_of};
 pub use running::run;
 pub use status::Status;
 

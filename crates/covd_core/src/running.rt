@@ -6,6 +6,7 @@ use crate::Status;
 use crate::answer::Answer;
 use crate::check::check;
 use crate::count::count;
+use crate::record::{record_dump, record_words};
 use crate::texts::bad_words;
 use crate::writing::write_all;
 use cov_base::{Memory, Shelf, Sink, Source};
@@ -52,6 +53,9 @@ fn answer<F: Shelf>(alloc: Global, words: &[String], shelf: &mut F) -> Result<An
     if let Some(design) = check_words(words) {
         return check(alloc, design, shelf);
     }
+    if let Some(words) = record_words(words) {
+        return record_dump(alloc, words, shelf);
+    }
     match count_words(words) {
         Some((design, rec)) => count(alloc, design, rec, shelf),
         None => {
@@ -66,9 +70,10 @@ fn answer<F: Shelf>(alloc: Global, words: &[String], shelf: &mut F) -> Result<An
 
 /// Does what the words say over the files of the shelf, and writes its text to the sink.
 ///
-/// The words are those after the program's name. The commands are `check DESIGN`, which prints the bins of the design,
-/// and `count DESIGN RECORD`, which prints how often the record hits each of them. The text is built whole before its
-/// first byte is written. The source isn't touched, and no thread is started.
+/// The words are those after the program's name. The commands are `check DESIGN`, which prints the bins of the design;
+/// `count DESIGN RECORD`, which prints how often the record hits each of them; and `record DESIGN DUMP SCOPE ID`, which
+/// writes the bytes of the record of a value change dump. What is written is built whole before its first byte is
+/// written. The source isn't touched, and no thread is started.
 pub fn run<R: Threads + Sync, F: Shelf, S: Source, K: Sink>(
     rt: &R,
     alloc: Global,

@@ -21,6 +21,8 @@ pub enum Status {
     ShelfFault,
     /// A file is longer than its limit.
     FileTooLong,
+    /// A dump is refused: it can't be read, or gives no record.
+    DumpRefused,
 }
 
 impl Status {
@@ -37,6 +39,7 @@ impl Status {
             Status::WriteFault => 7,
             Status::ShelfFault => 8,
             Status::FileTooLong => 12,
+            Status::DumpRefused => 13,
         }
     }
 }

@@ -1,6 +1,6 @@
 //! The parts of lines, and the lines of refusals.
 ghost use Rattle.std.specs.Prelude.{◌≡◌, IfOk, OnOk, ◌++◌, decimal};
-ghost use Rattle.covd_core.specs.Lines.{number_line, bad_words_text, design_refused_text, record_refused_text, cannot_read_text, too_long_text};
+ghost use Rattle.covd_core.specs.Lines.{number_line, bad_words_text, design_refused_text, record_refused_text, dump_refused_text, cannot_read_text, too_long_text};
 
 use cov_base::Memory;
 use itoa::Buffer;
@@ -53,6 +53,18 @@ pub(crate) fn record_refused(alloc: Global, kind: &str, number: u64) -> Result<V
 {
     let mut text = Vec::new(alloc);
     append(&mut text, b"record 1 refused ")?;
+    append(&mut text, kind.as_bytes())?;
+    append(&mut text, b" ")?;
+    append_number(&mut text, number)?;
+    append(&mut text, b"\n")?;
+    Ok(text)
+}
+
+pub(crate) fn dump_refused(alloc: Global, kind: &str, number: u64) -> Result<Vec<u8>, Memory>
+    ensures { IfOk result (λ text. text.items ≡ dump_refused_text kind.now number) }
+{
+    let mut text = Vec::new(alloc);
+    append(&mut text, b"dump refused ")?;
     append(&mut text, kind.as_bytes())?;
     append(&mut text, b" ")?;
     append_number(&mut text, number)?;

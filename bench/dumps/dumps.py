@@ -1,0 +1,30 @@
+"""Dumps of so many bytes at most: dumps.py KIND BYTES > FILE, KIND being scalars, vectors or bench."""
+import random
+import sys
+
+
+def dump(kind, most):
+    draw = random.Random(1)
+    names = [chr(33 + number) for number in range(17)]
+    width = {"scalars": 1, "vectors": 32, "bench": 8}[kind]
+    head = "$timescale 1ns $end\n$scope module top $end\n$var wire 1 ! clk $end\n"
+    for number, code in enumerate(names[1:]):
+        head += f"$var wire {width} {code} s{number} $end\n"
+    parts = [head + "$upscope $end\n$enddefinitions $end\n"]
+    size, time, level = len(parts[0]), 0, 0
+    few = {"scalars": 16, "vectors": 8, "bench": 2}[kind]
+    while True:
+        step = f"#{time}\n{level}!\n"
+        # what a clock moves moves at its rising edge; in a bench a few of the signals
+        if level:
+            for code in draw.sample(names[1:], few):
+                value = draw.getrandbits(width)
+                step += f"{value}{code}\n" if width == 1 else f"b{value:b} {code}\n"
+        if size + len(step) > most:
+            return "".join(parts)
+        parts.append(step)
+        size += len(step)
+        time, level = time + 5, 1 - level
+
+
+sys.stdout.write(dump(sys.argv[1], int(sys.argv[2])))
