@@ -1,5 +1,5 @@
 -- The rows of a ranking have tests that exist.
-use Rattle.std.proofs.Common.{◌≡◌, ℕ, ◌<◌, List, [], ◌∷◌, ◌++◌, length, map, sym, subst}
+use Rattle.std.proofs.Common.{◌≡◌, ℕ, ◌<◌, List, [], ◌∷◌, ◌++◌, length, map, inl, inr, sym, subst}
 use Rattle.std.specs.Prelude.{All}
 use Rattle.std.proofs.lemmas.List.Elements.{All-nil, All-cons, All-append}
 use Rattle.std.proofs.lemmas.List.{length-map}
@@ -26,7 +26,7 @@ pub ranked_inside : (opening : Design) (h : List Entry) → All (λ row. row.tes
 ranked_inside opening h =
     let rows : List Test = map (λ (t : Kept). rows_from 0 (tally (design_of opening h) t.content)) (tests_of h) in
     let all = greedy_inside rows (wanted_at opening h) (ranked_at opening h) (ranking_is rows (wanted_at opening h)).is.greedy in
-    subst (λ (n : ℕ). All (λ (row : Ranked). row.test < n) (ranked_at opening h)) (length-map (λ (t : Kept). rows_from 0 (tally (design_of opening h) t.content)) (tests_of h)) all
+    subst (λ (n : ℕ). All (λ (row : Ranked). row.test < n) (ranked_at opening h)) (length-map (tests_of h) (λ (t : Kept). rows_from 0 (tally (design_of opening h) t.content))) all
 
 -- the rows that a store answers
 pub ranked_is : (opening : Design) (h : List Entry) (rows : List Ranked) → Reads (rank_at opening h) (answers.RankRows rows) → rows ≡ ranked_at opening h

@@ -27,7 +27,8 @@ fn is_illegal(store: &Store, node: u32) -> bool
     requires { node < length (nodes_now store.now) }
     ensures { result ≡ is_illegal_meant (kind_of_bin (nodes_now store.now) node) }
 {
-    match store.nodes()[node as usize].kind {
+    let kind = store.nodes()[node as usize].kind;
+    match kind {
         NodeKind::Bin(BinKind::IllegalBin) => true,
         _ => false,
     }

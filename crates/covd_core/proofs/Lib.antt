@@ -1,4 +1,4 @@
-pub mod Admitting
+pub mod Admissions
 pub mod Designs
 pub mod Digits
 pub mod Dumping
