@@ -10,3 +10,5 @@ pub mod Tallied
 pub mod ById
 pub mod Admitting
 pub mod Walks
+pub mod Grouping
+pub mod Merging

@@ -13,7 +13,7 @@ use Rattle.ucis_model.specs.declared.node.Node.{Node}
 use Rattle.ucis_model.specs.Nodes.{root_node}
 use Rattle.ucis_model.specs.Paths.{node_at, HasSmallerParents}
 use Rattle.cov_history.specs.Nodes.{parents_of, children}
-use Rattle.cov_history.specs.Coverage.{is_out, is_excluded, has_live, item_coverage, instance_coverage, plain_coverage}
+use Rattle.cov_history.specs.Coverage.{is_out, is_excluded, has_live, item_coverage, instance_coverage, plain_coverage, type_coverage, root_coverage}
 use Rattle.cov_history.proofs.Bools.{by_bool}
 use Rattle.merge_store.proofs.Children.{not_none}
 use Rattle.merge_store.proofs.Ranges.{at_any}
@@ -127,6 +127,10 @@ instance_is nodes count excluded n = refl
 pub plain_is : (nodes : List Node) (count : ℕ → ℕ) (excluded : ℕ → Bool) (n : ℕ) → mean (map (λ m. ((node_at nodes m).weight, instance_coverage nodes count excluded m)) (filter (λ m. not (excluded m)) (children nodes n))) ≡ plain_coverage nodes count excluded n
 unfolding plain_coverage
 plain_is nodes count excluded n = refl
+
+pub root_is : (nodes : List Node) (count : ℕ → ℕ) (excluded : ℕ → Bool) (n : ℕ) → mean (map (λ m. ((node_at nodes m).weight, type_coverage nodes count excluded m)) (filter (λ m. not (excluded m)) (children nodes n))) ≡ root_coverage nodes count excluded n
+unfolding root_coverage
+root_is nodes count excluded n = refl
 
 pub few_kept : (p : ℕ → Bool) (xs : List ℕ) (k : ℕ) → length (filter p (take k xs)) ≤ length xs
 few_kept p [] zero = omega arith

@@ -1,4 +1,5 @@
 pub mod Branches
+pub mod Groups
 pub mod Amounts
 pub mod Keeps
 pub mod Words

@@ -109,4 +109,95 @@ impl Store {
         }
         mean.get()
     }
+
+    /// Of a type.
+    #[tactic(auto, unfolding(cov_history::specs::Coverage::type_coverage))]
+    fn type_at(&self, node: u32) -> Result<u32, Memory>
+        ensures { IfOk result (λ part. part
+            ≡ cover.type_coverage (nodes_now self.now) (count_now self.now) (excluded_now self.now) node) }
+    {
+        if self.facts(node).merge {
+            let part = self.merged(node)?;
+            return Ok(part);
+        }
+        Ok(self.plain(node))
+    }
+
+    /// What a type adds to the mean of all: nothing where it is excluded.
+    fn type_part(&self, node: u32) -> Result<Option<(u32, u32)>, Memory>
+        ensures { IfOk result (λ part. part ≡ (if not (cover.is_excluded (nodes_now self.now) (outs_now self.now) node)
+            then Some ((node_at (nodes_now self.now) node).weight, cover.type_coverage (nodes_now self.now) (count_now self.now) (excluded_now self.now) node)
+            else None)) }
+    {
+        if self.is_excluded(node) {
+            return Ok(None);
+        }
+        let part = self.type_at(node)?;
+        Ok(Some((self.facts(node).weight, part)))
+    }
+
+    fn root(&self, node: u32) -> Result<u32, Memory>
+        ensures { IfOk result (λ part. part
+            ≡ cover.root_coverage (nodes_now self.now) (count_now self.now) (excluded_now self.now) node) }
+    {
+        let mut mean = Mean::new();
+        for child in self.children(node) {
+            let part = self.type_part(*child)?;
+            add_part(&mut mean, part);
+        }
+        Ok(mean.get())
+    }
+
+    /// Of a node of this kind.
+    fn by_kind(&self, kind: NodeKind, node: u32) -> Result<u32, Memory>
+        ensures { IfOk result (λ part. part
+            ≡ cover.coverage_by kind (nodes_now self.now) (count_now self.now) (excluded_now self.now) node) }
+    {
+        match kind {
+            NodeKind::Root => self.root(node),
+            NodeKind::CoverGroup => self.type_at(node),
+            NodeKind::CoverInstance => Ok(self.instance(node)),
+            NodeKind::CoverPoint | NodeKind::Cross | NodeKind::Bin(_) => Ok(self.item(node)),
+        }
+    }
+
+    /// Of a node, in millionths.
+    #[tactic(auto, unfolding(cov_history::specs::Coverage::coverage))]
+    fn millionths(&self, node: u32) -> Result<u32, Memory>
+        ensures { IfOk result (λ part. part
+            ≡ cover.coverage (nodes_now self.now) (count_now self.now) (excluded_now self.now) node) }
+    {
+        self.by_kind(self.facts(node).kind, node)
+    }
+
+    /// The coverage of a node. Memory is wanted only for types whose instances are merged, and for the root.
+    pub fn cover_row(&self, node: u32) -> Result<CoverRow, Memory>
+        ensures { IfOk result (λ row. row
+            ≡ cover_row (nodes_now self.now) (count_now self.now) (excluded_now self.now) node) }
+    {
+        let millionths = self.millionths(node)?;
+        let (covered, bins) = self.under(node);
+        let wanted = 10_000 * u64::from(self.facts(node).goal);
+        Ok(CoverRow {
+            millionths,
+            met: wanted <= u64::from(millionths),
+            excluded: self.is_excluded(node),
+            covered,
+            bins,
+        })
+    }
+
+    /// The coverage of the node that the path finds.
+    pub fn coverage(&self, path: &[u8]) -> Result<CoverRow, QueryFault>
+        ensures { Reads (coverage_at (opening_of self.now) (entries_of self.now) path.now)
+            (cover_read result) }
+    {
+        let Some(node) = self.find(path) else {
+            return Err(QueryFault::NoSuchPath);
+        };
+        match self.cover_row(node) {
+            Ok(row) => Ok(row),
+            Err(Memory) => Err(QueryFault::Memory),
+        }
+    }
 }

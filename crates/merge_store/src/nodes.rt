@@ -47,15 +47,22 @@ impl Store {
         self.branches.facts(node)
     }
 
+    /// A node's own name.
+    pub(crate) fn name(&self, node: u32) -> &[u8]
+        ensures { result.now ≡ (node_at (nodes_now self.now) node).name }
+    {
+        self.branches.name(node)
+    }
+
     /// The nodes right below one, in order.
-    pub(crate) fn children(&self, node: u32) -> &[u32]
+    pub fn children(&self, node: u32) -> &[u32]
         ensures { result.now ≡ children_meant (nodes_now self.now) node }
     {
         self.branches.children(node)
     }
 
     /// The nodes of the bins under a node.
-    pub(crate) fn bins_under(&self, node: u32) -> &[u32]
+    pub fn bins_under(&self, node: u32) -> &[u32]
         ensures bins { result.now ≡ bins_meant (nodes_now self.now) node }
         ensures few { length result.now < 2 ^ 32 }
     {
@@ -77,7 +84,7 @@ impl Store {
     }
 
     /// How often the bin that a node is was hit.
-    pub(crate) fn count(&self, node: u32) -> u64
+    pub fn count(&self, node: u32) -> u64
         ensures { result ≡ cover.count_at (nodes_now self.now) (count_now self.now) node }
     {
         number_at(self.counts.as_slice(), self.facts(node).first_bin)

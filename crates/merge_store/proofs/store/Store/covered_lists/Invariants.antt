@@ -1,0 +1,13 @@
+use Rattle.std.proofs.Common.{◌≡◌, ◌≤◌, take}
+use Rattle.std.specs.Prelude.{count_by}
+use Rattle.std.specs.declared.vec.Vec.{Vec}
+use Rattle.std.specs.declared.alloc.Global.{Global}
+use Rattle.cov_history.specs.Coverage as cover
+use Rattle.merge_store.specs.Now.{nodes_now, count_now}
+use Rattle.merge_store.proofs.store.Store.covered_lists.Given as goal
+
+abbrev pub invariant-loop-list : goal.invariant-loop-list
+invariant-loop-list l = record {
+  is : l.covered ≡ count_by (λ list. cover.is_covered_as_one (nodes_now l.self) (count_now l.self) list.items) (take l.list-index l.lists);
+  few : l.covered ≤ l.list-index;
+}
