@@ -30,9 +30,13 @@ goal_word met = if met then codes "met" else codes "miss"
 abbrev pub cover_line : (word path : List ℕ) → CoverRow → List ℕ
 cover_line word path row = word ++ 32 ∷ (path ++ 32 ∷ (decimal row.millionths ++ 32 ∷ (goal_word row.met ++ newline)))
 
+-- COVERED/BINS GOAL
+abbrev pub bins_and_goal : CoverRow → List ℕ
+bins_and_goal row = decimal row.covered ++ 47 ∷ (decimal row.bins ++ 32 ∷ (goal_word row.met ++ newline))
+
 -- WORD PATH C COVERED/BINS GOAL, of an item
 abbrev pub item_line : (word path : List ℕ) → CoverRow → List ℕ
-item_line word path row = word ++ 32 ∷ (path ++ 32 ∷ (decimal row.millionths ++ 32 ∷ (decimal row.covered ++ 47 ∷ (decimal row.bins ++ 32 ∷ (goal_word row.met ++ newline)))))
+item_line word path row = word ++ 32 ∷ (path ++ 32 ∷ (decimal row.millionths ++ 32 ∷ bins_and_goal row))
 
 abbrev pub item_word : NodeKind → List ℕ
 item_word Cross = codes "cross"

@@ -5,7 +5,7 @@ ghost use Rattle.cov_history.specs.Nodes.{children as children_meant};
 ghost use Rattle.cov_history.specs.History.{design_of};
 ghost use Rattle.merge_store.specs.Now.{nodes_now};
 ghost use Rattle.merge_store.specs.Stores.{opening_of, entries_of};
-ghost use Rattle.cov_report.specs.Lines.{overall_line, goal_word as goal_meant, cover_line, item_line, item_word as word_meant};
+ghost use Rattle.cov_report.specs.Lines.{overall_line, goal_word as goal_meant, bins_and_goal, cover_line, item_line, item_word as word_meant};
 ghost use Rattle.cov_report.specs.Report.{is_printed as is_printed_meant, line_of_item, lines_of_instance, lines_of_type, coverage_text, rows_at};
 
 use crate::parts::{append, append_number};
@@ -44,6 +44,18 @@ fn append_cover(text: &mut Vec<u8>, word: &str, path: &[u8], row: CoverRow) -> R
     append(text, b"\n")
 }
 
+/// How many of an item's bins are covered, and whether its goal is met.
+fn append_bins(text: &mut Vec<u8>, row: CoverRow) -> Result<(), Memory>
+    ensures { OnOk result (text.new.items ≡ text.old.items ++ bins_and_goal row) }
+{
+    append_number(text, row.covered as u64)?;
+    append(text, b"/")?;
+    append_number(text, row.bins as u64)?;
+    append(text, b" ")?;
+    append(text, goal_word(row.met).as_bytes())?;
+    append(text, b"\n")
+}
+
 /// The line of an item.
 fn append_item(text: &mut Vec<u8>, word: &str, path: &[u8], row: CoverRow) -> Result<(), Memory>
     ensures { OnOk result (text.new.items ≡ text.old.items ++ item_line word.now path.now row) }
@@ -54,12 +66,7 @@ fn append_item(text: &mut Vec<u8>, word: &str, path: &[u8], row: CoverRow) -> Re
     append(text, b" ")?;
     append_number(text, row.millionths as u64)?;
     append(text, b" ")?;
-    append_number(text, row.covered as u64)?;
-    append(text, b"/")?;
-    append_number(text, row.bins as u64)?;
-    append(text, b" ")?;
-    append(text, goal_word(row.met).as_bytes())?;
-    append(text, b"\n")
+    append_bins(text, row)
 }
 
 /// The nodes right below one.

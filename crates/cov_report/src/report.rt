@@ -21,7 +21,8 @@ fn append_all_tests(alloc: Global, text: &mut Vec<u8>, store: &Store) -> Result<
 {
     let tests = all_tests(alloc, store)?;
     append_tests(text, tests.as_slice())?;
-    ids_of(alloc, tests.as_slice())
+    let ids = ids_of(alloc, tests.as_slice())?;
+    Ok(ids)
 }
 
 /// The text of the report of a store: its tests, the coverage of all, of each type that has an instance, of the instances
