@@ -1,20 +1,23 @@
 -- The steps of filling a store, one after the other.
 use Rattle.std.proofs.Common.{◌≡◌, ℕ, zero, suc, ◌+◌, ◌-◌, ◌≤◌, ◌<◌, List, [], ◌∷◌, length, Some, None, Ok, Err, inl, inr, refl, sym, ap, subst, ◌∙◌, arith}
-use Rattle.std.specs.Prelude.{◌⊎◌}
-use Rattle.cov_ground.specs.Limits.{longest_record}
+use Rattle.std.specs.Prelude.{◌⊎◌, codes}
+use Rattle.cov_ground.specs.Limits.{longest_record, most_events}
+use Rattle.record_codec.specs.Builders.{told}
 use Rattle.cov_base.specs.Loads.{HasFile}
 use Rattle.design_data.specs.declared.design.Design.{Design}
 use Rattle.record_codec.specs.declared.record.Record.{Record}
 use Rattle.record_codec.specs.Spelling.{Encodes, fields_of}
-use Rattle.sampler.specs.Shape.{Fits}
+use Rattle.sampler.specs.Shape.{Fits, IsWrongAt}
+use Rattle.sampler.proofs.Tables.{does_not_fit}
+use Rattle.covd_core.specs.Lines.{record_refused_text}
 use Rattle.cov_history.specs.declared.entry.Entry.{Entry}
 use Rattle.covd_core.specs.declared.stop.Stop.{Stop}
 use Rattle.covd_core.specs.declared.stop.Stop.TheVariants.{Memory, Refused}
 use Rattle.covd_core.specs.declared.status.Status.{Status}
 use Rattle.covd_core.specs.declared.status.Status.TheVariants as status
-use Rattle.covd_core.specs.Admission.{admission, behind, refusal_line, made_fields}
-use Rattle.covd_core.specs.Command.{Files, NotLoaded, NoDesign, HasRecord, NotTaken, NotMade, Prints, Fills, FillsMade, FillAnswers}
-use Rattle.covd_core.specs.Filling.{IsUnread, IsDecoded, Admits, Takes, IsMade, TakesMade, Leads, IsFilled, LeadsMade, IsFilledMade}
+use Rattle.covd_core.specs.Admission.{admission, behind, refusal_line, full_line, made_fields, made_events, made_size}
+use Rattle.covd_core.specs.Command.{Files, NotLoaded, NoDesign, IsRefusedText, HasRecord, NotTaken, NotMade, Prints, Fills, FillsMade, FillAnswers}
+use Rattle.covd_core.specs.Filling.{IsLine, IsUnread, IsDecoded, Admits, Takes, IsMade, TakesMade, Leads, IsFilled, LeadsMade, IsFilledMade}
 use Rattle.covd_core.proofs.Unread.{not_loaded}
 
 -- ---- statuses that no text of these commands has
@@ -63,6 +66,17 @@ module _ {s : Status} (never : Never s) where
   ]
 
 -- ---- one record
+
+-- one that doesn't fit
+pub record IsUnfit (k : ℕ) (d : Design) (bytes text : List ℕ) : Type 0 where
+  pub none : (r : Record) → Encodes r bytes → Fits d r → ⊥
+  pub line : IsRefusedText k d bytes text
+
+pub unfit_is : (k : ℕ) (d : Design) (bytes text : List ℕ) (r : Record) (at : ℕ) → Encodes r bytes → ((other : Record) → Encodes other bytes → other ≡ r) → IsWrongAt d r at → text ≡ record_refused_text k (codes "WrongShape") at → IsUnfit k d bytes text
+unfit_is k d bytes text r at e only wrong t = record {
+  none = λ q f fits. does_not_fit d r at wrong (subst (λ (x : Record). Fits d x) (only q f) fits);
+  line = inr (r, e, at, wrong, t);
+}
 
 module _ (files : Files) (before now : ℕ) (d : Design) (k : ℕ) (h : List Entry) (name : List ℕ) (after : List Entry) where
   pub unread : (stop : Stop) → IsUnread files before now name stop → Takes files before now d k h name after (Err stop)
@@ -147,6 +161,15 @@ module _ (d : Design) (seed rounds tests : ℕ) where
     pub made_ends : (left : ℕ) → left ≤ 0 → MadeSoFar d seed rounds tests test h left → LeadsMade d seed rounds tests h
     made_ends zero le so = record { ends = λ s text p. so.leads s text p }
     made_ends (suc left) le so = absurd (omega (arith, le))
+
+  pub too_many : (test n : ℕ) (stop : Stop) → IsLine (full_line test (codes "events") 0 n) stop → (most_events < made_events d seed rounds test) × (n ≡ made_events d seed rounds test) → IsMade d seed rounds test (Err stop)
+  too_many test n (Refused a) l m = (l.0, inl (m.0, l.1 ∙ ap (full_line test (codes "events") 0) m.1))
+  too_many test n Memory l m = tt
+
+  pub too_long : (test n : ℕ) (stop : Stop) → IsLine (full_line test (codes "record") 0 n) stop
+      → (made_events d seed rounds test ≤ most_events) × (longest_record < made_size d seed rounds test) × (n ≡ told (made_size d seed rounds test)) → IsMade d seed rounds test (Err stop)
+  too_long test n (Refused a) l m = (l.0, inr (m.0, m.1, l.1 ∙ ap (full_line test (codes "record") 0) m.2))
+  too_long test n Memory l m = tt
 
   pub not_made : (test : ℕ) (h after : List Entry) (stop : Stop) → IsMade d seed rounds test (Err stop) → TakesMade d seed rounds test h after (Err stop)
   not_made test h after (Refused a) m = (m.0, inl m.1)

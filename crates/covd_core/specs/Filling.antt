@@ -25,6 +25,11 @@ pub record IsPlain (d : Design) (s : Store) : Type 0 where
 
 -- ---- one record
 
+-- a record isn't admitted, with this line
+abbrev pub IsLine : (line : List ℕ) → Stop → Type 0
+IsLine line (Refused a) = (a.status ≡ status.AdmitRefused) × (a.text.items ≡ line)
+IsLine line Memory = Unit {0}
+
 -- why a store doesn't admit the k-th record
 abbrev pub IsRefusal : (k : ℕ) → AdmitFault → Stop → Type 0
 IsRefusal k fault (Refused a) = (refusal_line k (refused fault) ≡ Some a.text.items) × (a.status ≡ status.AdmitRefused)

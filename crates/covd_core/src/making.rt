@@ -1,14 +1,16 @@
 //! A store that is filled with records from the generator.
-ghost use Rattle.std.specs.Prelude.{◌≡◌, ◌≤◌, [], OnOk};
+ghost use Rattle.std.specs.Prelude.{◌≡◌, ◌≤◌, [], IfOk, OnOk};
 ghost use Rattle.std.specs.Arc.{arc_value};
 ghost use Rattle.merge_store.specs.Stores.{entries_of};
-ghost use Rattle.covd_core.specs.Filling.{IsPlain, IsMade, TakesMade, IsFilledMade};
+ghost use Rattle.covd_core.specs.Admission.{full_line};
+ghost use Rattle.covd_core.specs.Filling.{IsLine, IsPlain, IsMade, TakesMade, IsFilledMade};
 
 use crate::Status;
 use crate::admitting::admit_record;
 use crate::forms::Numbers;
 use crate::refusals::full;
 use crate::stop::Stop;
+use cov_base::Memory;
 use design_data::Design;
 use merge_store::Store;
 use record_codec::Record;
@@ -16,7 +18,16 @@ use record_maker::{MakeFault, make_record};
 use std::alloc::Global;
 use std::sync::Arc;
 
+/// That the record of a test would be above a limit.
+fn too_much(alloc: Global, test: u32, which: &str, n: u64) -> Result<Stop, Memory>
+    ensures { IfOk result (IsLine (full_line test which.now 0 n)) }
+{
+    let text = full(alloc, test as u64, which, 0, n)?;
+    Ok(Stop::with(Status::AdmitRefused, text))
+}
+
 /// The record of a test, where it is within its limits.
+#[tactic(auto, using(crate::proofs::Fillings::too_many, crate::proofs::Fillings::too_long))]
 fn made(
     alloc: Global,
     design: &Design,
@@ -26,14 +37,12 @@ fn made(
 ) -> Result<Record, Stop>
     ensures { IsMade design.now seed rounds test result }
 {
-    let (which, n) = match make_record(alloc, design, seed, rounds, test) {
-        Ok(rec) => return Ok(rec),
-        Err(MakeFault::TooManyEvents { n }) => ("events", n),
-        Err(MakeFault::TooLong { n }) => ("record", n),
-        Err(MakeFault::Memory) => return Err(Stop::Memory),
-    };
-    let text = full(alloc, test as u64, which, 0, n)?;
-    Err(Stop::with(Status::AdmitRefused, text))
+    match make_record(alloc, design, seed, rounds, test) {
+        Ok(rec) => Ok(rec),
+        Err(MakeFault::TooManyEvents { n }) => Err(too_much(alloc, test, "events", n)?),
+        Err(MakeFault::TooLong { n }) => Err(too_much(alloc, test, "record", n)?),
+        Err(MakeFault::Memory) => Err(Stop::Memory),
+    }
 }
 
 /// Makes the record of a test and takes it in.
