@@ -12,3 +12,6 @@ pub mod Admitting
 pub mod Walks
 pub mod Grouping
 pub mod Merging
+pub mod Running
+pub mod Numbers
+pub mod Marking

@@ -12,6 +12,7 @@ ghost use Rattle.merge_store.specs.Stores.{opening_of, entries_of};
 use crate::amounts::{Amounts, amount, passed};
 use crate::held::{Held, HeldEvent, Kept};
 use crate::kept::{add_counts, add_test};
+use crate::marks::mark_rows;
 use crate::room::put;
 use crate::{AdmitFault, Admitted, Store};
 use sampler::Prepared;
@@ -102,6 +103,13 @@ impl Store {
             return Err(prepared);
         }
         add_counts(&mut self.counts, &tally);
+        mark_rows(
+            &mut self.runs,
+            &self.branches,
+            self.counts.as_slice(),
+            self.out.as_slice(),
+            tally.rows(),
+        );
         let point = self.entries.as_slice().len() as u64 + 1;
         let digest = Sha256::digest(prepared.bytes());
         let test = Kept {

@@ -155,6 +155,13 @@ impl Branches {
         self.tree.nodes().len() as u32
     }
 
+    /// All of them.
+    pub(crate) fn nodes(&self) -> &[Node]
+        ensures { result.now ≡ self.now }
+    {
+        self.tree.nodes()
+    }
+
     /// The least node that has the path. It takes no memory, and its time doesn't grow with the nodes.
     pub(crate) fn find(&self, path: &[u8]) -> Option<u32>
         ensures { result ≡ find_in self.now path.now }

@@ -11,6 +11,7 @@ ghost use Rattle.merge_store.specs.Stores.{opening_of, entries_of};
 
 use crate::amounts::MOST_HISTORY;
 use crate::held::{Held, HeldEvent};
+use crate::marks::mark_bin;
 use crate::room::{is_some_at, put, put_at, take_at};
 use crate::{ExcludeFault, IncludeFault, Store};
 use cov_base::Memory;
@@ -73,6 +74,14 @@ impl Store {
         let event = HeldEvent::Exclude(name);
         put(&mut self.entries, Held { caller, event });
         put_at(&mut self.out, node as usize, spare);
+        let first = self.branches.facts(node).first_bin;
+        mark_bin(
+            &mut self.runs,
+            &self.branches,
+            self.counts.as_slice(),
+            self.out.as_slice(),
+            first,
+        );
         self.outs += 1;
         Ok(())
     }
@@ -105,6 +114,14 @@ impl Store {
         let Some(name) = take_at(&mut self.out, node as usize) else {
             return Err(IncludeFault::NotExcluded);
         };
+        let first = self.branches.facts(node).first_bin;
+        mark_bin(
+            &mut self.runs,
+            &self.branches,
+            self.counts.as_slice(),
+            self.out.as_slice(),
+            first,
+        );
         let event = HeldEvent::Include(name);
         put(&mut self.entries, Held { caller, event });
         self.outs -= 1;

@@ -1,13 +1,17 @@
 //! Coverage, over running sums (IEEE 1800-2017, 19.11).
-ghost use Rattle.std.specs.Prelude.{◌≡◌, ◌+◌, ◌<◌, ◌≤◌, ◌^◌, ◌&&◌, ◌++◌, ℕ, List, Some, None, cond, count_by, filter, length, nat_lt, not, if◌then◌else◌, option_to_list, IfOk};
+ghost use Rattle.std.specs.Prelude.{◌≡◌, ◌+◌, ◌-◌, ◌<◌, ◌≤◌, ◌^◌, ◌&&◌, ◌++◌, ℕ, List, Some, None, cond, count_by, filter, length, nat_lt, not, if◌then◌else◌, option_to_list, IfOk};
 ghost use Rattle.percent.specs.Millionths.{sums};
 ghost use Rattle.ucis_model.specs.Paths.{node_at};
+ghost use Rattle.cov_history.specs.Nodes.{bin_nodes, bins_under};
 ghost use Rattle.cov_history.specs.Coverage as cover;
 ghost use Rattle.cov_history.specs.Answers.{cover_row, coverage_at};
 ghost use Rattle.merge_store.specs.Told.{Reads, cover_read};
+ghost use Rattle.merge_store.specs.Branches.{part};
+ghost use Rattle.merge_store.specs.Runs.{bin_at, live_in, covered_in};
 ghost use Rattle.merge_store.specs.Now.{nodes_now, outs_now, count_now, excluded_now};
 ghost use Rattle.merge_store.specs.Stores.{opening_of, entries_of};
 
+use crate::runs::Piece;
 use crate::{QueryFault, Store};
 use cov_base::Memory;
 use percent::{Mean, item};
@@ -25,17 +29,48 @@ fn add_part(mean: &mut Mean, part: Option<(u32, u32)>)
 }
 
 impl Store {
-    /// Whether a bin is live and covered, and whether it is live, as 0 or 1.
-    fn bin_counts(&self, bin: u32) -> (u32, u32)
-        ensures covered { result.0 ≡ cond (cover.is_live (nodes_now self.now) (excluded_now self.now) bin) (cond (cover.is_covered (nodes_now self.now) (count_now self.now) bin) 1 0) 0 }
-        ensures live { result.1 ≡ cond (cover.is_live (nodes_now self.now) (excluded_now self.now) bin) 1 0 }
-        ensures fewer { result.0 ≤ result.1 }
-        ensures one { result.1 ≤ 1 }
+    /// Where the bins under a node begin and end among all bins.
+    fn ends_of(&self, node: u32) -> (u32, u32)
+        ensures part { bins_under (nodes_now self.now) node ≡ part result.0 (result.1 - result.0) (bin_nodes (nodes_now self.now)) }
+        ensures inside { result.1 ≤ length (bin_nodes (nodes_now self.now)) }
+        ensures few { length (bin_nodes (nodes_now self.now)) < 2 ^ 32 }
     {
-        if !self.is_live(bin) {
-            return (0, 0);
+        let facts = self.facts(node);
+        let many = self.branches.bins().len() as u64;
+        let end = (u64::from(facts.first_bin) + u64::from(facts.bins)).min(many);
+        (facts.first_bin, end as u32)
+    }
+
+    /// The node right above the bin at a place.
+    fn above_bin(&self, place: u32) -> u32
+        requires { place < length (bin_nodes (nodes_now self.now)) }
+        ensures { result ≡ (node_at (nodes_now self.now) (bin_at (nodes_now self.now) place)).parent }
+    {
+        match self.branches.bin(place) {
+            Some(node) => self.facts(node).parent,
+            None => 0,
         }
-        if self.is_covered(bin) { (1, 1) } else { (0, 1) }
+    }
+
+    /// Some bins that stand in a row: where they end, before the end that is given, and how many of them are live, and
+    /// covered as well.
+    fn live_piece(&self, first: u32, end: u32) -> Piece
+        requires some { first < end }
+        requires inside { end ≤ length (bin_nodes (nodes_now self.now)) }
+        ensures some { first < result.end }
+        ensures within { result.end ≤ end }
+        ensures live { result.live ≡ live_in (nodes_now self.now) (excluded_now self.now) (part first (result.end - first) (bin_nodes (nodes_now self.now))) }
+        ensures covered { result.covered ≡ covered_in (nodes_now self.now) (count_now self.now) (excluded_now self.now) (part first (result.end - first) (bin_nodes (nodes_now self.now))) }
+    {
+        let piece = self.runs.piece(first, end);
+        if self.is_excluded(self.above_bin(first)) {
+            return Piece {
+                end: piece.end,
+                live: 0,
+                covered: 0,
+            };
+        }
+        piece
     }
 
     /// How many live bins under a node are covered, and how many they are.
@@ -44,12 +79,14 @@ impl Store {
         ensures live { result.1 ≡ length (cover.live_under (nodes_now self.now) (excluded_now self.now) node) }
         ensures fewer { result.0 ≤ result.1 }
     {
+        let (mut first, end) = self.ends_of(node);
         let mut covered = 0;
         let mut live = 0;
-        for bin in self.bins_under(node) {
-            let counts = self.bin_counts(*bin);
-            covered += counts.0;
-            live += counts.1;
+        while first < end {
+            let piece = self.live_piece(first, end);
+            covered += piece.covered;
+            live += piece.live;
+            first = piece.end;
         }
         (covered, live)
     }

@@ -5,6 +5,7 @@ ghost use Rattle.merge_store.specs.Stores.{opening_of, entries_of};
 
 use crate::Store;
 use crate::branches::Branches;
+use crate::marks::marks_of;
 use cov_base::Memory;
 use cov_tree::Name;
 use design_data::Design;
@@ -37,12 +38,14 @@ impl Store {
         let branches = Branches::of(alloc, &design)?;
         let counts = no_counts(alloc, design.bin_count())?;
         let out = nothing_out(alloc, branches.len())?;
+        let runs = marks_of(alloc, &branches, counts.as_slice(), out.as_slice())?;
         let again = design.clone()?;
         Ok(Store {
             alloc,
             opening: design,
             design: again,
             branches,
+            runs,
             entries: Vec::new(alloc),
             tests: IndexMap::new(alloc),
             counts,

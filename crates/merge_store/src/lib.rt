@@ -12,10 +12,12 @@ mod fresh;
 mod groups;
 mod held;
 mod kept;
+mod marks;
 mod merged;
 mod nodes;
 mod queries;
 mod room;
+mod runs;
 mod store;
 
 pub use faults::{AdmitFault, Admitted, ExcludeFault, IncludeFault, QueryFault};

@@ -1,19 +1,25 @@
 //! What a store says of single nodes.
-ghost use Rattle.std.specs.Prelude.{◌≡◌, ◌<◌, ◌≤◌, ◌^◌, ℕ, length, cond, slice_index};
-ghost use Rattle.ucis_model.specs.Paths.{find_in, node_at};
+ghost use Rattle.std.specs.Prelude.{◌≡◌, ◌<◌, ◌≤◌, ◌^◌, ℕ, length, cond, slice_index, IfOk};
+ghost use Rattle.ucis_model.specs.Paths.{find_in, node_at, path_of};
 ghost use Rattle.cov_history.specs.Nodes.{children as children_meant, bins_under as bins_meant, bin_kind};
 ghost use Rattle.cov_history.specs.Coverage as cover;
 ghost use Rattle.cov_history.specs.Answers.{count_row};
+ghost use Rattle.std.specs.Arc.{arc_value};
+ghost use Rattle.cov_history.specs.History.{design_of};
+ghost use Rattle.merge_store.specs.Stores.{opening_of, entries_of};
 ghost use Rattle.merge_store.specs.Branches.{facts_of};
 ghost use Rattle.merge_store.specs.Now.{nodes_now, outs_now, count_now, excluded_now};
 
 use crate::Store;
 use crate::branches::Facts;
-use design_data::BinKind;
-use ucis_model::{CountRow, NodeKind};
+use cov_base::Memory;
+use cov_tree::Name;
+use design_data::{BinKind, Design};
+use std::sync::Arc;
+use ucis_model::{CountRow, Node, NodeKind};
 
 /// The number of an index, and 0 where there is none.
-fn number_at(numbers: &[u64], index: u32) -> u64
+pub(crate) fn number_at(numbers: &[u64], index: u32) -> u64
     ensures { result ≡ slice_index numbers.now index }
 {
     match numbers.get(index as usize) {
@@ -33,6 +39,28 @@ fn kind_of(kind: NodeKind) -> BinKind
 }
 
 impl Store {
+    /// The design of now.
+    pub fn design(&self) -> &Arc<Design>
+        ensures { arc_value result.now ≡ design_of (opening_of self.now) (entries_of self.now) }
+    {
+        &self.design
+    }
+
+    /// The nodes of the design of now in depth-first order. Node 0 is the root.
+    pub fn nodes(&self) -> &[Node]
+        ensures { result.now ≡ nodes_now self.now }
+    {
+        self.branches.nodes()
+    }
+
+    /// The path of a node: the names from its group down to it, with `/` between them. The root has the empty path.
+    pub fn path_text(&self, node: u32) -> Result<Name, Memory>
+        requires { node < length (nodes_now self.now) }
+        ensures { IfOk result (λ path. path ≡ path_of (nodes_now self.now) node) }
+    {
+        self.branches.path_text(self.alloc, node)
+    }
+
     /// The least node that has the path.
     pub(crate) fn find(&self, path: &[u8]) -> Option<u32>
         ensures { result ≡ find_in (nodes_now self.now) path.now }

@@ -1,4 +1,4 @@
-use Rattle.std.proofs.Common.{◌≡◌, ◌∙◌, ap, List, ℕ, map, length, replicate, Option, None, refl}
+use Rattle.std.proofs.Common.{◌≡◌, ◌∙◌, ap, List, ℕ, map, length, replicate, Option, None, refl, subst, true}
 use Rattle.std.specs.Prelude.{option_map}
 use Rattle.std.specs.Arc.{arc_value}
 use Rattle.std.specs.declared.sync.Arc.{Arc}
@@ -6,6 +6,7 @@ use Rattle.std.specs.declared.alloc.Global.{Global}
 use Rattle.cov_tree.specs.declared.name.Name.{Name}
 use Rattle.design_data.specs.declared.design.Design.{Design}
 use Rattle.ucis_model.specs.Nodes.{nodes_of}
+use Rattle.merge_store.specs.Runs.{HasMarks}
 use Rattle.merge_store.proofs.Beginning.{fresh, map_none}
 use Rattle.merge_store.proofs.store.Store.new.Goals as goal
 
@@ -20,3 +21,10 @@ invariant_of-result-clause-keeps c =
     let out : map view c.in_ok-out.out.items ≡ replicate (length nodes) None = ap (map view) none ∙ map_none view (length nodes) None refl in
     let kept = fresh d nodes c.in_ok-counts.counts.items (map view c.in_ok-out.out.items) are counts out in
     rw (c.new.ensures.items, c.new-2.ensures.empty, c.in_ok-again.ensures.cases) kept
+
+pub invariant_of-result-clause-marked : goal.invariant_of-result-clause-marked
+invariant_of-result-clause-marked c =
+    let seen : List (Option (Arc Name Global)) → List (Option (List ℕ)) = λ xs. map (λ (p : Option (Arc Name Global)). option_map arc_value p) xs in
+    let nodes = c.in_ok-branches.branches in
+    subst (λ (xs : List (Option (Arc Name Global))). HasMarks nodes c.in_ok-counts.counts.items (seen xs) (λ p. true) c.in_ok-runs.runs) c.as_slice-2.ensures.value
+    (subst (λ (xs : List ℕ). HasMarks nodes xs (seen c.as_slice-2.result.now) (λ p. true) c.in_ok-runs.runs) c.as_slice.ensures.value c.in_ok-runs.ensures)

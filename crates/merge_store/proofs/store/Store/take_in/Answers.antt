@@ -1,5 +1,7 @@
-use Rattle.std.proofs.Common.{◌≡◌, ◌∙◌, ◌+◌, ◌++◌, ◌∷◌, [], ◌<◌, ap, sym, subst, length, map, List, ℕ, None, nat_eq}
-use Rattle.std.specs.Prelude.{All}
+use Rattle.std.proofs.Common.{Option, true, ◌≡◌, ◌∙◌, ◌+◌, ◌++◌, ◌∷◌, [], ◌<◌, ap, sym, subst, length, map, List, ℕ, None, nat_eq}
+use Rattle.std.specs.Prelude.{All, option_map}
+use Rattle.std.specs.declared.sync.Arc.{Arc}
+use Rattle.cov_tree.specs.declared.name.Name.{Name}
 use Rattle.std.specs.Map.{lookup}
 use Rattle.std.specs.Cmp.Lexicographic.{pointwise}
 use Rattle.std.specs.Arc.{arc_value}
@@ -23,6 +25,8 @@ use Rattle.merge_store.specs.Stores.{opening_of, entries_of}
 use Rattle.merge_store.proofs.ById.{none_kept}
 use Rattle.merge_store.proofs.Ranges.{map_more}
 use Rattle.merge_store.proofs.Tallied.{rows_are, all_inside}
+use Rattle.merge_store.specs.Runs.{HasMarks}
+use Rattle.merge_store.proofs.Marking.{admitted_marks, parents_len}
 use Rattle.merge_store.proofs.Admitting.{counts_room, admit_keeps, test_at}
 use Rattle.merge_store.proofs.store.Store.take_in.Goals as goal
 
@@ -64,7 +68,7 @@ invariant_of-self-2-clause-keeps c =
     let tallied : IsTallyOf d r p.counted = subst (λ (x : Design). IsTallyOf x r p.counted) c.requires.same c.tally.ensures.counted in
     let kept_rows : arc_value c.in-Ok-clone-2.tally ≡ rows_from 0 (tally d r) = c.in-Ok-clone-2.ensures.cases ∙ c.tally.ensures.tally ∙ rows_are d r p.counted tallied in
     let id : c.in-Ok.id.items ≡ r.id = c.in-Ok.ensures.items ∙ c.as_slice.ensures ∙ ap (λ (x : Record). x.id) c.record.ensures in
-    let point : length c.as_slice-2.result.now ≡ length h = ap length (c.as_slice-2.ensures.value ∙ c.reserve.ensures.items) ∙ sym (length-map s.entries.items entry_of) in
+    let point : length c.as_slice-4.result.now ≡ length h = ap length (c.as_slice-4.ensures.value ∙ c.reserve.ensures.items) ∙ sym (length-map s.entries.items entry_of) in
     let held : Held = record { caller = caller; event = HeldEvent.Admit c.in-Ok-clone.content } in
     let items : c.put.new.entries.items ≡ s.entries.items ++ held ∷ [] = c.put.ensures.items ∙ ap (λ (xs : List Held). xs ++ held ∷ []) c.reserve.ensures.items in
     let shared : arc_value c.in-Ok-clone.content ≡ r = c.in-Ok-clone.ensures.cases ∙ c.shared.ensures in
@@ -75,3 +79,23 @@ invariant_of-self-2-clause-keeps c =
     let tallies : map seen c.add_test.new.tests.entries ≡ map seen s.tests.entries ++ rows_from 0 (tally d r) ∷ [] = c.add_test.ensures.tallies ∙ (λ i. map seen (c.reserve-2.ensures.entries i) ++ kept_rows i ∷ []) in
     let adds : Adds (count_in (rows_from 0 (tally d r))) s.counts.items c.add_counts.new.counts.items = subst (λ (rows : List (ℕ × ℕ)). Adds (count_in rows) s.counts.items c.add_counts.new.counts.items) (c.deref.ensures ∙ kept_rows) c.add_counts.ensures in
     rw (grown, tests, tallies) (admit_keeps s.keeps caller r p.under c.args.after c.requires c.add_counts.new.counts.items adds)
+
+pub invariant_of-self-2-clause-marked : goal.invariant_of-self-2-clause-marked
+invariant_of-self-2-clause-marked c =
+    let s = c.args.self.now in
+    let seen : List (Option (Arc Name Global)) → List (Option (List ℕ)) = λ xs. map (λ (p : Option (Arc Name Global)). option_map arc_value p) xs in
+    let rows = c.rows.result.now in
+    let same : c.deref.result.now ≡ rows = c.deref.ensures ∙ sym c.deref-2.ensures ∙ sym c.rows.ensures.rows in
+    let more = c.as_slice-2.result.now in
+    let out = c.as_slice-3.result.now in
+    let counts_are : more ≡ c.add_counts.new.counts.items = c.as_slice-2.ensures.value in
+    let outs_are : out ≡ s.out.items = c.as_slice-3.ensures.value in
+    let adds : Adds (count_in rows) s.counts.items more = subst (λ (xs : List ℕ). Adds (count_in rows) s.counts.items xs) (sym counts_are) (subst (λ (xs : List (ℕ × ℕ)). Adds (count_in xs) s.counts.items c.add_counts.new.counts.items) same c.add_counts.ensures) in
+    let old : HasMarks s.branches s.counts.items (seen out) (λ p. true) s.runs = subst (λ (xs : List (Option (Arc Name Global))). HasMarks s.branches s.counts.items (seen xs) (λ p. true) s.runs) (sym outs_are) s.marked in
+    let new : HasMarks s.branches more (seen out) (λ p. true) c.mark_rows.new.runs = admitted_marks (design_of (opening_of s) (entries_of s)) s.branches s.counts.items more (seen out) rows s.runs c.mark_rows.new.runs s.keeps.nodes_are old adds c.mark_rows.ensures in
+    subst (λ (xs : List (Option (Arc Name Global))). HasMarks s.branches c.add_counts.new.counts.items (seen xs) (λ p. true) c.mark_rows.new.runs) outs_are (subst (λ (xs : List ℕ). HasMarks s.branches xs (seen out) (λ p. true) c.mark_rows.new.runs) counts_are new)
+
+pub mark_rows-requires : goal.mark_rows-requires
+mark_rows-requires c =
+    let s = c.args.self.now in
+    parents_len s.branches s.counts.items (map (λ (p : Option (Arc Name Global)). option_map arc_value p) s.out.items) (λ p. true) s.runs s.marked
