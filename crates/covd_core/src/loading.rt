@@ -146,18 +146,6 @@ fn unelaborated(fault: ElabFault) -> Option<Refusal>
     }
 }
 
-/// The refusal that is printed for a fault of a design text; none for want of memory.
-pub fn refusal_of(fault: CompileFault) -> Option<Refusal>
-    ensures told { IfSome result (λ r. IsDesignFaultText fault (design_refused_text r.kind.now r.at)) }
-    ensures memory { IfNone result (is_memory fault) }
-{
-    match fault {
-        CompileFault::Lex(fault) => unlexed(fault),
-        CompileFault::Parse(fault) => unparsed(fault),
-        CompileFault::Elab(fault) => unelaborated(fault),
-    }
-}
-
 // The answer to a text that is not compiled.
 pub(crate) fn uncompiled(alloc: Global, fault: CompileFault) -> Result<Answer, Memory>
     ensures { IfOk result (λ a. (a.status ≡ DesignRefused) × IsDesignFaultText fault a.text.items) }
@@ -197,5 +185,17 @@ pub(crate) fn had_design<F: Shelf>(
     match compile(alloc, &text) {
         Ok(design) => Ok(HadDesign::Compiled(design)),
         Err(fault) => Ok(HadDesign::Refused(uncompiled(alloc, fault)?)),
+    }
+}
+
+/// The refusal that is printed for a fault of a design text; none for want of memory.
+pub fn refusal_of(fault: CompileFault) -> Option<Refusal>
+    ensures told { IfSome result (λ r. IsDesignFaultText fault (design_refused_text r.kind.now r.at)) }
+    ensures memory { IfNone result (is_memory fault) }
+{
+    match fault {
+        CompileFault::Lex(fault) => unlexed(fault),
+        CompileFault::Parse(fault) => unparsed(fault),
+        CompileFault::Elab(fault) => unelaborated(fault),
     }
 }

@@ -13,17 +13,19 @@ fn shelf_of(alloc: Global, design: Vec<u8>, failing: &[u64]) -> Result<MemShelf,
     Ok(MemShelf::new(files, Vec::from_slice(alloc, failing)?))
 }
 
-// Runs `check d`, with a sink that takes three bytes a call, and whose calls of these numbers fail.
+// Runs the words, with a sink that takes three bytes a call, and whose calls of these numbers fail.
 fn expect(
     rt: &(impl Abort + AllocGlobal + Threads + Sync),
+    line: &str,
     mut shelf: MemShelf,
     failing: &[u64],
     expected: (Status, &str),
 ) -> Result<(), Fail> {
     let alloc = rt.alloc();
     let mut words = Vec::new(alloc);
-    words.push(String::from_str(alloc, "check")?)?;
-    words.push(String::from_str(alloc, "d")?)?;
+    for word in line.split_whitespace() {
+        words.push(String::from_str(alloc, word)?)?;
+    }
     let mut source = MemSource::new(Vec::new(alloc), 1, Vec::new(alloc));
     let mut sink = MemSink::new(alloc, 3, Vec::from_slice(alloc, failing)?);
     let status = run(rt, alloc, &words, &mut shelf, &mut source, &mut sink);
@@ -38,6 +40,7 @@ fn long_designs(rt: HostRuntime) -> Result<(), Fail> {
     let shelf = shelf_of(rt.alloc(), long, &[])?;
     expect(
         &rt,
+        "check d",
         shelf,
         &[],
         (Status::FileTooLong, "too long d 1048577\n"),
@@ -45,14 +48,51 @@ fn long_designs(rt: HostRuntime) -> Result<(), Fail> {
     let longest = vec![in rt.alloc(); b' '; 1_048_576]?;
     let shelf = shelf_of(rt.alloc(), longest, &[])?;
     let text = "signals 0\ninstances 0\nbins 0\n";
-    expect(&rt, shelf, &[], (Status::Done, text))
+    expect(&rt, "check d", shelf, &[], (Status::Done, text))
+}
+
+// The empty design `d`, and a dump `v` of so many blanks.
+fn blank_dump(alloc: Global, size: usize) -> Result<MemShelf, Fail> {
+    let dump = vec![in alloc; b' '; size]?;
+    let mut files = Vec::new(alloc);
+    files.push((String::from_str(alloc, "d")?, Vec::new(alloc)))?;
+    files.push((String::from_str(alloc, "v")?, dump))?;
+    Ok(MemShelf::new(files, Vec::new(alloc)))
+}
+
+#[test]
+fn long_dumps(rt: HostRuntime) -> Result<(), Fail> {
+    let shelf = blank_dump(rt.alloc(), 33_554_433)?;
+    let text = "too long v 33554433\n";
+    expect(
+        &rt,
+        "record d v top t1",
+        shelf,
+        &[],
+        (Status::FileTooLong, text),
+    )?;
+    let shelf = blank_dump(rt.alloc(), 33_554_432)?;
+    let text = "dump refused Syntax 33554432\n";
+    expect(
+        &rt,
+        "record d v top t1",
+        shelf,
+        &[],
+        (Status::DumpRefused, text),
+    )
 }
 
 #[test]
 fn failing_ends(rt: HostRuntime) -> Result<(), Fail> {
     let shelf = shelf_of(rt.alloc(), Vec::new(rt.alloc()), &[0])?;
-    expect(&rt, shelf, &[], (Status::ShelfFault, "cannot read d\n"))?;
+    expect(
+        &rt,
+        "check d",
+        shelf,
+        &[],
+        (Status::ShelfFault, "cannot read d\n"),
+    )?;
     // The third write fails: six bytes were written.
     let shelf = shelf_of(rt.alloc(), Vec::new(rt.alloc()), &[])?;
-    expect(&rt, shelf, &[2], (Status::WriteFault, "signal"))
+    expect(&rt, "check d", shelf, &[2], (Status::WriteFault, "signal"))
 }
