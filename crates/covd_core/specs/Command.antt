@@ -1,6 +1,7 @@
 -- What a command answers: a status and a text, from its words and the files of a shelf. The steps are: words, load of
--- the design, compiling; for `count` load of the record, decoding and shape; for `record` load of the dump, reading it
--- and making its record; then printing. The first step that refuses decides.
+-- the design, compiling; for `count` load of the record, decoding and shape; for `report` the same and admission, record
+-- by record; for `make` the making and the admission of each; for `record` load of the dump, reading it and making its
+-- record; then printing. The first step that refuses decides.
 use Rattle.std.specs.Prelude.{◌≡◌, ◌⊎◌, ℕ, ◌≤◌, List, [], ◌∷◌, length, Option, Some, Result, Ok, Err, codes, zero, suc, ◌+◌, ◌<◌, None}
 use Rattle.cov_spec.specs.Causes.{Rose}
 use Rattle.cov_spec.specs.Told.{Grows, GrowsByFront, Stays}
@@ -96,8 +97,8 @@ pub record HasRecord (files : Files) (name : List ℕ) (d : Design) (r : Record)
   pub encodes : Encodes r bytes
   pub fits : Fits d r
 
--- Why the bytes of the k-th record are none that fits the design, and the line that says so: the first fault at which the bytes are no
--- record, or the first place at which the tables of the record that they are differ from the design's.
+-- Why the bytes of the k-th record are none that fits the design, and the line that says so: the first fault at which the
+-- bytes are no record, or the first place at which the tables of the record that they are differ from the design's.
 abbrev pub IsRefusedText : (k : ℕ) → Design → List ℕ → List ℕ → Type 0
 IsRefusedText k d bytes text =
     ((fault : RecordFault) × HasFault bytes fault × IsFaultText k fault text)
