@@ -1,8 +1,8 @@
 //! The admission of one record.
-ghost use Rattle.std.specs.Prelude.{◌≡◌, IfOk, OnOk, true};
+ghost use Rattle.std.specs.Prelude.{◌≡◌, IfOk, true};
 ghost use Rattle.std.specs.Arc.{arc_value};
 ghost use Rattle.cov_history.specs.Tables.{fits};
-ghost use Rattle.merge_store.specs.Stores.{entries_of};
+ghost use Rattle.merge_store.specs.Stores.{opening_of, entries_of};
 ghost use Rattle.sampler.specs.Shape.{Fits};
 ghost use Rattle.covd_core.specs.Filling.{IsPlain, Admits, IsRefusal};
 
@@ -38,7 +38,7 @@ fn admit_prepared(
 ) -> Result<(), Stop>
     requires plain { IsPlain prepared.under store.old }
     requires fits { fits prepared.under prepared.of ≡ true }
-    ensures plain { OnOk result (IsPlain prepared.under store.new) }
+    ensures opening { opening_of store.new ≡ opening_of store.old }
     ensures admits { Admits prepared.under k (entries_of store.old) prepared.of (entries_of store.new) result }
 {
     let since = store.point();
@@ -58,7 +58,7 @@ pub(crate) fn admit_record(
 ) -> Result<(), Stop>
     requires plain { IsPlain (arc_value design.now) store.old }
     requires fits { Fits (arc_value design.now) rec }
-    ensures plain { OnOk result (IsPlain (arc_value design.now) store.new) }
+    ensures opening { opening_of store.new ≡ opening_of store.old }
     ensures admits { Admits (arc_value design.now) k (entries_of store.old) rec (entries_of store.new) result }
 {
     let prepared = prepare(alloc, design, rec, &OpenGate)?;

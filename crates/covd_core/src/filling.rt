@@ -3,7 +3,7 @@ ghost use Rattle.std.specs.Prelude.{◌≡◌, ◌≤◌, [], length, map, strin
 ghost use Rattle.std.specs.Arc.{arc_value};
 ghost use Rattle.cov_base.specs.Loads.{HasFile};
 ghost use Rattle.cov_ground.specs.Limits.{longest_record};
-ghost use Rattle.merge_store.specs.Stores.{entries_of};
+ghost use Rattle.merge_store.specs.Stores.{opening_of, entries_of};
 ghost use Rattle.covd_core.specs.Filling.{IsPlain, IsUnread, IsDecoded, Takes, IsFilled};
 
 use crate::admitting::admit_record;
@@ -63,7 +63,7 @@ fn take_file<F: Shelf>(
     requires { IsPlain (arc_value design.now) store.old }
     ensures same { F.files shelf.new ≡ F.files shelf.old }
     ensures later { F.faults shelf.old ≤ F.faults shelf.new }
-    ensures plain { OnOk result (IsPlain (arc_value design.now) store.new) }
+    ensures opening { opening_of store.new ≡ opening_of store.old }
     ensures takes { Takes (F.files shelf.old) (F.faults shelf.old) (F.faults shelf.new) (arc_value design.now) k (entries_of store.old) name.now (entries_of store.new) result }
 {
     let bytes = read(alloc, name, shelf)?;

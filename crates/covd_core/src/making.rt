@@ -1,7 +1,7 @@
 //! A store that is filled with records from the generator.
 ghost use Rattle.std.specs.Prelude.{◌≡◌, ◌≤◌, [], IfOk, OnOk};
 ghost use Rattle.std.specs.Arc.{arc_value};
-ghost use Rattle.merge_store.specs.Stores.{entries_of};
+ghost use Rattle.merge_store.specs.Stores.{opening_of, entries_of};
 ghost use Rattle.covd_core.specs.Admission.{full_line};
 ghost use Rattle.covd_core.specs.Filling.{IsLine, IsPlain, IsMade, TakesMade, IsFilledMade};
 
@@ -55,7 +55,7 @@ fn take_made(
     test: u32,
 ) -> Result<(), Stop>
     requires { IsPlain (arc_value design.now) store.old }
-    ensures plain { OnOk result (IsPlain (arc_value design.now) store.new) }
+    ensures opening { opening_of store.new ≡ opening_of store.old }
     ensures takes { TakesMade (arc_value design.now) seed rounds test (entries_of store.old) (entries_of store.new) result }
 {
     let rec = made(alloc, design, seed, rounds, test)?;
