@@ -1,4 +1,5 @@
 use Rattle.std.proofs.Common.{◌≡◌, ◌+◌, ◌∷◌, ℕ, List, map, Result, Ok, Err, sym, ap, subst, ◌∙◌, arith}
+use Rattle.std.proofs.lemmas.Result.{err_from_is_err_and}
 use Rattle.std.specs.Prelude.{string_bytes}
 use Rattle.std.specs.Arc.{arc_value}
 use Rattle.merge_store.specs.Stores.{entries_of}
@@ -21,7 +22,8 @@ returns-in_err-take_file-clause-filled g c =
     let stop = c.in_err-take_file.field-0.0 in
     let e : map string_bytes c.loop-name.rest.now ≡ name ∷ later = ap (map string_bytes) c.in-Some.ensures.cases.0 ∙ (λ i. (sym c.as_str.ensures.value) i ∷ later) in
     let takes : Takes files middle now d (c.loop-name.k + 1) h name after (Err stop) = subst (λ (f : Files). Takes f middle now d (c.loop-name.k + 1) h name after (Err stop)) c.loop-name.invariant.same c.in_err-take_file.ensures.takes in
-    rw c.from_residual.ensures
+    let p = err_from_is_err_and c.from_residual.result c.from_residual.ensures.1 in
+    rw (p.1, p.2)
     (stops files (g.F.Shelf.faults c.args.shelf.now) d (map string_bytes c.args.names.now) (c.loop-name.k + 1) h (map string_bytes c.loop-name.rest.now) c.loop-name.invariant.so_far middle now after name later c.loop-name.invariant.later e stop takes after)
 
 pub loop-name-preserved : goal.loop-name-preserved

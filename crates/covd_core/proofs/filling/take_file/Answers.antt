@@ -1,4 +1,5 @@
 use Rattle.std.proofs.Common.{◌≡◌, ℕ, List, Result, Ok, Err, subst}
+use Rattle.std.proofs.lemmas.Result.{err_from_is_err_and}
 use Rattle.std.specs.Arc.{arc_value}
 use Rattle.design_data.specs.declared.design.Design.{Design}
 use Rattle.record_codec.specs.declared.record.Record.{Record}
@@ -18,7 +19,8 @@ returns-in_err-rec-clause-takes g c =
     let bytes = c.in_ok-bytes.bytes.items in
     let stop = c.in_err-rec.field-0.0 in
     let had = c.in_ok-bytes.ensures.had in
-    rw c.from_residual-in_err-rec.ensures
+    let p = err_from_is_err_and c.from_residual-in_err-rec.result c.from_residual-in_err-rec.ensures.1 in
+    rw (p.1, p.2)
     (undecoded (g.F.Shelf.files c.args.shelf.now) (g.F.Shelf.faults c.args.shelf.now) (g.F.Shelf.faults c.read.new.shelf) d c.args.k (entries_of c.args.store.now) c.args.name.now (entries_of c.args.store.now) bytes had.0 had.1 stop
     (seen c.args.k c.deref.result.now d c.deref-2.result.now bytes (Err stop) c.deref.ensures c.deref-2.ensures.value c.in_err-rec.ensures))
 
@@ -28,7 +30,8 @@ returns-in_err-admit_record-clause-takes g c =
     let bytes = c.in_ok-bytes.bytes.items in
     let stop = c.in_err-admit_record.field-0.0 in
     let had = c.in_ok-bytes.ensures.had in
-    rw c.from_residual-in_err-admit_record.ensures
+    let p = err_from_is_err_and c.from_residual-in_err-admit_record.result c.from_residual-in_err-admit_record.ensures.1 in
+    rw (p.1, p.2)
     (unadmitted (g.F.Shelf.files c.args.shelf.now) (g.F.Shelf.faults c.args.shelf.now) (g.F.Shelf.faults c.read.new.shelf) d c.args.k (entries_of c.args.store.now) c.args.name.now (entries_of c.admit_record.new.store) bytes had.0 had.1 c.in_ok-rec.rec stop
     (seen c.args.k c.deref.result.now d c.deref-2.result.now bytes (Ok c.in_ok-rec.rec) c.deref.ensures c.deref-2.ensures.value c.in_ok-rec.ensures) c.in_err-admit_record.ensures.admits)
 
