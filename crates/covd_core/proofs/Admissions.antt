@@ -87,9 +87,10 @@ module _ (k : ℕ) (h after : List Entry) (e : Entry) (expected : Answer) where
 module _ (d : Design) (s t : Store) (plain : IsPlain d s) (since : ℕ) (now : since ≡ length (entries_of s)) (k : ℕ) (r : Record) where
   pub admitted_is : (a : Admitted) → Makes (entries_of s) (entry_for r) (admit_at (opening_of s) (entries_of s) since (entry_for r) r) (taken_in a) (entries_of t) → Admits d k (entries_of s) r (entries_of t) (Ok tt)
   admitted_is a m =
-      let x = expected_is d s plain since now r in
-      (ap (refusal_line k) (sym x) ∙ free k (entries_of s) (entries_of t) (entry_for r) _ a m,
-      entries k (entries_of s) (entries_of t) (entry_for r) _ a m ∙ ap (λ (y : Answer). entries_of s ++ (if is_made y then entry_for r ∷ [] else [])) x)
+      let x = expected_is d s plain since now r in (
+        ap (refusal_line k) (sym x) ∙ free k (entries_of s) (entries_of t) (entry_for r) _ a m,
+        entries k (entries_of s) (entries_of t) (entry_for r) _ a m ∙ ap (λ (y : Answer). entries_of s ++ (if is_made y then entry_for r ∷ [] else [])) x,
+      )
 
   pub refused_is : (f : AdmitFault) (stop : Stop) → Makes (entries_of s) (entry_for r) (admit_at (opening_of s) (entries_of s) since (entry_for r) r) (refused f) (entries_of t) → IsRefusal k f stop → Admits d k (entries_of s) r (entries_of t) (Err stop)
   refused_is f (Refused a) m i = (ap (refusal_line k) (sym (expected_is d s plain since now r)) ∙ line k (entries_of s) (entries_of t) (entry_for r) _ f a.text.items m i.0, i.1)

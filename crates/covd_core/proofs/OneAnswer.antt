@@ -438,10 +438,13 @@ module _ (d : Design) (seed rounds : ℕ) where
     line_is r q text text' same e f = let g : refusal_line test (admission d h r) ≡ Some text' = ap (λ (x : Record). refusal_line test (admission d h x)) same ∙ f in cc (e, g)
 
     not_made_one : IsOne (NotMade d seed rounds test h)
-    not_made_one s s' text text' a b = (a.0 ∙ sym b.0, elim a.1 [
-      | inl x ↦ elim b.1 [ inl y ↦ too_much_one text text' x y | inr y ↦ absurd (made_within y.0 text y.1 x) ]
-      | inr x ↦ elim b.1 [ inl y ↦ absurd (made_within x.0 text' x.1 y) | inr y ↦ line_is x.0 y.0 text text' (one_made x.0 y.0 x.1 y.1) x.2 y.2 ]
-    ])
+    not_made_one s s' text text' a b = (
+      a.0 ∙ sym b.0,
+      elim a.1 [
+        | inl x ↦ elim b.1 [ inl y ↦ too_much_one text text' x y | inr y ↦ absurd (made_within y.0 text y.1 x) ]
+        | inr x ↦ elim b.1 [ inl y ↦ absurd (made_within x.0 text' x.1 y) | inr y ↦ line_is x.0 y.0 text text' (one_made x.0 y.0 x.1 y.1) x.2 y.2 ]
+      ],
+    )
 
     made_in : (s : Status) (text : List ℕ) (r : Record) → IsMadeRecord r → refusal_line test (admission d h r) ≡ None → NotMade d seed rounds test h s text → ⊥
     made_in s text r e free a = elim a.1 [

@@ -30,12 +30,7 @@ fn refused(alloc: Global, k: u64, fault: AdmitFault) -> Result<Stop, Memory>
 }
 
 /// Admits the k-th record, which is prepared.
-fn admit_prepared(
-    alloc: Global,
-    store: &mut Store,
-    k: u64,
-    prepared: Prepared,
-) -> Result<(), Stop>
+fn admit_prepared(alloc: Global, store: &mut Store, k: u64, prepared: Prepared) -> Result<(), Stop>
     requires plain { IsPlain prepared.under store.old }
     requires fits { fits prepared.under prepared.of ≡ true }
     ensures opening { opening_of store.new ≡ opening_of store.old }

@@ -20,12 +20,7 @@ use sampler::{Plan, counts_under, shape_fits};
 use std::alloc::Global;
 
 /// The answer to the k-th record, which is refused.
-pub(crate) fn refused(
-    alloc: Global,
-    k: u64,
-    kind: &str,
-    number: u64,
-) -> Result<Answer, Memory>
+pub(crate) fn refused(alloc: Global, k: u64, kind: &str, number: u64) -> Result<Answer, Memory>
     ensures { IfOk result (λ a. (a.status ≡ RecordRefused) × (a.text.items ≡ record_refused_text k kind.now number)) }
 {
     let text = record_refused(alloc, k, kind, number)?;

@@ -40,12 +40,7 @@ fn decoded(alloc: Global, k: u64, design: &Design, bytes: &[u8]) -> Result<Recor
     match decode(alloc, bytes) {
         Ok(rec) => match shape_fits(design, &rec) {
             Ok(()) => Ok(rec),
-            Err(wrong) => Err(Stop::Refused(refused(
-                alloc,
-                k,
-                "WrongShape",
-                wrong.at as u64,
-            )?)),
+            Err(wrong) => Err(Stop::Refused(refused(alloc, k, "WrongShape", wrong.at as u64)?)),
         },
         Err(fault) => Err(Stop::Refused(undecoded(alloc, k, fault)?)),
     }

@@ -28,13 +28,7 @@ fn too_much(alloc: Global, test: u32, which: &str, n: u64) -> Result<Stop, Memor
 
 /// The record of a test, where it is within its limits.
 #[tactic(auto, using(crate::proofs::Fillings::too_many, crate::proofs::Fillings::too_long))]
-fn made(
-    alloc: Global,
-    design: &Design,
-    seed: u64,
-    rounds: u32,
-    test: u32,
-) -> Result<Record, Stop>
+fn made(alloc: Global, design: &Design, seed: u64, rounds: u32, test: u32) -> Result<Record, Stop>
     ensures { IsMade design.now seed rounds test result }
 {
     match make_record(alloc, design, seed, rounds, test) {
