@@ -100,6 +100,17 @@ module _ (files : Files) (before now : ℕ) (d : Design) (k : ℕ) (h : List Ent
 
 -- ---- records of files
 
+not_taken_from : (files : Files) (before middle now : ℕ) (d : Design) (k : ℕ) (h : List Entry) (name : List ℕ) (s : Status) (text : List ℕ) → before ≤ middle → NotTaken files middle now d k h name s text → NotTaken files before now d k h name s text
+not_taken_from files before middle now d k h name s text le n = elim n [ inl a ↦ inl (not_loaded files before middle now name longest_record s text le a) | inr a ↦ inr a ]
+
+-- the answer where the count of faults is looked at from an earlier time
+pub fills_from : (files : Files) (before middle now : ℕ) (d : Design) (names : List (List ℕ)) (k : ℕ) (h : List Entry) (s : Status) (text : List ℕ) → before ≤ middle → Fills files middle now d k h names s text → Fills files before now d k h names s text
+fills_from files before middle now d [] k h s text le f = f
+fills_from files before middle now d (name ∷ names) k h s text le f = elim f [
+  | inl a ↦ inl (not_taken_from files before middle now d k h name s text le a)
+  | inr a ↦ inr (a.0, a.1, a.2, fills_from files before middle now d names (k + 1) (behind d h a.0) s text le a.3)
+]
+
 -- what becomes of the records from here on is the answer
 pub record SoFar (files : Files) (before : ℕ) (d : Design) (names : List (List ℕ)) (k : ℕ) (h : List Entry) (rest : List (List ℕ)) : Type 0 where
   pub leads : (now : ℕ) (s : Status) (text : List ℕ) → Fills files before now d k h rest s text → Fills files before now d 1 [] names s text
@@ -117,13 +128,10 @@ module _ (files : Files) (before : ℕ) (d : Design) (names : List (List ℕ)) w
           so.leads last s text (subst (λ (xs : List (List ℕ)). Fills files before last d k h xs s text) (sym e) (inr (t.0, t.1, t.2, g)));
     }
 
-    not_taken : (middle now : ℕ) → before ≤ middle → (name : List ℕ) (s : Status) (text : List ℕ) → NotTaken files middle now d k h name s text → NotTaken files before now d k h name s text
-    not_taken middle now le name s text n = elim n [ inl a ↦ inl (not_loaded files before middle now name longest_record s text le a) | inr a ↦ inr a ]
-
     -- it isn't
     pub stops : (middle now : ℕ) (after : List Entry) (name : List ℕ) (later : List (List ℕ)) → before ≤ middle → rest ≡ name ∷ later → (stop : Stop) → Takes files middle now d k h name after (Err stop) → (last : List Entry) → IsFilled files before now d names last (Err stop)
     stops middle now after name later le e (Refused a) t last =
-        so.leads now a.status a.text.items (subst (λ (xs : List (List ℕ)). Fills files before now d k h xs a.status a.text.items) (sym e) (inl (not_taken middle now le name a.status a.text.items t)))
+        so.leads now a.status a.text.items (subst (λ (xs : List (List ℕ)). Fills files before now d k h xs a.status a.text.items) (sym e) (inl (not_taken_from files before middle now d k h name a.status a.text.items le t)))
     stops middle now after name later le e Memory t last = tt
 
     -- no record is left

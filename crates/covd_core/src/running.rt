@@ -1,5 +1,5 @@
 //! The program's one call.
-ghost use Rattle.std.specs.Prelude.{◌≡◌, ◌≤◌, map, string_bytes, IfOk, MatchOption};
+ghost use Rattle.std.specs.Prelude.{◌≡◌, ◌≤◌, map, string_bytes, IfOk, IfNone, MatchOption};
 ghost use Rattle.covd_core.specs.Command.{FillAnswers, Answers, IsCheckCommand, IsNoCheck, IsCountCommand, IsNoCount, Leaves, HasOneAnswer};
 ghost use Rattle.covd_core.specs.Forms.{IsNoReport, IsNoMake};
 
@@ -59,6 +59,7 @@ fn filled<R: Threads + Sync, F: Shelf>(
     ensures later { F.faults shelf.old ≤ F.faults shelf.new }
     ensures answer { MatchOption result (IsNoReport (map string_bytes words.now) × IsNoMake (map string_bytes words.now))
         (λ done. IfOk done (λ a. FillAnswers (map string_bytes words.now) (F.files shelf.old) (F.faults shelf.old) (F.faults shelf.new) a.status a.text.items)) }
+    ensures untouched { IfNone result (shelf.new ≡ shelf.old) }
 {
     if let Some((design, names)) = report_words(words) {
         return Some(report(rt, alloc, design, names, shelf));
