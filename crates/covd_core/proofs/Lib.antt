@@ -5,6 +5,7 @@ pub mod Had
 pub mod Items
 pub mod Leaving
 pub mod OneAnswer
+pub mod Parsing
 pub mod Records
 pub mod Refusals
 pub mod Trees
