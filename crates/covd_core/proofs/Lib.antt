@@ -10,6 +10,7 @@ pub mod Items
 pub mod Leaving
 pub mod NoForm
 pub mod OneAnswer
+pub mod Parsing
 pub mod Records
 pub mod Refusals
 pub mod Trees

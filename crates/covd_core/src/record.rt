@@ -259,7 +259,7 @@ pub(crate) fn record_dump<F: Shelf>(
 ) -> Result<Answer, Memory>
     ensures same { F.files shelf.new ≡ F.files shelf.old }
     ensures later { F.faults shelf.old ≤ F.faults shelf.new }
-    ensures answer { IfOk result (λ a. Records (F.files shelf.old) (F.faults shelf.old) (F.faults shelf.new) words.design.now words.dump.now words.scope.now words.id.now a.status a.text.items) }
+    ensures answer { IfOk result (λ a. Records (F.files shelf.old) (F.faults shelf.old) (F.faults shelf.new) words.entry.design.now words.entry.dump.now words.entry.scope.now words.entry.id.now a.status a.text.items) }
 {
     let text = match had_text(alloc, words.design, shelf)? {
         HadText::Declared(text) => text,

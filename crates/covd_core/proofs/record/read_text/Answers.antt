@@ -1,5 +1,5 @@
 use Rattle.std.proofs.lemmas.Result.{err_from_is_err_and}
-use Rattle.cov_compile.proofs.Steps.{unelaborated}
+use Rattle.covd_core.proofs.Parsing.{unelaborated}
 use Rattle.covd_core.proofs.record.read_text.Goals as goal
 
 pub returns-in_err-design-clause-fault : goal.returns-in_err-design-clause-fault

@@ -2,7 +2,7 @@ use Rattle.std.proofs.Common.{List, sym, subst}
 use Rattle.std.proofs.lemmas.Result.{err_from_is_err_and}
 use Rattle.cov_lexer.specs.declared.token.Token.{Token}
 use Rattle.cov_lexer.specs.Lexes.{Lexes}
-use Rattle.cov_compile.proofs.Steps.{unlexed, unparsed}
+use Rattle.covd_core.proofs.Parsing.{unlexed, unparsed}
 use Rattle.covd_core.proofs.record.tree_of.Goals as goal
 
 pub returns-in_err-tokens-clause-fault : goal.returns-in_err-tokens-clause-fault
