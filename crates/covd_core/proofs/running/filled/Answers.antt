@@ -7,7 +7,7 @@ pub returns-in-Some-clause-answer : goal.returns-in-Some-clause-answer
 returns-in-Some-clause-answer g c =
     IfOk-weaker c.report.result _ _ (λ a h. inl (c.in-Some.design.now, map string_bytes c.in-Some.names.now, c.in-Some.ensures, h)) c.report.ensures.answer
 
-pub returns-in-Some-2-clause-answer : goal.returns-in-Some-2-clause-answer
-returns-in-Some-2-clause-answer g c =
-    let n = c.in-Some-2.numbers in
-    IfOk-weaker c.make.result _ _ (λ a h. inr (c.in-Some-2.design.now, n.seed, n.rounds, n.tests, c.in-Some-2.ensures, h)) c.make.ensures.answer
+pub returns-in-Some-make_words-clause-answer : goal.returns-in-Some-make_words-clause-answer
+returns-in-Some-make_words-clause-answer g c =
+    let n = c.in-Some-make_words.numbers in
+    IfOk-weaker c.make.result _ _ (λ a h. inr (c.in-Some-make_words.design.now, n.seed, n.rounds, n.tests, c.in-Some-make_words.ensures, h)) c.make.ensures.answer
