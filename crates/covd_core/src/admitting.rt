@@ -7,8 +7,8 @@ ghost use Rattle.sampler.specs.Shape.{Fits};
 ghost use Rattle.covd_core.specs.Filling.{IsPlain, Admits, IsRefusal};
 
 use crate::Status;
-use crate::refusals::{full, id_taken, which_word};
 use crate::stop::Stop;
+use crate::unadmitted::{full, id_taken, which_word};
 use cov_base::{Memory, OpenGate};
 use design_data::Design;
 use merge_store::{AdmitFault, Store};

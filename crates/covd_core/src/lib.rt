@@ -12,12 +12,12 @@ mod loading;
 mod making;
 mod numbers;
 mod record;
-mod refusals;
 mod report;
 mod running;
 mod status;
 mod stop;
 mod texts;
+mod unadmitted;
 mod writing;
 
 pub use cov_compile::{CompileFault, compile};

@@ -8,8 +8,8 @@ ghost use Rattle.covd_core.specs.Filling.{IsLine, IsPlain, IsMade, TakesMade, Is
 use crate::Status;
 use crate::admitting::admit_record;
 use crate::forms::Numbers;
-use crate::refusals::full;
 use crate::stop::Stop;
+use crate::unadmitted::full;
 use cov_base::Memory;
 use design_data::Design;
 use merge_store::Store;
