@@ -16,5 +16,5 @@ pub use Rattle.record_codec.specs.Limits
 pub use Rattle.record_codec.specs.Reading
 pub use Rattle.record_codec.specs.Spelling
 pub use Rattle.sampler.specs.Shape
-pub use Rattle.vcd_reader.specs.Reading
+pub use Rattle.vcd_reader.specs.Reading as DumpReading
 pub use Rattle.vcd_reader.specs.Records

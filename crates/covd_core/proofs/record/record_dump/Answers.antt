@@ -17,7 +17,7 @@ returns-in-Bytes-clause-answer g c =
     let d = c.in-Declared.text.design in
     let file : HasFile files dump c.in-Bytes.bytes.items = subst (λ (f : Files). HasFile f dump c.in-Bytes.bytes.items) c.in_ok-text.ensures.same loaded.0 in
     IfOk-weaker c.record_bytes.result _ _ (λ a h. records files (g.F.Shelf.faults c.args.shelf.now) (g.F.Shelf.faults c.load.new.shelf) c.args.words.design.now dump c.args.words.scope.now c.args.words.id.now tree d c.in-Bytes.bytes.items has file loaded.1 a.status a.text.items
-    (rw (c.deref.ensures.value, c.as_bytes.ensures.value, c.as_bytes-2.ensures.value) at h)) c.record_bytes.ensures
+    (rw (c.deref.ensures.value, c.as_bytes.ensures.value, c.as_bytes-in-Bytes.ensures.value) at h)) c.record_bytes.ensures
 
 pub returns-clause-answer : goal.returns-clause-answer
 returns-clause-answer g c =
