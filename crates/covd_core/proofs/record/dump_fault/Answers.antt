@@ -1,5 +1,6 @@
 use Rattle.std.proofs.Common.{◌≡◌, ℕ, List, Some, sym, subst}
-use Rattle.std.specs.Prelude.{Result, Ok, Err, result_ok, IfOk}
+use Rattle.std.specs.Prelude.{Result, Ok, Err, IfOk}
+use Rattle.std.specs.Result.{result_ok}
 use Rattle.vcd_reader.specs.Refusals.{Fails}
 use Rattle.covd_core.specs.Dumps.{made_of}
 use Rattle.covd_core.proofs.record.dump_fault.Goals as goal
