@@ -9,7 +9,7 @@ returns-in-Some-clause-answer g c = IfOk-weaker c.in-Some.done _ _ (λ a h. inr 
 
 pub returns-in-Some-check_words-clause-answer : goal.returns-in-Some-check_words-clause-answer
 returns-in-Some-check_words-clause-answer g c =
-    let same = c.in-None.ensures.untouched in
+    let same = c.in_default.ensures.untouched in
     let files = g.F.Shelf.files in
     let faults = g.F.Shelf.faults in
     let now = faults c.check.new.shelf in
@@ -18,7 +18,7 @@ returns-in-Some-check_words-clause-answer g c =
 
 pub returns-in-Some-record_words-clause-answer : goal.returns-in-Some-record_words-clause-answer
 returns-in-Some-record_words-clause-answer g c =
-    let same = c.in-None.ensures.untouched in
+    let same = c.in_default.ensures.untouched in
     let files = g.F.Shelf.files in
     let faults = g.F.Shelf.faults in
     let now = faults c.record_dump.new.shelf in
@@ -27,7 +27,7 @@ returns-in-Some-record_words-clause-answer g c =
 
 pub returns-in-Some-count_words-clause-answer : goal.returns-in-Some-count_words-clause-answer
 returns-in-Some-count_words-clause-answer g c =
-    let same = c.in-None.ensures.untouched in
+    let same = c.in_default.ensures.untouched in
     let files = g.F.Shelf.files in
     let faults = g.F.Shelf.faults in
     let now = faults c.count.new.shelf in
