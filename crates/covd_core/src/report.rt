@@ -43,6 +43,28 @@ fn printed<R: Threads + Sync>(rt: &R, alloc: Global, store: &Store) -> Result<An
     })
 }
 
+/// The answer of a store that takes in the records of these files.
+fn filled_into<R: Threads + Sync, F: Shelf>(
+    rt: &R,
+    alloc: Global,
+    design: &Arc<Design>,
+    store: &mut Store,
+    names: &[String],
+    shelf: &mut F,
+) -> Result<Answer, Memory>
+    requires plain { IsPlain (arc_value design.now) store.old }
+    requires fresh { entries_of store.old ≡ [] }
+    ensures same { F.files shelf.new ≡ F.files shelf.old }
+    ensures later { F.faults shelf.old ≤ F.faults shelf.new }
+    ensures answer { IfOk result (λ a. Fills (F.files shelf.old) (F.faults shelf.old) (F.faults shelf.new) (arc_value design.now) 1 [] (map string_bytes names.now) a.status a.text.items) }
+{
+    match fill(alloc, design, store, names, shelf) {
+        Ok(()) => printed(rt, alloc, store),
+        Err(Stop::Refused(answer)) => Ok(answer),
+        Err(Stop::Memory) => Err(Memory),
+    }
+}
+
 /// The answer to the records of these files.
 fn filled<R: Threads + Sync, F: Shelf>(
     rt: &R,
@@ -56,11 +78,7 @@ fn filled<R: Threads + Sync, F: Shelf>(
     ensures answer { IfOk result (λ a. Fills (F.files shelf.old) (F.faults shelf.old) (F.faults shelf.new) design 1 [] (map string_bytes names.now) a.status a.text.items) }
 {
     let (design, mut store) = opened(alloc, design)?;
-    match fill(alloc, &design, &mut store, names, shelf) {
-        Ok(()) => printed(rt, alloc, &store),
-        Err(Stop::Refused(answer)) => Ok(answer),
-        Err(Stop::Memory) => Err(Memory),
-    }
+    filled_into(rt, alloc, &design, &mut store, names, shelf)
 }
 
 /// Loads, compiles, takes the records in and prints the report.
@@ -81,6 +99,25 @@ pub(crate) fn report<R: Threads + Sync, F: Shelf>(
     }
 }
 
+/// The answer of a store that takes in the records of the generator.
+fn made_into<R: Threads + Sync>(
+    rt: &R,
+    alloc: Global,
+    design: &Arc<Design>,
+    store: &mut Store,
+    numbers: Numbers,
+) -> Result<Answer, Memory>
+    requires plain { IsPlain (arc_value design.now) store.old }
+    requires fresh { entries_of store.old ≡ [] }
+    ensures { IfOk result (λ a. FillsMade (arc_value design.now) numbers.seed numbers.rounds 1 [] numbers.tests a.status a.text.items) }
+{
+    match fill_made(alloc, design, store, numbers) {
+        Ok(()) => printed(rt, alloc, store),
+        Err(Stop::Refused(answer)) => Ok(answer),
+        Err(Stop::Memory) => Err(Memory),
+    }
+}
+
 /// The answer to the records of the generator.
 fn made<R: Threads + Sync>(
     rt: &R,
@@ -91,11 +128,7 @@ fn made<R: Threads + Sync>(
     ensures { IfOk result (λ a. FillsMade design numbers.seed numbers.rounds 1 [] numbers.tests a.status a.text.items) }
 {
     let (design, mut store) = opened(alloc, design)?;
-    match fill_made(alloc, &design, &mut store, numbers) {
-        Ok(()) => printed(rt, alloc, &store),
-        Err(Stop::Refused(answer)) => Ok(answer),
-        Err(Stop::Memory) => Err(Memory),
-    }
+    made_into(rt, alloc, &design, &mut store, numbers)
 }
 
 /// Loads, compiles, makes the records, takes them in and prints the report.
