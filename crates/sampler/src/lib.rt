@@ -4,6 +4,8 @@
 
 mod binning;
 mod instance;
+mod labels;
+mod parallel;
 mod plan;
 mod planning;
 mod prepared;
@@ -15,6 +17,7 @@ mod walking;
 
 pub use binning::{bin_record, bin_record_under, counts_under};
 pub use instance::{InstState, ItemState};
+pub use parallel::counts_par_under;
 pub use plan::{InstPlan, ItemPlan, Plan};
-pub use prepared::{Prepared, prepare, prepare_under};
+pub use prepared::{Prepared, bin_record_par, bin_record_par_under, prepare, prepare_under};
 pub use shape::{WrongShape, shape_fits};

@@ -5,6 +5,7 @@ ghost use Rattle.record_codec.specs.Spelling.{spelling};
 ghost use Rattle.sampler.specs.Plans.{IsDesignPlan, IsTallyOf};
 
 use crate::binning::{bin_record, bin_record_under};
+use crate::parallel::tally_par_under;
 use crate::plan::Plan;
 use cov_base::{Gate, Memory};
 use design_data::Design;
@@ -12,6 +13,7 @@ use record_codec::{Record, encode};
 use std::alloc::Global;
 use std::marker::Model;
 use std::sync::Arc;
+use std::thread::Threads;
 use tally::Tally;
 
 /// A record with its encoding and its tally under a design.
@@ -137,4 +139,54 @@ pub fn prepare_under<G: Gate>(
     let tally = bin_record_under(alloc, plan, design, &rec)?;
     gate.pass(2);
     sealed(alloc, design, rec, tally)
+}
+
+/// The record with its encoding and its tally under the design, as `prepare` makes it, binned in as many threads as there
+/// are processors: each takes some of the items over all events. Where there is little to do no thread is started.
+pub fn bin_record_par<R: Threads + Sync, G: Gate>(
+    rt: &R,
+    alloc: Global,
+    design: &Arc<Design>,
+    rec: Record,
+    gate: &G,
+) -> Result<Prepared, Memory>
+    ensures design { IfOk result (λ p. p.under ≡ arc_value design.now) }
+    ensures of { IfOk result (λ p. p.of ≡ rec) }
+{
+    gate.pass(1);
+    let tally = bin_in_threads(rt, alloc, design, &rec)?;
+    gate.pass(2);
+    sealed(alloc, design, rec, tally)
+}
+
+/// The same by what is worked out of the design, for callers that prepare many records under one design.
+pub fn bin_record_par_under<R: Threads + Sync, G: Gate>(
+    rt: &R,
+    alloc: Global,
+    plan: &Plan,
+    design: &Arc<Design>,
+    rec: Record,
+    gate: &G,
+) -> Result<Prepared, Memory>
+    requires { IsDesignPlan (arc_value design.now).instances plan.now }
+    ensures design { IfOk result (λ p. p.under ≡ arc_value design.now) }
+    ensures of { IfOk result (λ p. p.of ≡ rec) }
+{
+    gate.pass(1);
+    let tally = tally_par_under(rt, alloc, plan, design, &rec)?;
+    gate.pass(2);
+    sealed(alloc, design, rec, tally)
+}
+
+/// The tally of a record, counted in threads.
+fn bin_in_threads<R: Threads + Sync>(
+    rt: &R,
+    alloc: Global,
+    design: &Design,
+    rec: &Record,
+) -> Result<Tally, Memory>
+    ensures { IfOk result (λ tally. IsTallyOf design.now rec.now tally) }
+{
+    let plan = Plan::of(alloc, design)?;
+    tally_par_under(rt, alloc, &plan, design, rec)
 }
