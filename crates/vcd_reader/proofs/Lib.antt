@@ -1,4 +1,5 @@
 pub mod Found
+pub mod Unpacked
 pub mod Widths
 pub mod Loops
 pub mod Each

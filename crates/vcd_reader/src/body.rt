@@ -5,7 +5,7 @@ ghost use Rattle.vcd_reader.specs.Body.{is_mark, command, kind_of, steps_of, at_
 
 use crate::fault::Fault;
 use crate::values::is_digit;
-use crate::{Change, DumpStep};
+use crate::{Change, Steps};
 use cov_ground::Memory;
 use cov_tree::List;
 use std::alloc::Global;
@@ -15,7 +15,7 @@ use std::mem;
 #[derive(Drop)]
 pub(crate) struct Body {
     /// The steps before the last.
-    pub(crate) steps: List<DumpStep>,
+    pub(crate) steps: Steps,
     /// Whether there is a last step.
     pub(crate) begun: bool,
     /// The time of the last step.
@@ -101,7 +101,7 @@ impl Body {
         ensures { result ≡ record { steps = []; begun = false; time = 0; changes = [] } }
     {
         Body {
-            steps: List::new(alloc),
+            steps: Steps::new(alloc),
             begun: false,
             time: 0,
             changes: List::new(alloc),
@@ -125,10 +125,7 @@ impl Body {
             return Ok(());
         }
         let changes = mem::replace(&mut self.changes, List::new(alloc));
-        self.steps.push(DumpStep {
-            time: self.time,
-            changes,
-        })?;
+        self.steps.push(alloc, self.time, changes.as_slice())?;
         self.time = time;
         Ok(())
     }
@@ -145,7 +142,7 @@ impl Body {
 
     /// All steps.
     #[tactic(auto, unfolding(crate::specs::Body::steps_of))]
-    pub(crate) fn into_steps(self) -> Result<List<DumpStep>, Memory>
+    pub(crate) fn into_steps(self, alloc: Global) -> Result<Steps, Memory>
         ensures { IfOk result (λ steps. steps ≡ steps_of self) }
     {
         let Body {
@@ -155,7 +152,7 @@ impl Body {
             changes,
         } = self;
         if begun {
-            steps.push(DumpStep { time, changes })?;
+            steps.push(alloc, time, changes.as_slice())?;
         }
         Ok(steps)
     }

@@ -64,7 +64,7 @@ fn filled(
 {
     let start = start_of(alloc, design, dump, id)?;
     let mut builder = begin(alloc, start)?;
-    push_events(alloc, plan, dump.steps.as_slice(), &mut builder)?;
+    push_events(alloc, plan, &dump.steps, &mut builder)?;
     Ok(builder)
 }
 

@@ -340,7 +340,7 @@ impl Reading {
     }
 
     /// The dump that was read, where the text may end here.
-    fn finish(self) -> Result<Dump, Fault>
+    fn finish(self, alloc: Global) -> Result<Dump, Fault>
         ensures { Gives result (ended self) }
     {
         let Reading {
@@ -351,7 +351,7 @@ impl Reading {
         } = self;
         match expected {
             Expected::Statement => {
-                let steps = body.into_steps()?;
+                let steps = body.into_steps(alloc)?;
                 Ok(Dump {
                     vars: header.vars,
                     steps,
@@ -401,7 +401,7 @@ fn whole(alloc: Global, bytes: &[u8]) -> Result<Dump, Fault>
 {
     let mut all = Reading::new(alloc);
     read_words(alloc, bytes, &mut all)?;
-    all.finish()
+    all.finish(alloc)
 }
 
 /// The place where so many bytes are left, counted from the front.

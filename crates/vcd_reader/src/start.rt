@@ -2,7 +2,8 @@
 ghost use Rattle.std.specs.Prelude.{◌≡◌, map, slice_get, IfOk};
 ghost use Rattle.vcd_reader.specs.Starting.{signal_row, group_name, instance_row, last_time, start_of};
 
-use crate::{Dump, DumpStep};
+use crate::packing::next_step;
+use crate::{Dump, Steps};
 use cov_ground::Memory;
 use cov_tree::{List, Name};
 use design_data::{Design, GroupInfo, InstInfo, Signal};
@@ -71,16 +72,16 @@ fn instance_rows(
 }
 
 /// The time of the last step, or 0.
-fn last_time(steps: &[DumpStep]) -> u64
-    ensures { result ≡ last_time 0 steps.now }
+fn last_time(alloc: Global, steps: &Steps) -> Result<u64, Memory>
+    ensures { IfOk result (λ time. time ≡ last_time 0 steps.now) }
 {
     let mut time = 0;
-    let mut rest = steps;
-    while let Some((step, later)) = rest.split_first() {
+    let mut rest = steps.packed();
+    while let Some((step, later)) = next_step(alloc, rest)? {
         time = step.time;
         rest = later;
     }
-    time
+    Ok(time)
 }
 
 /// What the record says before its events.
@@ -100,7 +101,7 @@ pub(crate) fn start_of(
         id: id.copy(alloc)?,
         status: 0,
         seed: 0,
-        time: last_time(dump.steps.as_slice()),
+        time: last_time(alloc, &dump.steps)?,
         user: Name::of(alloc, b"vcd")?,
         signals,
         instances,

@@ -4,12 +4,14 @@ ghost use Rattle.std.specs.List.{AllByRecursion};
 ghost use Rattle.cov_ground.specs.Limits.{most_signals, most_instances};
 ghost use Rattle.vcd_reader.specs.Held.{unknown, shown, applied};
 ghost use Rattle.vcd_reader.specs.Moments.{moment_of, table_events, events_of};
+ghost use Rattle.vcd_reader.specs.Packing.{steps_in};
 ghost use Rattle.vcd_reader.specs.Pushing.{Pushed};
 
 use crate::held::{Held, UNKNOWN, apply};
 use crate::moments::{Step, moment};
+use crate::packing::next_step;
 use crate::watching::Watch;
-use crate::{Change, DumpStep};
+use crate::{Change, Steps};
 use cov_ground::Memory;
 use cov_tree::List;
 use record_codec::{Event, RecordBuilder, SignalRow};
@@ -88,17 +90,17 @@ fn push(builder: &mut RecordBuilder, event: Event) -> Result<(), Memory>
 pub(crate) fn walk_steps(
     alloc: Global,
     plan: &Plan,
-    steps: &[DumpStep],
+    steps: &[u8],
     walk: &mut Walk,
     builder: &mut RecordBuilder,
 ) -> Result<(), Memory>
     requires events { length plan.now.events ≤ most_instances }
     requires signals { length plan.now.codes ≤ most_signals }
     requires tables { walk.old.before.items ≡ walk.old.after.items }
-    ensures { OnOk result (Pushed builder.old builder.new (table_events plan.now.rows plan.now.codes plan.now.events walk.old.last.items walk.old.before.items steps.now)) }
+    ensures { OnOk result (Pushed builder.old builder.new (table_events plan.now.rows plan.now.codes plan.now.events walk.old.last.items walk.old.before.items (steps_in steps.now))) }
 {
     let mut rest = steps;
-    while let Some((step, later)) = rest.split_first() {
+    while let Some((step, later)) = next_step(alloc, rest)? {
         let made = step_events(alloc, plan, step.changes.as_slice(), walk)?;
         push_all(builder, made)?;
         rest = later;
@@ -171,14 +173,14 @@ fn walk_behind(alloc: Global, codes: &[u32], len: usize, changes: &[Change]) -> 
 pub(crate) fn push_events(
     alloc: Global,
     plan: &Plan,
-    steps: &[DumpStep],
+    steps: &Steps,
     builder: &mut RecordBuilder,
 ) -> Result<(), Memory>
     requires events { length plan.now.events ≤ most_instances }
     requires signals { length plan.now.codes ≤ most_signals }
     ensures { OnOk result (Pushed builder.old builder.new (events_of plan.now.rows plan.now.codes plan.now.events steps.now)) }
 {
-    let Some((step, later)) = steps.split_first() else {
+    let Some((step, later)) = next_step(alloc, steps.packed())? else {
         return Ok(());
     };
     let codes = plan.codes.as_slice();

@@ -1,11 +1,12 @@
 use Rattle.std.proofs.Common.{◌≡◌, length}
+use Rattle.vcd_reader.specs.Packing.{steps_in}
 use Rattle.vcd_reader.specs.Moments.{table_events}
 use Rattle.vcd_reader.proofs.Pushes.{SoFar}
 use Rattle.vcd_reader.proofs.walking.walk_steps.Given as goal
 
 abbrev pub invariant-loop-step : goal.invariant-loop-step
 invariant-loop-step l = record {
-  so_far : SoFar l.initial.builder l.builder (table_events l.plan.rows l.plan.codes l.plan.events l.walk.last.items l.walk.before.items l.rest) (table_events l.plan.rows l.plan.codes l.plan.events l.initial.walk.last.items l.initial.walk.before.items l.steps);
+  so_far : SoFar l.initial.builder l.builder (table_events l.plan.rows l.plan.codes l.plan.events l.walk.last.items l.walk.before.items (steps_in l.rest)) (table_events l.plan.rows l.plan.codes l.plan.events l.initial.walk.last.items l.initial.walk.before.items (steps_in l.steps));
   tables : l.walk.before.items ≡ l.walk.after.items;
 }
 
