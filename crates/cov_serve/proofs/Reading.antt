@@ -1,11 +1,13 @@
 -- What words say, and their form.
-use Rattle.std.proofs.Common.{◌≡◌, ◌∙◌, ap, sym, refl, ℕ, ◌+◌, List, [], ◌∷◌, ◌++◌, Option, Some, None, Bool, true, false, arith}
-use Rattle.std.specs.Prelude.{codes, option_map, if◌then◌else◌}
+use Rattle.std.proofs.Common.{◌≡◌, ◌∙◌, ap, sym, refl, ℕ, ◌+◌, List, [], ◌∷◌, ◌++◌, Option, Some, None, Bool, true, false, arith, length, length-append, subst, ◌<◌, ◌≤◌}
+use Rattle.std.specs.Prelude.{codes, option_map, IfSome, map, string_bytes, String, if◌then◌else◌}
+use Rattle.std.proofs.lemmas.List.{length-map}
+use Rattle.std.specs.Global.{Global}
 use Rattle.std.specs.Str.{bytes_eq}
 use Rattle.std.proofs.lemmas.Slice.Eq.{bytes_eq-Decides}
 use Rattle.cov_serve.specs.declared.words.ServeWords.{ServeWords}
 use Rattle.cov_serve.specs.Seats.{seats_of}
-use Rattle.cov_serve.specs.Words.{behind, readers_behind, readers_of, journal_behind, journal_of, placed, seated, flags_behind, listened, designed, served_by}
+use Rattle.cov_serve.specs.Words.{IsWithin, behind, readers_behind, readers_of, journal_behind, journal_of, placed, seated, flags_behind, listened, designed, served_by}
 use Rattle.cov_serve.specs.Forms.{flag_with, words_of, place_of, IsSeats, IsServe}
 
 -- ---- from the form
@@ -154,3 +156,36 @@ designed_by words w (Some p) is e = listened_by words p.1 p.0 w (behind (codes "
 
 pub to_form : (words : List (List ℕ)) (w : ServeWords) → served_by words ≡ Some w → IsServe words w
 to_form words w e = designed_by words w (behind (codes "serve") words) refl e
+
+-- ---- places within the words
+
+flag_long : (flag : List ℕ) (o : Option (List ℕ)) → length (flag_with flag o) ≡ words_of o
+flag_long flag None = refl
+flag_long flag (Some value) = refl
+
+form_long : (words : List (List ℕ)) (w : ServeWords) (f : IsServe words w) → length words ≡ 4 + words_of f.seats + words_of f.journal + words_of f.readers
+form_long words w f =
+  let s = flag_with (codes "--seats") f.seats in
+  let j = flag_with (codes "--journal") f.journal in
+  let r = flag_with (codes "--readers") f.readers in
+  let whole : length words ≡ 4 + length (s ++ (j ++ r)) = ap length f.form ∙ omega arith in
+  omega (arith, whole, length-append s (j ++ r), length-append j r, flag_long (codes "--seats") f.seats, flag_long (codes "--journal") f.journal, flag_long (codes "--readers") f.readers)
+
+place_low : (at n : ℕ) (o : Option (List ℕ)) → at + words_of o ≤ n → IfSome (place_of at o) (λ p. p < n)
+place_low at n None low = tt
+place_low at n (Some value) low = omega arith
+
+pub within : (words : List (List ℕ)) (w : ServeWords) → served_by words ≡ Some w → IsWithin (length words) w
+within words w e =
+  let f = to_form words w e in
+  let long = form_long words w f in
+  record {
+    design = omega (arith, long, f.design_at);
+    listen = omega (arith, long, f.listen_at);
+    journal = subst (λ (o : Option ℕ). IfSome o (λ p. p < length words)) (sym f.journal_at) (place_low (4 + words_of f.seats) (length words) f.journal (omega (arith, long)));
+    readers = subst (λ (o : Option ℕ). IfSome o (λ p. p < length words)) (sym f.readers_at) (place_low (4 + words_of f.seats + words_of f.journal) (length words) f.readers (omega (arith, long)));
+  }
+
+pub all_within : (words : List (String Global)) (o : Option ServeWords) → o ≡ served_by (map string_bytes words) → IfSome o (IsWithin (length words))
+all_within words None e = tt
+all_within words (Some w) e = subst (λ n. IsWithin n w) (length-map words string_bytes) (within (map string_bytes words) w (sym e))

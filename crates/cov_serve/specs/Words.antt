@@ -1,5 +1,5 @@
 -- What the words of `covd serve` say, word by word.
-use Rattle.std.specs.Prelude.{ℕ, ◌+◌, List, [], ◌∷◌, Option, Some, None, codes, option_map, if◌then◌else◌}
+use Rattle.std.specs.Prelude.{ℕ, ◌+◌, ◌<◌, List, [], ◌∷◌, Option, Some, None, IfSome, codes, option_map, if◌then◌else◌}
 use Rattle.std.specs.Str.{bytes_eq}
 use Rattle.cov_serve.specs.declared.words.ServeWords.{ServeWords}
 use Rattle.cov_serve.specs.Seats.{seats_of}
@@ -55,3 +55,10 @@ designed (Some p) = listened (behind (codes "--listen") p.1)
 -- all words
 abbrev pub served_by : List (List ℕ) → Option ServeWords
 served_by words = designed (behind (codes "serve") words)
+
+-- the places are those of words
+pub record IsWithin (count : ℕ) (w : ServeWords) : Type 0 where
+  pub design : w.design < count
+  pub listen : w.listen < count
+  pub journal : IfSome w.journal (λ at. at < count)
+  pub readers : IfSome w.readers (λ at. at < count)

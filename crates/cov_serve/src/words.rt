@@ -1,6 +1,6 @@
 //! The words, and which of them is what.
-ghost use Rattle.std.specs.Prelude.{◌≡◌, ◌≤◌, map, option_map, string_bytes};
-ghost use Rattle.cov_serve.specs.Words.{behind, readers_of, journal_of, flags_of, served_by};
+ghost use Rattle.std.specs.Prelude.{◌≡◌, ◌≤◌, length, map, option_map, string_bytes, IfSome};
+ghost use Rattle.cov_serve.specs.Words.{behind, readers_of, journal_of, flags_of, served_by, IsWithin};
 
 use crate::seats::seats;
 
@@ -84,13 +84,21 @@ fn flags(words: &[String]) -> Option<ServeWords>
     })
 }
 
-/// What the words say. They are `serve DESIGN --listen ADDR`, then `--seats N` or nothing, then `--journal FILE` or
-/// nothing, then `--readers ADDR` or nothing; N is 1 to 256 by one to three digits, and 16 where it isn't given. None
-/// where the words are of none of these forms. It takes no memory.
-pub fn serve_words(words: &[String]) -> Option<ServeWords>
+// What the words say.
+fn said(words: &[String]) -> Option<ServeWords>
     ensures { result ≡ served_by (map string_bytes words.now) }
 {
     let (_, rest) = flagged("serve", words)?;
     let (_, rest) = flagged("--listen", rest)?;
     flags(rest)
+}
+
+/// What the words say. They are `serve DESIGN --listen ADDR`, then `--seats N` or nothing, then `--journal FILE` or
+/// nothing, then `--readers ADDR` or nothing; N is 1 to 256 by one to three digits, and 16 where it isn't given. None
+/// where the words are of none of these forms. It takes no memory.
+pub fn serve_words(words: &[String]) -> Option<ServeWords>
+    ensures words { result ≡ served_by (map string_bytes words.now) }
+    ensures within { IfSome result (IsWithin (length words.now)) }
+{
+    said(words)
 }
