@@ -165,11 +165,11 @@ flag_long flag (Some value) = refl
 
 form_long : (words : List (List ℕ)) (w : ServeWords) (f : IsServe words w) → length words ≡ 4 + words_of f.seats + words_of f.journal + words_of f.readers
 form_long words w f =
-  let s = flag_with (codes "--seats") f.seats in
-  let j = flag_with (codes "--journal") f.journal in
-  let r = flag_with (codes "--readers") f.readers in
-  let whole : length words ≡ 4 + length (s ++ (j ++ r)) = ap length f.form ∙ omega arith in
-  omega (arith, whole, length-append s (j ++ r), length-append j r, flag_long (codes "--seats") f.seats, flag_long (codes "--journal") f.journal, flag_long (codes "--readers") f.readers)
+    let s = flag_with (codes "--seats") f.seats in
+    let j = flag_with (codes "--journal") f.journal in
+    let r = flag_with (codes "--readers") f.readers in
+    let whole : length words ≡ 4 + length (s ++ (j ++ r)) = ap length f.form ∙ omega arith in
+    omega (arith, whole, length-append s (j ++ r), length-append j r, flag_long (codes "--seats") f.seats, flag_long (codes "--journal") f.journal, flag_long (codes "--readers") f.readers)
 
 place_low : (at n : ℕ) (o : Option (List ℕ)) → at + words_of o ≤ n → IfSome (place_of at o) (λ p. p < n)
 place_low at n None low = tt
@@ -177,14 +177,14 @@ place_low at n (Some value) low = omega arith
 
 pub within : (words : List (List ℕ)) (w : ServeWords) → served_by words ≡ Some w → IsWithin (length words) w
 within words w e =
-  let f = to_form words w e in
-  let long = form_long words w f in
-  record {
-    design = omega (arith, long, f.design_at);
-    listen = omega (arith, long, f.listen_at);
-    journal = subst (λ (o : Option ℕ). IfSome o (λ p. p < length words)) (sym f.journal_at) (place_low (4 + words_of f.seats) (length words) f.journal (omega (arith, long)));
-    readers = subst (λ (o : Option ℕ). IfSome o (λ p. p < length words)) (sym f.readers_at) (place_low (4 + words_of f.seats + words_of f.journal) (length words) f.readers (omega (arith, long)));
-  }
+    let f = to_form words w e in
+    let long = form_long words w f in
+    record {
+      design = omega (arith, long, f.design_at);
+      listen = omega (arith, long, f.listen_at);
+      journal = subst (λ (o : Option ℕ). IfSome o (λ p. p < length words)) (sym f.journal_at) (place_low (4 + words_of f.seats) (length words) f.journal (omega (arith, long)));
+      readers = subst (λ (o : Option ℕ). IfSome o (λ p. p < length words)) (sym f.readers_at) (place_low (4 + words_of f.seats + words_of f.journal) (length words) f.readers (omega (arith, long)));
+    }
 
 pub all_within : (words : List (String Global)) (o : Option ServeWords) → o ≡ served_by (map string_bytes words) → IfSome o (IsWithin (length words))
 all_within words None e = tt

@@ -1,6 +1,7 @@
 pub mod Columns
 pub mod Command
 pub mod Lines
+pub mod Starts
 pub mod Statuses
 pub mod Steps
 pub use Rattle.cov_base.specs.Loads

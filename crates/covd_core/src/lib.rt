@@ -7,13 +7,16 @@ mod count;
 mod lines;
 mod loading;
 mod running;
+mod serving;
 mod status;
 mod texts;
 mod writing;
 
-pub use cov_compile::{CompileFault, compile};
+pub use cov_compile::{CompileFault, Compiled, compile};
+pub use cov_serve::{ServeWords, serve_words};
 pub use loading::{Refusal, refusal_of};
 pub use running::run;
+pub use serving::serve_start;
 pub use status::Status;
 
 #[cfg(test)]

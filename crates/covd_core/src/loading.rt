@@ -159,7 +159,7 @@ pub fn refusal_of(fault: CompileFault) -> Option<Refusal>
 }
 
 // The answer to a text that is not compiled.
-fn uncompiled(alloc: Global, fault: CompileFault) -> Result<Answer, Memory>
+pub(crate) fn uncompiled(alloc: Global, fault: CompileFault) -> Result<Answer, Memory>
     ensures { IfOk result (λ a. (a.status ≡ DesignRefused) × IsDesignFaultText fault a.text.items) }
 {
     match refusal_of(fault) {
