@@ -78,7 +78,7 @@ pub served_later : (opening : Design) (caller : ℕ) (seen h after : List Entry)
     → (after ≡ h → own_after ≡ own) → ((e : Entry) → after ≡ h ++ e ∷ [] → own_after ≡ own ++ (length h, e) ∷ [])
     → PortTurn opening seen own after own_after caller a given to
 served_later opening caller seen h after own own_after a given to faults now s p point same more =
-  turn_later opening seen h after own own_after caller a given to p
+    turn_later opening seen h after own own_after caller a given to p
     (served_turn opening caller h after own own_after a given to faults now s point (record { same = same; more = λ e is. more e }))
 
 pub grown_by : (opening : Design) (caller : ℕ) (h after : List Entry) (a : At) (given : Answer) (faults now : ℕ) → ServesOrStops opening caller h a given after faults now → Grown h after

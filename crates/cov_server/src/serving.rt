@@ -35,10 +35,18 @@ pub fn serve_connection<C: Core, L: Link, R: Threads + Wait + Sync, G: Gate>(
     // The number, the free seats and the numbers left stay.
     ensures same { IsSame seat result.0 }
     ensures session { Session (opening_of C.base shared.now) (number_of seat) (2 ^ 40)
-        (record { left = L.left link.old; written = L.written link.old;
-            seen = seen seat; own = own C.number seat })
-        (record { left = L.left link.new; written = L.written link.new;
-            seen = seen result.0; own = own C.number result.0 })
+        (record {
+          left = L.left link.old;
+          written = L.written link.old;
+          seen = seen seat;
+          own = own C.number seat;
+        })
+        (record {
+          left = L.left link.new;
+          written = L.written link.new;
+          seen = seen result.0;
+          own = own C.number result.0;
+        })
         result.1 }
     ensures begins { Grown (seen seat) (seen result.0) }
     ensures legal { is_legal (opening_of C.base shared.now) (seen result.0) ≡ true }
@@ -51,7 +59,7 @@ pub fn serve_connection<C: Core, L: Link, R: Threads + Wait + Sync, G: Gate>(
     // Nothing was read, written or entered.
     ensures early { result.1 ≡ Ended.Memory
         → (seen result.0 ≡ seen seat) × (own C.number result.0 ≡ own C.number seat)
-            × (link.new ≡ link.old) }
+        × (link.new ≡ link.old) }
 {
     let mut port = SharedPort::new(rt, shared, seat);
     let ended = session(rt, alloc, &shared.design, &mut port, link, gate, MOST);
