@@ -4,7 +4,8 @@ use Rattle.std.specs.Prelude.{Option, Some, None, Result, Ok, Err}
 use Rattle.design_data.specs.declared.design.Design.{Design}
 use Rattle.ucis_model.specs.declared.answers.Answer.TheVariants as answer
 use Rattle.cov_history.specs.declared.entry.Entry.{Entry}
-use Rattle.cov_history.specs.Turns.{Wish, Grown}
+use Rattle.cov_history.specs.declared.asks.Ask.{Ask}
+use Rattle.cov_history.specs.Turns.{Wish, Plain, Grown}
 use Rattle.upload_stage.specs.Uploads.{Upload}
 use Rattle.cov_proto.specs.declared.requests.Request.{Request}
 use Rattle.cov_proto.specs.declared.requests.Request.TheVariants as request
@@ -97,3 +98,8 @@ wants_says opening caller seen own from b said le w point is writable bye =
     body_says opening caller seen own seen own from b (Ok w.request) said _ w.is
     (lacks_replies opening caller seen own from (Ok w.request) from.stage said.reply _ le (text_lost from.stage w.request w.text) point is writable refl)
     (bye ∙ text_goes_on w.request w.text)
+
+-- a request that is asked as it stands
+pub asked_replies : (opening : Design) (caller : ℕ) (seen : List Entry) (own : List (ℕ × Entry)) (after : List Entry) (own_after : List (ℕ × Entry)) (from : Place) (r : Request) (a : Ask) (reply : Reply) (to : Place)
+    → IsRow opening from.stage (Ok r) (record { said = inr (Plain a); stage = from.stage }) → Rowed opening caller seen own after own_after from (inr (Plain a)) from.stage (lost from.stage (Ok r)) reply to → Replies opening caller seen own after own_after from (Ok r) reply to
+asked_replies opening caller seen own after own_after from r a reply to is p = rowed_replies opening caller seen own after own_after from (Ok r) (record { said = inr (Plain a); stage = from.stage }) reply to is p

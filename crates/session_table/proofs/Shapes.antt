@@ -58,22 +58,14 @@ fits_of d r f = both_true _ _
 
 -- ---- the tables of two designs
 
-mapped_none : (o : Option ℕ) → option_map suc o ≡ None → o ≡ None
-mapped_none None e = refl
-mapped_none (Some n) e = absurd cc
-
-pub apart_agree : {A : Type 0} (same : A → A → Bool) (xs ys : List A) → agree same xs ys ≡ is_none (apart same xs ys)
-apart_agree same [] [] = refl
-apart_agree same [] (y ∷ ys) = refl
-apart_agree same (x ∷ xs) [] = refl
-apart_agree same (x ∷ xs) (y ∷ ys) = by (same x y) (apart_agree same xs ys)
+pub apart_agree : {A : Type 0} (same : A → A → Bool) (place : ℕ) (xs ys : List A) → agree same xs ys ≡ is_none (apart same place xs ys)
+apart_agree same place [] [] = refl
+apart_agree same place [] (y ∷ ys) = refl
+apart_agree same place (x ∷ xs) [] = refl
+apart_agree same place (x ∷ xs) (y ∷ ys) = by (same x y) (apart_agree same (place + 1) xs ys)
   where
-    mapped : (o : Option ℕ) → is_none o ≡ is_none (option_map suc o)
-    mapped None = refl
-    mapped (Some n) = refl
-
-    by : (b : Bool) → agree same xs ys ≡ is_none (apart same xs ys) → (b && agree same xs ys) ≡ is_none (if b then option_map suc (apart same xs ys) else Some 0)
-    by true e = e ∙ mapped (apart same xs ys)
+    by : (b : Bool) → agree same xs ys ≡ is_none (apart same (place + 1) xs ys) → (b && agree same xs ys) ≡ is_none (if b then apart same (place + 1) xs ys else Some place)
+    by true e = e
     by false e = refl
 
 nowhere : (signals : Option ℕ) (count : ℕ) (instances : Option ℕ) → first_place signals count instances ≡ None → (signals ≡ None) × (instances ≡ None)
@@ -85,18 +77,7 @@ nowhere None count None e = (refl, refl)
 pub same_of : (opening new : Design) → tables_apart opening new ≡ None → same_tables new opening ≡ true
 unfolding tables_apart same_tables
 same_of opening new e =
-    let n = nowhere (apart same_signal new.signals opening.signals) (length opening.signals) (apart (same_instance new.groups opening.groups) new.instances opening.instances) e in
+    let n = nowhere (apart same_signal 0 new.signals opening.signals) (length opening.signals) (apart (same_instance new.groups opening.groups) 0 new.instances opening.instances) e in
     both_true _ _
-    (apart_agree same_signal new.signals opening.signals ∙ ap is_none n.0)
-    (apart_agree (same_instance new.groups opening.groups) new.instances opening.instances ∙ ap is_none n.1)
-
--- ---- one element more that agrees
-
--- where the lists agree on their first elements, they are apart where the rest is
-pub apart_more : {A : Type 0} (same : A → A → Bool) (k : ℕ) (whole : Option ℕ) (x y : A) (xs ys : List A) → whole ≡ option_map (λ n. k + n) (apart same (x ∷ xs) (y ∷ ys)) → same x y ≡ true → whole ≡ option_map (λ n. (k + 1) + n) (apart same xs ys)
-apart_more same k whole x y xs ys e agrees =
-    e ∙ (ap (λ b. option_map (λ n. k + n) (if b then option_map suc (apart same xs ys) else Some 0)) agrees ∙ moved (apart same xs ys))
-  where
-    moved : (o : Option ℕ) → option_map (λ n. k + n) (option_map suc o) ≡ option_map (λ n. (k + 1) + n) o
-    moved None = refl
-    moved (Some n) = ap Some (omega arith)
+    (apart_agree same_signal 0 new.signals opening.signals ∙ ap is_none n.0)
+    (apart_agree (same_instance new.groups opening.groups) 0 new.instances opening.instances ∙ ap is_none n.1)

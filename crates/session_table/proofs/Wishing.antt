@@ -67,8 +67,8 @@ abbrev pub IsTo : ℕ → Ask → Type 0
 IsTo at a = since_of a at ≤ at
 
 pub since_high : (opening : Design) (h : List Entry) (at : ℕ) (a : Call) → Meets opening h a → length h ≤ at → IsTo at (asked a)
-since_high opening h at (call.Admit since p) m le = omega (arith, m.since)
-since_high opening h at (call.Revise r) m le = omega (arith, m.since)
+since_high opening h at (call.Admit since p) m le = omega (arith, m.reached)
+since_high opening h at (call.Revise r) m le = omega (arith, m.reached)
 since_high opening h at (call.Hello point) m le = omega arith
 since_high opening h at (call.Counts first path) m le = omega arith
 since_high opening h at (call.Coverage path) m le = omega arith

@@ -1,5 +1,5 @@
 -- What the bytes of an upload are beside the opening design: a record for a Commit, or a design text for a Revise.
-use Rattle.std.specs.Prelude.{◌≡◌, ◌⊎◌, ℕ, zero, suc, ◌+◌, ◌<◌, ◌≤◌, List, [], ◌∷◌, length, Option, Some, None, option_map, Result, Ok, Err, Bool, true, ⊤, if◌then◌else◌}
+use Rattle.std.specs.Prelude.{◌≡◌, ◌⊎◌, ℕ, ◌+◌, ◌<◌, ◌≤◌, List, [], ◌∷◌, length, Option, Some, None, Result, Ok, Err, Bool, if◌then◌else◌}
 use Rattle.cov_ground.specs.Limits.{longest_design}
 use Rattle.design_data.specs.declared.design.Design.{Design}
 use Rattle.record_codec.specs.declared.record.Record.{Record}
@@ -15,12 +15,12 @@ use Rattle.cov_history.specs.Tables.{same_signal, same_instance}
 
 -- ---- the tables of two designs
 
--- the first place at which two lists differ, where one of them may have no element
-abbrev pub apart : {A : Type 0} → (same : A → A → Bool) → List A → List A → Option ℕ
-apart same [] [] = None
-apart same [] (y ∷ ys) = Some 0
-apart same (x ∷ xs) [] = Some 0
-apart same (x ∷ xs) (y ∷ ys) = if same x y then option_map suc (apart same xs ys) else Some 0
+-- the first place at which two lists differ, where one of them may have no element; the first elements have this place
+abbrev pub apart : {A : Type 0} → (same : A → A → Bool) → (place : ℕ) → List A → List A → Option ℕ
+apart same place [] [] = None
+apart same place [] (y ∷ ys) = Some place
+apart same place (x ∷ xs) [] = Some place
+apart same place (x ∷ xs) (y ∷ ys) = if same x y then apart same (place + 1) xs ys else Some place
 
 -- a place among signals, or else one among instances, counted on after so many signals
 abbrev pub first_place : (signals : Option ℕ) → (count : ℕ) → (instances : Option ℕ) → Option ℕ
@@ -32,7 +32,7 @@ first_place None count (Some place) = Some (count + place)
 -- that of an instance, counted on after the opening design's signals.
 unfoldable pub tables_apart : (opening new : Design) → Option ℕ
 tables_apart opening new =
-    first_place (apart same_signal new.signals opening.signals) (length opening.signals) (apart (same_instance new.groups opening.groups) new.instances opening.instances)
+    first_place (apart same_signal 0 new.signals opening.signals) (length opening.signals) (apart (same_instance new.groups opening.groups) 0 new.instances opening.instances)
 
 -- ---- records
 

@@ -6,3 +6,4 @@ pub mod Serves
 pub mod Says
 pub mod Alone
 pub mod Writable
+pub mod Laws

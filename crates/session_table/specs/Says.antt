@@ -1,5 +1,5 @@
 -- What one body leads to, over a history that grows.
-use Rattle.std.specs.Prelude.{◌≡◌, ◌⊎◌, ℕ, ◌≤◌, List, ◌++◌, length, Option, Some, Result, Ok, Err, Bool, true, false, ⊥}
+use Rattle.std.specs.Prelude.{◌≡◌, ◌⊎◌, ℕ, ◌≤◌, List, ◌++◌, length, Option, Some, Result, Ok, Err, Bool, true, false}
 use Rattle.std.proofs.Common.{inl, inr}
 use Rattle.std.specs.Global.{Vec}
 use Rattle.design_data.specs.declared.design.Design.{Design}

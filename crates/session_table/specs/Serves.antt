@@ -1,5 +1,5 @@
 -- A session over its list of bodies.
-use Rattle.std.specs.Prelude.{◌≡◌, ◌⊎◌, ℕ, ◌≤◌, List, [], ◌∷◌, ◌++◌, length, Option, Some, Result, ⊥}
+use Rattle.std.specs.Prelude.{◌≡◌, ◌⊎◌, ℕ, ◌≤◌, List, [], ◌∷◌, ◌++◌, length, Option, Some, Result}
 use Rattle.std.proofs.Common.{inl, inr}
 use Rattle.design_data.specs.declared.design.Design.{Design}
 use Rattle.ucis_model.specs.declared.answers.Answer.{Answer}

@@ -7,11 +7,10 @@ ghost use Rattle.session_table.specs.Says.{Says, place_of};
 use crate::turning::answer_request;
 use crate::{Port, Talk};
 use cov_base::Gate;
-use cov_proto::{Body, Reply, Request, RequestFault, read_request};
+use cov_proto::{Reply, Request, RequestFault, read_request};
 use design_data::Design;
 use std::alloc::Global;
 use std::thread::Threads;
-use ucis_model::Answer;
 
 /// A reply, and whether it is the last.
 #[derive(Drop)]
@@ -56,11 +55,11 @@ pub fn answer<P: Port, R: Threads + Sync, G: Gate>(
             Said { reply, bye }
         }
         Err(RequestFault::BadMessage { at }) => {
-            let reply = talk.says(Body::BadMessage { at });
+            let reply = talk.bad_message(at);
             Said { reply, bye: false }
         }
         Err(RequestFault::Memory) => {
-            let reply = talk.says(Body::Store(Answer::Memory));
+            let reply = talk.lacks();
             Said { reply, bye: false }
         }
     }

@@ -21,6 +21,7 @@ use std::alloc::Global;
 use ucis_model::Answer;
 
 // How a reply says why bytes are no record.
+#[tactic(auto, unfolding(crate::specs::Says::IsWritable, cov_proto::specs::Spelled::body_fields, cov_proto::specs::Spelled::answer_fields))]
 fn no_record(fault: RecordFault) -> Body
     ensures body { result ≡ record_refusal fault }
     ensures writable { IsWritable result }
@@ -49,6 +50,7 @@ fn no_record(fault: RecordFault) -> Body
 }
 
 /// The record that the bytes encode, whose tables are the opening design's; or what is replied instead.
+#[tactic(auto, unfolding(crate::specs::Says::IsWritable, cov_proto::specs::Spelled::body_fields, cov_proto::specs::Spelled::answer_fields))]
 pub(crate) fn record_of(alloc: Global, opening: &Design, bytes: &[u8]) -> Result<Record, Body>
     requires { length bytes.now ≤ longest_record }
     ensures { FindsRecord opening.now bytes.now result }
@@ -64,6 +66,7 @@ pub(crate) fn record_of(alloc: Global, opening: &Design, bytes: &[u8]) -> Result
 }
 
 // How a reply says why a text declares no design.
+#[tactic(auto, unfolding(crate::specs::Says::IsWritable, cov_proto::specs::Spelled::body_fields, cov_proto::specs::Spelled::answer_fields))]
 fn no_design(alloc: Global, fault: CompileFault) -> Body
     ensures body { IsFaultBody fault result }
     ensures writable { IsWritable result }
@@ -81,6 +84,7 @@ fn no_design(alloc: Global, fault: CompileFault) -> Body
 }
 
 /// The text with the design that it declares, whose tables are the opening design's; or what is replied instead.
+#[tactic(auto, unfolding(crate::specs::Says::IsWritable, cov_proto::specs::Spelled::body_fields, cov_proto::specs::Spelled::answer_fields))]
 pub(crate) fn text_of(alloc: Global, opening: &Design, text: &[u8]) -> Result<Compiled, Body>
     ensures { FindsText opening.now text.now result }
 {

@@ -5,6 +5,7 @@ mod alone;
 mod bodies;
 mod faults;
 mod finding;
+pub mod laws;
 mod port;
 mod tables;
 mod talk;

@@ -1,5 +1,5 @@
 //! The tables of two designs side by side.
-ghost use Rattle.std.specs.Prelude.{◌≡◌, ◌≤◌, length, IfSome, slice_get};
+ghost use Rattle.std.specs.Prelude.{◌≡◌, ◌≤◌, length, IfSome};
 ghost use Rattle.cov_history.specs.Tables.{same_signal, same_instance, group_name, agree};
 ghost use Rattle.session_table.specs.Contents.{apart, tables_apart};
 
@@ -13,21 +13,24 @@ fn is_signal(signal: &Signal, other: &Signal) -> bool
 
 // The first place at which two lists of signals differ.
 fn signals_apart(signals: &[Signal], others: &[Signal]) -> Option<usize>
-    ensures place { result ≡ apart same_signal signals.now others.now }
+    ensures place { result ≡ apart same_signal 0 signals.now others.now }
     ensures early { IfSome result (λ at. at ≤ length others.now) }
 {
     let mut at = 0;
-    while at < signals.len() && at < others.len() {
-        if !is_signal(&signals[at], &others[at]) {
+    let mut left = others;
+    let mut rest = signals;
+    while let Some((signal, later)) = rest.split_first() {
+        let Some((other, more)) = left.split_first() else {
+            return Some(at);
+        };
+        if !is_signal(signal, other) {
             return Some(at);
         }
         at += 1;
+        left = more;
+        rest = later;
     }
-    if at < signals.len() || at < others.len() {
-        Some(at)
-    } else {
-        None
-    }
+    if left.is_empty() { None } else { Some(at) }
 }
 
 fn group_of(groups: &[GroupInfo], group: u32) -> &[u8]
@@ -39,6 +42,7 @@ fn group_of(groups: &[GroupInfo], group: u32) -> &[u8]
     }
 }
 
+#[tactic(auto, using(crate::proofs::Shapes::apart_agree))]
 fn are_args(args: &[Signal], others: &[Signal]) -> bool
     ensures { result ≡ agree same_signal args.now others.now }
 {
@@ -65,21 +69,24 @@ fn instances_apart(
     instances: &[InstInfo],
     others: &[InstInfo],
 ) -> Option<usize>
-    ensures place { result ≡ apart (same_instance groups.now other_groups.now) instances.now others.now }
+    ensures place { result ≡ apart (same_instance groups.now other_groups.now) 0 instances.now others.now }
     ensures early { IfSome result (λ at. at ≤ length others.now) }
 {
     let mut at = 0;
-    while at < instances.len() && at < others.len() {
-        if !is_instance(groups, other_groups, &instances[at], &others[at]) {
+    let mut left = others;
+    let mut rest = instances;
+    while let Some((instance, later)) = rest.split_first() {
+        let Some((other, more)) = left.split_first() else {
+            return Some(at);
+        };
+        if !is_instance(groups, other_groups, instance, other) {
             return Some(at);
         }
         at += 1;
+        left = more;
+        rest = later;
     }
-    if at < instances.len() || at < others.len() {
-        Some(at)
-    } else {
-        None
-    }
+    if left.is_empty() { None } else { Some(at) }
 }
 
 /// The first place at which a new design's tables differ from the opening design's: that of a signal, or that of an

@@ -30,6 +30,7 @@ use ucis_model::Answer;
 use upload_stage::StageFault;
 
 // How a reply says why the stage refuses.
+#[tactic(auto, unfolding(crate::specs::Says::IsWritable, cov_proto::specs::Spelled::body_fields, cov_proto::specs::Spelled::answer_fields))]
 fn refused(fault: StageFault) -> Body
     ensures body { result ≡ stage_refusal fault }
     ensures writable { IsWritable result }
@@ -61,8 +62,8 @@ fn turn<P: Port, R: Threads + Sync>(rt: &R, port: &mut P, talk: &mut Talk, ask: 
         (inr (wish_of (asked ask))) talk.old.stage may result (place_of talk.new) }
 {
     let answered = port.turn(rt, ask);
-    talk.point = answered.point;
-    talk.says(Body::Store(kept(answered.answer)))
+    let answer = kept(answered.answer);
+    talk.answers(answered.point, answer)
 }
 
 // A basis, the record prepared under its design, and a turn.
@@ -85,10 +86,10 @@ fn admit<P: Port, R: Threads + Sync, G: Gate>(
         (inr (Admit rec)) talk.old.stage (Some talk.old.stage) result (place_of talk.new) }
 {
     let Ok(basis) = port.basis() else {
-        return talk.says(Body::Store(Answer::Memory));
+        return talk.lacks();
     };
     let Ok(prepared) = prepare(alloc, &basis.design, rec, gate) else {
-        return talk.says(Body::Store(Answer::Memory));
+        return talk.lacks();
     };
     let since = basis.point;
     turn(rt, port, talk, Ask::Admit { since, prepared })
@@ -115,10 +116,10 @@ fn readied<P: Port, R: Threads + Sync, G: Gate>(
         talk.old.stage (Some talk.old.stage) result (place_of talk.new) }
 {
     let Ok(basis) = port.basis() else {
-        return talk.says(Body::Store(Answer::Memory));
+        return talk.lacks();
     };
     let Ok(rebinned) = rebin(rt, alloc, compiled, &basis, gate) else {
-        return talk.says(Body::Store(Answer::Memory));
+        return talk.lacks();
     };
     turn(rt, port, talk, Ask::Revise(rebinned))
 }
@@ -187,7 +188,7 @@ fn begin(alloc: Global, talk: &mut Talk, len: u64) -> Reply
         (unless (begin_fault talk.old.stage len) talk.old.stage) result (place_of talk.new) }
 {
     match talk.stage.begin(alloc, len) {
-        Ok(()) => talk.says(Body::Done),
+        Ok(()) => talk.done(),
         Err(fault) => talk.says(refused(fault)),
     }
 }
@@ -199,7 +200,7 @@ fn piece(talk: &mut Talk, offset: u64, bytes: &[u8]) -> Reply
         (Some talk.old.stage) result (place_of talk.new) }
 {
     match talk.stage.piece(offset, bytes) {
-        Ok(()) => talk.says(Body::Done),
+        Ok(()) => talk.done(),
         Err(fault) => talk.says(refused(fault)),
     }
 }
@@ -227,7 +228,7 @@ pub(crate) fn answer_request<P: Port, R: Threads + Sync, G: Gate>(
         Request::Piece { offset, bytes } => piece(talk, offset, bytes.as_slice()),
         Request::Commit { digest } => commit(rt, alloc, opening, port, talk, &digest, gate),
         Request::Revise { digest } => revise(rt, alloc, opening, port, talk, &digest, gate),
-        Request::Bye => talk.says(Body::Farewell),
+        Request::Bye => talk.farewell(),
         Request::Hello { point } => turn(rt, port, talk, Ask::Hello { point }),
         Request::Counts { first, path } => turn(rt, port, talk, Ask::Counts { first, path }),
         Request::Coverage { path } => turn(rt, port, talk, Ask::Coverage { path }),

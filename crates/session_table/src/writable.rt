@@ -1,7 +1,7 @@
 //! Answers that a frame can hold.
-ghost use Rattle.std.specs.Prelude.{◌≡◌, ◌≤◌, length, true, false, IsTrue};
+ghost use Rattle.std.specs.Prelude.{◌≡◌, ◌≤◌, length, true, false};
 ghost use Rattle.cov_proto.specs.declared.replies.Body.TheVariants.{Store};
-ghost use Rattle.cov_proto.specs.Limits.{AreFrom, IsText};
+ghost use Rattle.cov_proto.specs.Limits.{AreFrom, IsText, IsPath};
 ghost use Rattle.session_table.specs.Says.{IsWritable, IsKept, is_long};
 ghost use Rattle.session_table.specs.Writable.{IsShortTest, AreShortTests, IsHeld};
 
@@ -17,10 +17,13 @@ const MOST_TESTS: usize = 1024;
 const MOST_BYTES: usize = 1_048_576;
 
 fn are_from(low: u8, bytes: &[u8]) -> bool
-    ensures { IsTrue result → AreFrom low bytes.now }
+    ensures { result ≡ true → AreFrom low bytes.now }
 {
     for byte in bytes {
-        if *byte < low || 127 <= *byte {
+        if *byte < low {
+            return false;
+        }
+        if 127 <= *byte {
             return false;
         }
     }
@@ -28,9 +31,12 @@ fn are_from(low: u8, bytes: &[u8]) -> bool
 }
 
 fn is_text(least: usize, low: u8, bytes: &[u8]) -> bool
-    ensures { IsTrue result → IsText least low bytes.now }
+    ensures { result ≡ true → IsText least low bytes.now }
 {
-    if bytes.len() < least || bytes.len() > 255 {
+    if bytes.len() < least {
+        return false;
+    }
+    if bytes.len() > 255 {
         return false;
     }
     are_from(low, bytes)
@@ -45,17 +51,23 @@ fn digest_size(digest: &[u8; 32]) -> usize
 
 #[tactic(auto, unfolding(cov_proto::specs::Spelled::test_row))]
 fn is_test(row: &HistoryNode) -> bool
-    ensures { IsTrue result → IsShortTest row.now }
+    ensures { result ≡ true → IsShortTest row.now }
 {
     let _size = digest_size(&row.digest);
-    row.kind == HistoryKind::Test
-        && row.status < 4
-        && is_text(1, 33, row.id.as_slice())
-        && is_text(0, 32, row.user.as_slice())
+    if row.kind != HistoryKind::Test {
+        return false;
+    }
+    if row.status >= 4 {
+        return false;
+    }
+    if !is_text(1, 33, row.id.as_slice()) {
+        return false;
+    }
+    is_text(0, 32, row.user.as_slice())
 }
 
 fn are_tests(rows: &[HistoryNode]) -> bool
-    ensures { IsTrue result → AreShortTests rows.now }
+    ensures { result ≡ true → AreShortTests rows.now }
 {
     for row in rows {
         if !is_test(row) {
@@ -65,30 +77,61 @@ fn are_tests(rows: &[HistoryNode]) -> bool
     true
 }
 
+fn are_few_tests(rows: &[HistoryNode]) -> bool
+    ensures { result ≡ true → (length rows.now ≤ 1024) × AreShortTests rows.now }
+{
+    if rows.len() > MOST_TESTS {
+        return false;
+    }
+    are_tests(rows)
+}
+
+fn is_short_path(path: &[u8]) -> bool
+    ensures { result ≡ true → (length path.now ≤ 1048576) × IsPath path.now }
+{
+    if path.len() > MOST_BYTES {
+        return false;
+    }
+    are_from(32, path)
+}
+
 // Whether the answer has a spelling that a frame can hold. One without rows, text or bytes always has.
 fn is_held(answer: &Answer) -> bool
-    ensures held { IsTrue result → IsHeld answer.now }
-    ensures short { is_long answer.now ≡ false → IsTrue result }
+    ensures held { result ≡ true → IsHeld answer.now }
+    ensures short { is_long answer.now ≡ false → result ≡ true }
 {
     match answer {
-        Answer::Rows { rows, .. } => rows.len() <= MOST_ROWS,
-        Answer::TestRows { rows, .. } => rows.len() <= MOST_TESTS && are_tests(rows.as_slice()),
-        Answer::RankRows(rows) => rows.len() <= MOST_ROWS,
-        Answer::PathIs(path) => path.as_slice().len() <= MOST_BYTES
-            && are_from(32, path.as_slice()),
+        Answer::Rows { rows, .. } => rows.as_slice().len() <= MOST_ROWS,
+        Answer::TestRows { rows, .. } => are_few_tests(rows.as_slice()),
+        Answer::RankRows(rows) => rows.as_slice().len() <= MOST_ROWS,
+        Answer::PathIs(path) => is_short_path(path.as_slice()),
         Answer::Chunk { bytes, .. } => bytes.as_slice().len() <= MOST_BYTES,
-        _ => true,
+        Answer::IdTaken { digest } => digest_size(digest) == 32,
+        Answer::Welcome { .. } => true,
+        Answer::New => true,
+        Answer::Here { .. } => true,
+        Answer::CoverageIs(_) => true,
+        Answer::Changed => true,
+        Answer::Ahead { .. } => true,
+        Answer::Full { .. } => true,
+        Answer::NoSuchPath => true,
+        Answer::AlreadyExcluded => true,
+        Answer::NotExcluded => true,
+        Answer::NoSuchTest => true,
+        Answer::Memory => true,
+        Answer::Moved { .. } => true,
+        Answer::Stopped => true,
     }
 }
 
 /// The answer; or Memory in the place of one that no frame can hold.
+#[tactic(auto, using(crate::proofs::Writing::held_writable, crate::proofs::Writing::memory_writable))]
 pub(crate) fn kept(answer: Answer) -> Answer
     ensures kept { IsKept answer result }
     ensures writable { IsWritable (Store result) }
 {
-    if is_held(&answer) {
-        answer
-    } else {
-        Answer::Memory
+    if !is_held(&answer) {
+        return Answer::Memory;
     }
+    answer
 }
