@@ -96,3 +96,9 @@ writable_spelled r w = w.0
 pub writable_short : (r : Reply) → IsWritable r.body → length (reply_spelled r) ≤ longest_body
 unfolding IsWritable reply_spelled
 writable_short r w = omega (arith, w.1, length-append (to_be_bytes w64 r.point) (body_fields r.body))
+
+pub frame_short : (len n : ℕ) (held : List ℕ) (h : HasFrame len held) → n ≡ len → length (take n (drop 4 held)) ≤ longest_body
+frame_short len n held h e = subst (λ b. length b ≤ longest_body) (sym (frame_body len n held h e)) h.is_body.1
+
+pub frame_room : (r : Reply) (n room : ℕ) → IsWritable r.body → n ≡ 0 → 1048644 ≤ room → n + length (frame (reply_spelled r)) ≤ room
+frame_room r n room w e le = let s = writable_short r w in omega (arith, s, e, le)

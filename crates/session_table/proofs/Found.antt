@@ -16,6 +16,8 @@ use Rattle.cov_proto.specs.declared.replies.Body.{Body}
 use Rattle.cov_proto.specs.declared.replies.Body.TheVariants as body
 use Rattle.session_table.specs.Contents.{Content, NoRecord, OtherShape, Holds, IsContent, Text, LongText, NoDesign, OtherTables, IsTextContent, tables_apart}
 use Rattle.session_table.specs.Table.{record_refusal, said_to, said_to_text}
+use Rattle.session_table.specs.declared.faults.Refusal.{Refusal}
+use Rattle.session_table.specs.Refusals.{IsRefusal}
 use Rattle.session_table.specs.Says.{IsFaultBody, Refuses, FindsText, FindsRecord, IsWritable}
 
 pub no_record_refuses : (opening : Design) (bytes : List ℕ) (fault : RecordFault) (b : Body) → HasRead (Err fault) (reading bytes) → b ≡ record_refusal fault → Refuses (IsContent opening bytes) said_to b
@@ -42,3 +44,6 @@ tables_refuse opening text own d at short is c apart = inl (OtherTables at, (d, 
 
 pub text_found : (opening : Design) (text : List ℕ) (c : Declared) → length text ≤ longest_design → c.text ≡ text → Compiles c.text (Ok c.design) → tables_apart opening c.design ≡ None → FindsText opening text (Ok c)
 text_found opening text c short is d apart = (is, record { short = short; design = subst (λ t. Compiles t (Ok c.design)) is d }, apart)
+
+pub fault_body : (fault : CompileFault) (r : Refusal) (kind bytes : List ℕ) → IsRefusal fault r → kind ≡ bytes → bytes ≡ r.kind.now → IsFaultBody fault (body.BadDesign r.at kind)
+fault_body fault r kind bytes is same told = inl (is.real, λ i. body.BadDesign (is.place i) ((same ∙ (told ∙ is.kind)) i))

@@ -111,3 +111,7 @@ lacks_after opening caller seen own after own_after from said stage reply le g e
 -- the same wish by an equal name
 pub wished_as : {opening : Design} {caller : ℕ} {seen : List Entry} {own : List (ℕ × Entry)} {after : List Entry} {own_after : List (ℕ × Entry)} {from : Place} (w v : Wish) {stage : Upload} {may : Option Upload} {reply : Reply} {to : Place} → w ≡ v → Rowed opening caller seen own after own_after from (inr w) stage may reply to → Rowed opening caller seen own after own_after from (inr v) stage may reply to
 wished_as {opening} {caller} {seen} {own} {after} {own_after} {from} w v {stage} {may} {reply} {to} e p = subst (λ x. Rowed opening caller seen own after own_after from (inr x) stage may reply to) e p
+
+-- the same, where the place afterwards has an equal name
+pub at_place : {opening : Design} {caller : ℕ} {seen : List Entry} {own : List (ℕ × Entry)} {after : List Entry} {own_after : List (ℕ × Entry)} {from : Place} {said : Body ⊎ Wish} {stage : Upload} {may : Option Upload} {reply : Reply} (to past : Place) → past ≡ to → Rowed opening caller seen own after own_after from said stage may reply to → Rowed opening caller seen own after own_after from said stage may reply past
+at_place {opening} {caller} {seen} {own} {after} {own_after} {from} {said} {stage} {may} {reply} to past e p = subst (λ x. Rowed opening caller seen own after own_after from said stage may reply x) (sym e) p

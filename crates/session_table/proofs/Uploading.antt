@@ -20,6 +20,10 @@ use Rattle.session_table.specs.Serves.{Place}
 use Rattle.session_table.specs.Says.{Rowed, Replies, IsWritable, Refuses, FindsRecord, FindsText}
 use Rattle.session_table.proofs.Saying.{rowed_replies, told_replies, lacks_replies}
 
+-- said of a list and a design by other names
+pub moved : (F : Design → List ℕ → Type 0) (d e : Design) (xs ys : List ℕ) → d ≡ e → xs ≡ ys → F e xs → F d ys
+moved F d e xs ys p q f = subst (λ x. F x ys) (sym p) (subst (F e) q f)
+
 module _ (opening : Design) (caller : ℕ) (seen : List Entry) (own : List (ℕ × Entry)) where
   -- ---- a Commit
 
@@ -44,11 +48,11 @@ module _ (opening : Design) (caller : ℕ) (seen : List Entry) (own : List (ℕ 
 
   pub commit_instead : (from : Place) (digest items : List ℕ) (new : Upload) (b : Body) (reply : Reply) → from.point ≤ length seen → finish_fault from.stage digest ≡ None → items ≡ bytes_of from.stage → new ≡ finished from.stage → FindsRecord opening items (Err b) → reply.point ≡ from.point → reply.body ≡ b → IsWritable reply.body
       → Replies opening caller seen own seen own from (Ok (request.Commit digest)) reply (record { point = from.point; stage = new })
-  commit_instead from digest items new b reply le is held goes finds point body writable = ⊎_elim
+  commit_instead from digest items new b reply le is held goes finds point says writable = ⊎_elim
     (λ (x : (c : Content) × IsContent opening items c × (said_to c ≡ inl b)).
       told_replies opening caller seen own from (Ok (request.Commit digest)) b new reply _ le
-        (subst (λ s. IsRow opening from.stage (Ok (request.Commit digest)) (record { said = s; stage = new })) x.2 (commit_row from.stage digest items new x.0 is held goes x.1)) point body writable refl)
-    (λ (x : b ≡ body.Store answer.Memory). lacks_replies opening caller seen own from (Ok (request.Commit digest)) new reply _ le (commit_lost from.stage digest new is goes) point (body ∙ x) writable refl)
+        (subst (λ s. IsRow opening from.stage (Ok (request.Commit digest)) (record { said = s; stage = new })) x.2 (commit_row from.stage digest items new x.0 is held goes x.1)) point says writable refl)
+    (λ (x : b ≡ body.Store answer.Memory). lacks_replies opening caller seen own from (Ok (request.Commit digest)) new reply _ le (commit_lost from.stage digest new is goes) point (says ∙ x) writable refl)
     finds.0
 
   -- ---- a Revise
@@ -74,9 +78,9 @@ module _ (opening : Design) (caller : ℕ) (seen : List Entry) (own : List (ℕ 
 
   pub revise_instead : (from : Place) (digest items : List ℕ) (new : Upload) (b : Body) (reply : Reply) → from.point ≤ length seen → finish_fault from.stage digest ≡ None → items ≡ bytes_of from.stage → new ≡ finished from.stage → FindsText opening items (Err b) → reply.point ≡ from.point → reply.body ≡ b → IsWritable reply.body
       → Replies opening caller seen own seen own from (Ok (request.Revise digest)) reply (record { point = from.point; stage = new })
-  revise_instead from digest items new b reply le is held goes finds point body writable = ⊎_elim
+  revise_instead from digest items new b reply le is held goes finds point says writable = ⊎_elim
     (λ (x : (t : Text) × IsTextContent opening items t × (said_to_text items t ≡ inl b)).
       told_replies opening caller seen own from (Ok (request.Revise digest)) b new reply _ le
-        (subst (λ s. IsRow opening from.stage (Ok (request.Revise digest)) (record { said = s; stage = new })) x.2 (revise_row from.stage digest items new x.0 is held goes x.1)) point body writable refl)
-    (λ (x : b ≡ body.Store answer.Memory). lacks_replies opening caller seen own from (Ok (request.Revise digest)) new reply _ le (revise_lost from.stage digest new is goes) point (body ∙ x) writable refl)
+        (subst (λ s. IsRow opening from.stage (Ok (request.Revise digest)) (record { said = s; stage = new })) x.2 (revise_row from.stage digest items new x.0 is held goes x.1)) point says writable refl)
+    (λ (x : b ≡ body.Store answer.Memory). lacks_replies opening caller seen own from (Ok (request.Revise digest)) new reply _ le (revise_lost from.stage digest new is goes) point (says ∙ x) writable refl)
     finds.0

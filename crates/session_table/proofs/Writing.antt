@@ -33,7 +33,7 @@ tests_spelled [] a = tt
 tests_spelled (r ∷ rows) a = (a.0.0, tests_spelled rows a.1)
 
 pub held_writable : (a : Answer) → IsHeld a → IsWritable (body.Store a)
-unfolding IsWritable body_fields answer_fields cover_row
+unfolding IsWritable body_fields answer_fields
 held_writable (answer.Welcome bins) h = (tt, omega arith)
 held_writable answer.New h = (tt, omega arith)
 held_writable (answer.Here first) h = (tt, omega arith)
@@ -57,3 +57,15 @@ held_writable (answer.Chunk len bytes) h = (tt, omega (arith, h, length-append (
 
 pub memory_writable : IsWritable (body.Store answer.Memory)
 memory_writable = held_writable answer.Memory tt
+
+pub long_if_not_held : (long held : Bool) → (long ≡ false → held ≡ true) → held ≡ false → long ≡ true
+long_if_not_held true held h no = refl
+long_if_not_held false held h no = let yes = h refl in absurd cc
+
+pub shape_writable : (at : ℕ) → IsWritable (body.WrongShape at)
+unfolding IsWritable body_fields
+shape_writable at = (tt, omega arith)
+
+pub tables_writable : (at : ℕ) → IsWritable (body.ShapeDiffers at)
+unfolding IsWritable body_fields
+tables_writable at = (tt, omega arith)

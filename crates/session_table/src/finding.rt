@@ -83,6 +83,21 @@ fn no_design(alloc: Global, fault: CompileFault) -> Body
     }
 }
 
+// The same for a text that isn't too long.
+fn short_text_of(alloc: Global, opening: &Design, text: &[u8]) -> Result<Compiled, Body>
+    requires short { length text.now ≤ longest_design }
+    ensures { FindsText opening.now text.now result }
+{
+    let compiled = match Compiled::of(alloc, text) {
+        Ok(compiled) => compiled,
+        Err(fault) => return Err(no_design(alloc, fault)),
+    };
+    match tables_apart(opening, compiled.design()) {
+        None => Ok(compiled),
+        Some(at) => Err(Body::ShapeDiffers { at }),
+    }
+}
+
 /// The text with the design that it declares, whose tables are the opening design's; or what is replied instead.
 #[tactic(auto, unfolding(crate::specs::Says::IsWritable, cov_proto::specs::Spelled::body_fields, cov_proto::specs::Spelled::answer_fields))]
 pub(crate) fn text_of(alloc: Global, opening: &Design, text: &[u8]) -> Result<Compiled, Body>
@@ -93,12 +108,5 @@ pub(crate) fn text_of(alloc: Global, opening: &Design, text: &[u8]) -> Result<Co
             n: text.len() as u64,
         });
     }
-    let compiled = match Compiled::of(alloc, text) {
-        Ok(compiled) => compiled,
-        Err(fault) => return Err(no_design(alloc, fault)),
-    };
-    match tables_apart(opening, compiled.design()) {
-        None => Ok(compiled),
-        Some(at) => Err(Body::ShapeDiffers { at }),
-    }
+    short_text_of(alloc, opening, text)
 }

@@ -42,11 +42,13 @@ fn group_of(groups: &[GroupInfo], group: u32) -> &[u8]
     }
 }
 
-#[tactic(auto, using(crate::proofs::Shapes::apart_agree))]
 fn are_args(args: &[Signal], others: &[Signal]) -> bool
     ensures { result ≡ agree same_signal args.now others.now }
 {
-    signals_apart(args, others).is_none()
+    match signals_apart(args, others) {
+        None => true,
+        Some(_) => false,
+    }
 }
 
 fn is_instance(

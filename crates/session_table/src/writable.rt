@@ -125,7 +125,6 @@ fn is_held(answer: &Answer) -> bool
 }
 
 /// The answer; or Memory in the place of one that no frame can hold.
-#[tactic(auto, using(crate::proofs::Writing::held_writable, crate::proofs::Writing::memory_writable))]
 pub(crate) fn kept(answer: Answer) -> Answer
     ensures kept { IsKept answer result }
     ensures writable { IsWritable (Store result) }
