@@ -45,7 +45,7 @@ content_one opening bytes (NoRecord f) (OtherShape at) h k = absurd (ok_or_fault
 content_one opening bytes (NoRecord f) (Fitting r) h k = absurd (ok_or_fault (reading bytes) (fields_of r) f k.0 h)
 content_one opening bytes (OtherShape at) (NoRecord g) h k = absurd (ok_or_fault (reading bytes) (fields_of h.0) g h.1 k)
 content_one opening bytes (OtherShape at) (OtherShape place) h k =
-  ap OtherShape (place_one opening k.0 at place (subst (λ r. IsWrongAt opening r at) (record_one bytes h.0 k.0 h.1 k.1) h.2) k.2)
+    ap OtherShape (place_one opening k.0 at place (subst (λ r. IsWrongAt opening r at) (record_one bytes h.0 k.0 h.1 k.1) h.2) k.2)
 content_one opening bytes (OtherShape at) (Fitting r) h k = absurd (does_not_fit opening r at (subst (λ x. IsWrongAt opening x at) (record_one bytes h.0 r h.1 k.0) h.2) k.1)
 content_one opening bytes (Fitting r) (NoRecord g) h k = absurd (ok_or_fault (reading bytes) (fields_of r) g h.0 k)
 content_one opening bytes (Fitting r) (OtherShape at) h k = absurd (does_not_fit opening k.0 at k.2 (subst (λ x. Fits opening x) (record_one bytes r k.0 h.0 k.1) h.1))

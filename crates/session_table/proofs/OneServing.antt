@@ -33,17 +33,17 @@ said_grows opening h caller from (inr w) stage reply added to t = let e : to.poi
 step_grows : (opening : Design) (h : List Entry) (caller : ℕ) (from : Place) (b : List ℕ) (reply : Reply) (added : List (ℕ × Entry)) (to : Place) → Step opening h caller from b reply added to → from.point + length added ≤ to.point
 unfolding Step
 step_grows opening h caller from b reply added to p = ⊎_elim
-  (λ (x : Replied opening h caller from (request_read b) reply added to). said_grows opening h caller from x.row.said x.row.stage reply added to x.by)
-  (λ (x : Lacks h from (lost from.stage (request_read b)) reply added to). let e : to.point ≡ reply.point = ap (λ (y : Place). y.point) x.goes in omega (arith, x.low, ap length x.adds)) p
+    (λ (x : Replied opening h caller from (request_read b) reply added to). said_grows opening h caller from x.row.said x.row.stage reply added to x.by)
+    (λ (x : Lacks h from (lost from.stage (request_read b)) reply added to). let e : to.point ≡ reply.point = ap (λ (y : Place). y.point) x.goes in omega (arith, x.low, ap length x.adds)) p
 
 serves_grows : (opening : Design) (h : List Entry) (caller : ℕ) (from : Place) (bs : List (List ℕ)) (rs : List Reply) (es : List (ℕ × Entry)) (to : Place) → Serves opening h caller from bs rs es to → from.point + length es ≤ to.point
 serves_grows opening h caller from [] [] es to p = let e : to.point ≡ from.point = ap (λ (x : Place). x.point) p.1 in omega (arith, ap length p.0)
 serves_grows opening h caller from [] (r ∷ rs) es to p = absurd p
 serves_grows opening h caller from (b ∷ bs) [] es to p = absurd p
 serves_grows opening h caller from (b ∷ bs) (r ∷ rs) es to p =
-  let x = step_grows opening h caller from b r p.1 p.0 p.3 in
-  let y = serves_grows opening h caller p.0 bs rs p.2 to p.4 in
-  omega (arith, ap length p.5, length-append p.1 p.2)
+    let x = step_grows opening h caller from b r p.1 p.0 p.3 in
+    let y = serves_grows opening h caller p.0 bs rs p.2 to p.4 in
+    omega (arith, ap length p.5, length-append p.1 p.2)
 
 -- ---- points stay within the history
 
@@ -54,8 +54,8 @@ said_within opening h caller from (inr w) stage reply added to le t = subst (λ 
 step_within : (opening : Design) (h : List Entry) (caller : ℕ) (from : Place) (b : List ℕ) (reply : Reply) (added : List (ℕ × Entry)) (to : Place) → from.point ≤ length h → Step opening h caller from b reply added to → to.point ≤ length h
 unfolding Step
 step_within opening h caller from b reply added to le p = ⊎_elim
-  (λ (x : Replied opening h caller from (request_read b) reply added to). said_within opening h caller from x.row.said x.row.stage reply added to le x.by)
-  (λ (x : Lacks h from (lost from.stage (request_read b)) reply added to). subst (λ (y : Place). y.point ≤ length h) (sym x.goes) x.high) p
+    (λ (x : Replied opening h caller from (request_read b) reply added to). said_within opening h caller from x.row.said x.row.stage reply added to le x.by)
+    (λ (x : Lacks h from (lost from.stage (request_read b)) reply added to). subst (λ (y : Place). y.point ≤ length h) (sym x.goes) x.high) p
 
 pub serves_within : (opening : Design) (h : List Entry) (caller : ℕ) (from : Place) (bs : List (List ℕ)) (rs : List Reply) (es : List (ℕ × Entry)) (to : Place) → from.point ≤ length h → Serves opening h caller from bs rs es to → to.point ≤ length h
 serves_within opening h caller from [] [] es to le p = subst (λ (x : Place). x.point ≤ length h) (sym p.1) le
@@ -93,10 +93,10 @@ record Tight (opening : Design) (h : List Entry) (caller from : ℕ) (w : Wish) 
 
 tight : (opening : Design) (h : List Entry) (caller from : ℕ) (w : Wish) (given : Answer) (added : List (ℕ × Entry)) (to : ℕ) → has_stop h ≡ false → to ≤ from + length added → TurnsAt opening h caller from w given added to → Tight opening h caller from w given added to
 tight opening h caller from w given added to going le t =
-  let long = added_long t in
-  let at_is : t.at ≡ from = omega (arith, t.low, t.order, t.point) in
-  let since_is : t.since ≡ from = omega (arith, t.low, t.order, t.point) in
-  ⊎_elim
+    let long = added_long t in
+    let at_is : t.at ≡ from = omega (arith, t.low, t.order, t.point) in
+    let since_is : t.since ≡ from = omega (arith, t.low, t.order, t.point) in
+    ⊎_elim
     (λ (x : (given ≡ wished opening (take t.at h) caller t.since w) × (t.entries ≡ made_by caller w given)). record {
       given_is = x.0 ∙ (ap (λ n. wished opening (take n h) caller t.since w) at_is ∙ ap (λ n. wished opening (take from h) caller n w) since_is);
       added_is = t.adds ∙ (ap (λ n. map (λ e. (n, e)) t.entries) at_is ∙ ap (λ es. map (λ e. (from, e)) es) x.1);
@@ -127,19 +127,19 @@ said_alike opening h k caller from (inl b) stage reply other added more to past 
   front = subst (λ (x : Place). take x.point h ≡ take x.point k) (sym p.goes) same;
 }
 said_alike opening h k caller from (inr w) stage reply other added more to past going_h going_k same le_h le_k p q =
-  let to_h : to.point ≡ reply.point = ap (λ (x : Place). x.point) p.goes in
-  let to_k : past.point ≡ other.point = ap (λ (x : Place). x.point) q.goes in
-  let a = tight opening h caller from.point w p.answer added reply.point going_h (omega (arith, to_h, le_h)) p.turn in
-  let b = tight opening k caller from.point w q.answer more other.point going_k (omega (arith, to_k, le_k)) q.turn in
-  let given : p.answer ≡ q.answer = a.given_is ∙ (ap (λ l. wished opening l caller from.point w) same ∙ sym b.given_is) in
-  let made : made_by caller w p.answer ≡ made_by caller w q.answer = ap (made_by caller w) given in
-  let points : reply.point ≡ other.point = a.to_is ∙ (ap (λ es. from.point + length es) made ∙ sym b.to_is) in
-  record {
-    replies_same = reply_is reply other points (p.body ∙ (ap body.Store given ∙ sym q.body));
-    added_same = a.added_is ∙ (ap (λ es. map (λ e. (from.point, e)) es) made ∙ sym b.added_is);
-    to_same = p.goes ∙ (ap (λ n. record { point = n; stage = stage }) points ∙ sym q.goes);
-    front = ap (λ n. take n h) to_h ∙ (a.there ∙ ((λ i. same i ++ made i) ∙ (sym b.there ∙ ap (λ n. take n k) (sym (to_h ∙ points)))));
-  }
+    let to_h : to.point ≡ reply.point = ap (λ (x : Place). x.point) p.goes in
+    let to_k : past.point ≡ other.point = ap (λ (x : Place). x.point) q.goes in
+    let a = tight opening h caller from.point w p.answer added reply.point going_h (omega (arith, to_h, le_h)) p.turn in
+    let b = tight opening k caller from.point w q.answer more other.point going_k (omega (arith, to_k, le_k)) q.turn in
+    let given : p.answer ≡ q.answer = a.given_is ∙ (ap (λ l. wished opening l caller from.point w) same ∙ sym b.given_is) in
+    let made : made_by caller w p.answer ≡ made_by caller w q.answer = ap (made_by caller w) given in
+    let points : reply.point ≡ other.point = a.to_is ∙ (ap (λ es. from.point + length es) made ∙ sym b.to_is) in
+    record {
+      replies_same = reply_is reply other points (p.body ∙ (ap body.Store given ∙ sym q.body));
+      added_same = a.added_is ∙ (ap (λ es. map (λ e. (from.point, e)) es) made ∙ sym b.added_is);
+      to_same = p.goes ∙ (ap (λ n. record { point = n; stage = stage }) points ∙ sym q.goes);
+      front = ap (λ n. take n h) to_h ∙ (a.there ∙ ((λ i. same i ++ made i) ∙ (sym b.there ∙ ap (λ n. take n k) (sym (to_h ∙ points)))));
+    }
 
 not_memory : (h : List Entry) (from : Place) (may : Option Upload) (reply : Reply) (added : List (ℕ × Entry)) (to : Place) → is_memory_reply reply ≡ false → Lacks h from may reply added to → ⊥
 not_memory h from may reply added to no l = let f : is_memory_reply reply ≡ true = ap (λ b. is_memory_reply (record { point = 0; body = b })) l.body in absurd cc
@@ -149,12 +149,12 @@ step_alike : (opening : Design) (h k : List Entry) (caller : ℕ) (from : Place)
     → Step opening h caller from b reply added to → Step opening k caller from b other more past → Alike h k reply other added more to past
 unfolding Step
 step_alike opening h k caller from b reply other added more to past going_h going_k same le_h le_k no_h no_k p q = ⊎_elim
-  (λ (x : Replied opening h caller from (request_read b) reply added to). ⊎_elim
+    (λ (x : Replied opening h caller from (request_read b) reply added to). ⊎_elim
     (λ (y : Replied opening k caller from (request_read b) other more past).
-      let row : y.row ≡ x.row = row_one opening from.stage (request_read b) y.row x.row y.is_row x.is_row in
-      said_alike opening h k caller from x.row.said x.row.stage reply other added more to past going_h going_k same le_h le_k x.by (subst (λ (r : Row). BySaid opening k caller from r.said r.stage other more past) row y.by))
+    let row : y.row ≡ x.row = row_one opening from.stage (request_read b) y.row x.row y.is_row x.is_row in
+    said_alike opening h k caller from x.row.said x.row.stage reply other added more to past going_h going_k same le_h le_k x.by (subst (λ (r : Row). BySaid opening k caller from r.said r.stage other more past) row y.by))
     (λ (y : Lacks k from (lost from.stage (request_read b)) other more past). absurd (not_memory k from (lost from.stage (request_read b)) other more past no_k y)) q)
-  (λ (x : Lacks h from (lost from.stage (request_read b)) reply added to). absurd (not_memory h from (lost from.stage (request_read b)) reply added to no_h x)) p
+    (λ (x : Lacks h from (lost from.stage (request_read b)) reply added to). absurd (not_memory h from (lost from.stage (request_read b)) reply added to no_h x)) p
 
 first_no : (r : Reply) (rs : List Reply) → list_any is_memory_reply (r ∷ rs) ≡ false → (is_memory_reply r ≡ false) × (list_any is_memory_reply rs ≡ false)
 first_no r rs e = by_first (is_memory_reply r) refl
@@ -172,17 +172,17 @@ serves_one opening h k caller from to past [] [] (r ∷ qs) es fs going_h going_
 serves_one opening h k caller from to past (b ∷ bs) [] qs es fs going_h going_k same le_h le_k no_h no_k p q = absurd p
 serves_one opening h k caller from to past (b ∷ bs) (r ∷ rs) [] es fs going_h going_k same le_h le_k no_h no_k p q = absurd q
 serves_one opening h k caller from to past (b ∷ bs) (r ∷ rs) (o ∷ qs) es fs going_h going_k same le_h le_k no_h no_k p q =
-  let x = step_grows opening h caller from b r p.1 p.0 p.3 in
-  let y = serves_grows opening h caller p.0 bs rs p.2 to p.4 in
-  let u = step_grows opening k caller from b o q.1 q.0 q.3 in
-  let v = serves_grows opening k caller q.0 bs qs q.2 past q.4 in
-  let long : length es ≡ length p.1 + length p.2 = ap length p.5 ∙ length-append p.1 p.2 in
-  let far : length fs ≡ length q.1 + length q.2 = ap length q.5 ∙ length-append q.1 q.2 in
-  let no = first_no r rs no_h in
-  let none = first_no o qs no_k in
-  let s = step_alike opening h k caller from b r o p.1 q.1 p.0 q.0 going_h going_k same (omega arith) (omega arith) no.0 none.0 p.3 q.3 in
-  let rest = serves_one opening h k caller p.0 to past bs rs qs p.2 q.2 going_h going_k s.front (omega arith) (let e : q.0.point ≡ p.0.point = ap (λ (z : Place). z.point) (sym s.to_same) in omega arith) no.1 none.1 p.4 (subst (λ z. Serves opening k caller z bs qs q.2 past) (sym s.to_same) q.4) in
-  record {
-    same_replies = λ i. s.replies_same i ∷ rest.same_replies i;
-    same_entries = p.5 ∙ ((λ i. s.added_same i ++ rest.same_entries i) ∙ sym q.5);
-  }
+    let x = step_grows opening h caller from b r p.1 p.0 p.3 in
+    let y = serves_grows opening h caller p.0 bs rs p.2 to p.4 in
+    let u = step_grows opening k caller from b o q.1 q.0 q.3 in
+    let v = serves_grows opening k caller q.0 bs qs q.2 past q.4 in
+    let long : length es ≡ length p.1 + length p.2 = ap length p.5 ∙ length-append p.1 p.2 in
+    let far : length fs ≡ length q.1 + length q.2 = ap length q.5 ∙ length-append q.1 q.2 in
+    let no = first_no r rs no_h in
+    let none = first_no o qs no_k in
+    let s = step_alike opening h k caller from b r o p.1 q.1 p.0 q.0 going_h going_k same (omega arith) (omega arith) no.0 none.0 p.3 q.3 in
+    let rest = serves_one opening h k caller p.0 to past bs rs qs p.2 q.2 going_h going_k s.front (omega arith) (let e : q.0.point ≡ p.0.point = ap (λ (z : Place). z.point) (sym s.to_same) in omega arith) no.1 none.1 p.4 (subst (λ z. Serves opening k caller z bs qs q.2 past) (sym s.to_same) q.4) in
+    record {
+      same_replies = λ i. s.replies_same i ∷ rest.same_replies i;
+      same_entries = p.5 ∙ ((λ i. s.added_same i ++ rest.same_entries i) ∙ sym q.5);
+    }

@@ -19,21 +19,21 @@ split_length n k (e ∷ es) = choose (split_length n (suc k) es) (e.caller == n)
 
 long_of : {opening : Design} {h after : List Entry} {caller : ℕ} {from : Place} {bodies : List (List ℕ)} {replies : List Reply} {entries : List (ℕ × Entry)} → IsAlone opening h after caller from bodies replies entries → length after ≡ length h + length entries
 long_of {opening} {h} {after} {caller} {from} {bodies} {replies} {entries} s =
-  let a = split_length caller 0 h in
-  let b = split_length caller 0 after in
-  let c = ap length s.own ∙ length-append (own_from caller 0 h) entries in
-  let d : length (others caller after) ≡ length (others caller h) = ap length s.rest in
-  omega arith
+    let a = split_length caller 0 h in
+    let b = split_length caller 0 after in
+    let c = ap length s.own ∙ length-append (own_from caller 0 h) entries in
+    let d : length (others caller after) ≡ length (others caller h) = ap length s.rest in
+    omega arith
 
 front_of : {opening : Design} {h after : List Entry} {caller : ℕ} {from : Place} {bodies : List (List ℕ)} {replies : List Reply} {entries : List (ℕ × Entry)} → IsAlone opening h after caller from bodies replies entries → take (length h) after ≡ h
 front_of {opening} {h} s = ap (take (length h)) s.grown ∙ take-append_seam h s.more
 
 pub alone_is_one : AloneIsOne
 alone_is_one opening h after later caller from bodies replies qs entries more begins s t =
-  let a = long_of s in
-  let b = long_of t in
-  let p = serves_within opening after caller from bodies replies entries s.to (omega (arith, a, begins)) s.serves in
-  let q = serves_within opening later caller from bodies qs more t.to (omega (arith, b, begins)) t.serves in
-  serves_one opening after later caller from s.to t.to bodies replies qs entries more s.going t.going
+    let a = long_of s in
+    let b = long_of t in
+    let p = serves_within opening after caller from bodies replies entries s.to (omega (arith, a, begins)) s.serves in
+    let q = serves_within opening later caller from bodies qs more t.to (omega (arith, b, begins)) t.serves in
+    serves_one opening after later caller from s.to t.to bodies replies qs entries more s.going t.going
     (ap (λ n. take n after) begins ∙ (front_of s ∙ (sym (front_of t) ∙ ap (λ n. take n later) (sym begins))))
     (omega (arith, begins, p, a)) (omega (arith, begins, q, b)) s.no_memory t.no_memory s.serves t.serves

@@ -58,10 +58,6 @@ held_writable (answer.Chunk len bytes) h = (tt, omega (arith, h, length-append (
 pub memory_writable : IsWritable (body.Store answer.Memory)
 memory_writable = held_writable answer.Memory tt
 
-pub long_if_not_held : (long held : Bool) → (long ≡ false → held ≡ true) → held ≡ false → long ≡ true
-long_if_not_held true held h no = refl
-long_if_not_held false held h no = let yes = h refl in absurd cc
-
 pub shape_writable : (at : ℕ) → IsWritable (body.WrongShape at)
 unfolding IsWritable body_fields
 shape_writable at = (tt, omega arith)

@@ -13,8 +13,8 @@ returns-in-Begin-clause-replies g c = rw c.in-Begin.is (local_replies (g.P.Port.
 
 pub returns-in-Piece-clause-replies : goal.returns-in-Piece-clause-replies
 returns-in-Piece-clause-replies g c =
-  let l = rw c.as_slice.ensures at c.piece.ensures in
-  rw c.in-Piece.is (local_replies (g.P.Port.opening c.args.port.now) (g.P.Port.caller c.args.port.now) (g.P.Port.seen c.args.port.now) (g.P.Port.own c.args.port.now) (record { point = c.args.talk.now.point; stage = c.args.talk.now.stage }) (Ok (request.Piece c.in-Piece.offset c.in-Piece.bytes)) (piece_row (piece_fault c.args.talk.now.stage c.in-Piece.offset c.in-Piece.bytes) c.args.talk.now.stage c.in-Piece.offset c.in-Piece.bytes) c.piece.result _ c.requires.within refl l)
+    let l = rw c.as_slice.ensures at c.piece.ensures in
+    rw c.in-Piece.is (local_replies (g.P.Port.opening c.args.port.now) (g.P.Port.caller c.args.port.now) (g.P.Port.seen c.args.port.now) (g.P.Port.own c.args.port.now) (record { point = c.args.talk.now.point; stage = c.args.talk.now.stage }) (Ok (request.Piece c.in-Piece.offset c.in-Piece.bytes)) (piece_row (piece_fault c.args.talk.now.stage c.in-Piece.offset c.in-Piece.bytes) c.args.talk.now.stage c.in-Piece.offset c.in-Piece.bytes) c.piece.result _ c.requires.within refl l)
 
 pub returns-in-Bye-clause-replies : goal.returns-in-Bye-clause-replies
 returns-in-Bye-clause-replies g c = rw c.in-Bye.is (told_replies (g.P.Port.opening c.args.port.now) (g.P.Port.caller c.args.port.now) (g.P.Port.seen c.args.port.now) (g.P.Port.own c.args.port.now) (record { point = c.args.talk.now.point; stage = c.args.talk.now.stage }) (Ok request.Bye) body.Farewell c.args.talk.now.stage c.farewell.result _ c.requires.within refl c.farewell.ensures.point c.farewell.ensures.body c.farewell.ensures.writable refl)

@@ -22,4 +22,4 @@ turn-requires-clause-from g c = let h = from_rebinned c.basis.ensures.grown c.in
 
 pub returns-clause-rowed : goal.returns-clause-rowed
 returns-clause-rowed g c = λ from. rowed_before (g.P.Port.opening c.args.port.now) (g.P.Port.caller c.args.port.now) (g.P.Port.seen c.args.port.now) (g.P.Port.own c.args.port.now) (g.P.Port.opening c.basis.new.self) (g.P.Port.caller c.basis.new.self) (g.P.Port.seen c.basis.new.self) (g.P.Port.own c.basis.new.self) (g.P.Port.seen c.turn.new.port) (g.P.Port.own c.turn.new.port) (record { point = c.args.talk.now.point; stage = from }) _ c.args.talk.now.stage _ c.turn.result _ c.basis.ensures.opening c.basis.ensures.caller c.basis.ensures.grown c.basis.ensures.own
-  (wished_as _ _ (ap Revise (revision_same c.in-Ok-rebin.ensures)) (c.turn.ensures.rowed from (Some c.args.talk.now.stage) (λ _. refl)))
+    (wished_as _ _ (ap Revise (revision_same c.in-Ok-rebin.ensures)) (c.turn.ensures.rowed from (Some c.args.talk.now.stage) (λ _. refl)))
