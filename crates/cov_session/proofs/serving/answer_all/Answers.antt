@@ -18,13 +18,13 @@ returns-in-Ok-true-clause-stops g c = let f = rw (c.in-Ok-true.field-0-test, c.l
 
 pub loop-len-preserved : goal.loop-len-preserved
 loop-len-preserved g c = let f = rw (c.in-Ok-false.field-0-test, c.loop-len.invariant.opening, c.loop-len.invariant.caller) at c.in-Ok-false.ensures.framed in
-  record {
-    rest = c.in-Ok-false.ensures.rest ∙ c.loop-len.invariant.rest;
-    opening = c.in-Ok-false.ensures.opening ∙ c.loop-len.invariant.opening;
-    caller = c.in-Ok-false.ensures.caller ∙ c.loop-len.invariant.caller;
-    room = c.in-Ok-false.ensures.room;
-    within = f.goes.within;
-    later = omega (arith, c.loop-len.invariant.later, c.in-Ok-false.ensures.cause.later);
-    same = c.in-Ok-false.ensures.same_faults ∙ c.loop-len.invariant.same;
-    ran = ran_then c.loop-len.invariant.ran (frame_ran f) refl;
-  }
+    record {
+      rest = c.in-Ok-false.ensures.rest ∙ c.loop-len.invariant.rest;
+      opening = c.in-Ok-false.ensures.opening ∙ c.loop-len.invariant.opening;
+      caller = c.in-Ok-false.ensures.caller ∙ c.loop-len.invariant.caller;
+      room = c.in-Ok-false.ensures.room;
+      within = f.goes.within;
+      later = omega (arith, c.loop-len.invariant.later, c.in-Ok-false.ensures.cause.later);
+      same = c.in-Ok-false.ensures.same_faults ∙ c.loop-len.invariant.same;
+      ran = ran_then c.loop-len.invariant.ran (frame_ran f) refl;
+    }

@@ -41,26 +41,26 @@ returns-in-Err-clause-read_cause g c = λ e. rose_after _ _ _ (omega (arith, c.l
 
 pub returns-then-rest-eq0-clause-session : goal.returns-then-rest-eq0-clause-session
 returns-then-rest-eq0-clause-session g c =
-  let s = rw (c.loop-talk.invariant.opening, c.loop-talk.invariant.caller) at c.in-Ok-answer_all.ensures.stops in
-  rw c.in-Ok-eq0.ensures.written (ends_input (record { empty = refl; place = refl }) (omega arith) c.loop-talk.invariant.ran s.0 c.in-Ok-eq0.ensures.fills c.in-Ok-eq0.field-0-test (sym c.len-rest.ensures ∙ c.if-rest-eq0.true))
+    let s = rw (c.loop-talk.invariant.opening, c.loop-talk.invariant.caller) at c.in-Ok-answer_all.ensures.stops in
+    rw c.in-Ok-eq0.ensures.written (ends_input (record { empty = refl; place = refl }) (omega arith) c.loop-talk.invariant.ran s.0 c.in-Ok-eq0.ensures.fills c.in-Ok-eq0.field-0-test (sym c.len-rest.ensures ∙ c.if-rest-eq0.true))
 
 pub returns-in-Ok-eq0-clause-session : goal.returns-in-Ok-eq0-clause-session
 returns-in-Ok-eq0-clause-session g c =
-  let s = rw (c.loop-talk.invariant.opening, c.loop-talk.invariant.caller) at c.in-Ok-answer_all.ensures.stops in
-  rw c.in-Ok-eq0.ensures.written (ends_torn (record { empty = refl; place = refl }) (omega arith) c.loop-talk.invariant.ran s.0 s.1 c.in-Ok-eq0.ensures.fills c.in-Ok-eq0.field-0-test (let n : c.len-rest.result ≡ length c.fill.new.self = c.len-rest.ensures in omega (arith, n, c.if-rest-eq0.false)))
+    let s = rw (c.loop-talk.invariant.opening, c.loop-talk.invariant.caller) at c.in-Ok-answer_all.ensures.stops in
+    rw c.in-Ok-eq0.ensures.written (ends_torn (record { empty = refl; place = refl }) (omega arith) c.loop-talk.invariant.ran s.0 s.1 c.in-Ok-eq0.ensures.fills c.in-Ok-eq0.field-0-test (let n : c.len-rest.result ≡ length c.fill.new.self = c.len-rest.ensures in omega (arith, n, c.if-rest-eq0.false)))
 
 pub loop-talk-preserved : goal.loop-talk-preserved
 loop-talk-preserved g c =
-  let s = rw (c.loop-talk.invariant.opening, c.loop-talk.invariant.caller) at c.in-Ok-answer_all.ensures.stops in
-  let f = c.in-Ok-fill.ensures.fills in
-  record {
-    rest = c.in-Ok-answer_all.ensures.rest ∙ c.loop-talk.invariant.rest;
-    opening = c.in-Ok-answer_all.ensures.opening ∙ c.loop-talk.invariant.opening;
-    caller = c.in-Ok-answer_all.ensures.caller ∙ c.loop-talk.invariant.caller;
-    space = c.in-Ok-answer_all.ensures.room;
-    within = s.0.goes.within;
-    low = omega (arith, c.loop-talk.invariant.low);
-    read = omega (arith, c.loop-talk.invariant.read, c.in-Ok-answer_all.ensures.same_faults, c.in-Ok-fill.ensures.cause.later);
-    write = omega (arith, c.loop-talk.invariant.write, c.in-Ok-answer_all.ensures.later, c.in-Ok-fill.ensures.same_faults);
-    ran = rw c.in-Ok-fill.ensures.written (read_ran (g.L.Link.left c.fill.new.link) c.fill.new.self f.got (ran_then c.loop-talk.invariant.ran s.0 refl) f.long f.is f.takes (omega (arith, c.loop-talk.invariant.low, c.in-Ok-fill.ensures.bound)));
-  }
+    let s = rw (c.loop-talk.invariant.opening, c.loop-talk.invariant.caller) at c.in-Ok-answer_all.ensures.stops in
+    let f = c.in-Ok-fill.ensures.fills in
+    record {
+      rest = c.in-Ok-answer_all.ensures.rest ∙ c.loop-talk.invariant.rest;
+      opening = c.in-Ok-answer_all.ensures.opening ∙ c.loop-talk.invariant.opening;
+      caller = c.in-Ok-answer_all.ensures.caller ∙ c.loop-talk.invariant.caller;
+      space = c.in-Ok-answer_all.ensures.room;
+      within = s.0.goes.within;
+      low = omega (arith, c.loop-talk.invariant.low);
+      read = omega (arith, c.loop-talk.invariant.read, c.in-Ok-answer_all.ensures.same_faults, c.in-Ok-fill.ensures.cause.later);
+      write = omega (arith, c.loop-talk.invariant.write, c.in-Ok-answer_all.ensures.later, c.in-Ok-fill.ensures.same_faults);
+      ran = rw c.in-Ok-fill.ensures.written (read_ran (g.L.Link.left c.fill.new.link) c.fill.new.self f.got (ran_then c.loop-talk.invariant.ran s.0 refl) f.long f.is f.takes (omega (arith, c.loop-talk.invariant.low, c.in-Ok-fill.ensures.bound)));
+    }
