@@ -9,6 +9,3 @@ pub mod Shapes
 pub mod Meeting
 pub mod Later
 pub mod Single
-pub mod OneRow
-pub mod OneServing
-pub mod OneSession

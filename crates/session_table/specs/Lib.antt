@@ -6,4 +6,3 @@ pub mod Serves
 pub mod Says
 pub mod Alone
 pub mod Writable
-pub mod Laws

@@ -5,7 +5,6 @@ mod alone;
 mod bodies;
 mod faults;
 mod finding;
-pub mod laws;
 mod port;
 mod tables;
 mod talk;
