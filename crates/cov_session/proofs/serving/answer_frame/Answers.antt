@@ -5,8 +5,11 @@ use Rattle.cov_session.specs.Streams.{reply_frame}
 use Rattle.cov_session.proofs.Parts.{one_frame, frame_body, frame_long, frame_short, frame_room, writable_spelled, writable_short}
 use Rattle.cov_session.proofs.serving.answer_frame.Goals as goal
 
-pub answer-requires-clause-short : goal.answer-requires-clause-short
-answer-requires-clause-short g c = rw c.as_slice.ensures (frame_short c.args.len (4 + c.args.len - 4) c.args.inbox.now c.requires.frame (omega arith))
+pub answer-said-requires-clause-short : goal.answer-said-requires-clause-short
+answer-said-requires-clause-short g c = let h = rw c.as_slice.ensures (frame_short c.args.len (4 + c.args.len - 4) c.args.inbox.now c.requires.frame (omega arith)) in search rules
+
+pub write_reply-requires-clause-room : goal.write_reply-requires-clause-room
+write_reply-requires-clause-room g c = frame_room c.answer-said.result.reply _ _ c.answer-said.ensures.says.writable (search rules) (search rules)
 
 pub write_reply-requires-clause-spelled : goal.write_reply-requires-clause-spelled
 write_reply-requires-clause-spelled g c = writable_spelled c.answer-said.result.reply c.answer-said.ensures.says.writable
