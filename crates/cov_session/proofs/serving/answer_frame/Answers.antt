@@ -1,4 +1,4 @@
-use Rattle.std.proofs.Common.{◌≡◌, ◌∙◌, ◌+◌, arith, rules, refl, ap, sym, subst, take, List, ℕ, ◌-◌, ◌++◌, ◌≤◌, length}
+use Rattle.std.proofs.Common.{◌≡◌, ◌∙◌, ◌+◌, arith, rules, refl, ap, sym, subst, take, drop, List, ℕ, ◌-◌, ◌++◌, ◌≤◌, length}
 use Rattle.cov_spec.specs.Told.{Grows}
 use Rattle.cov_proto.specs.Frames.{longest_body}
 use Rattle.cov_session.specs.Streams.{reply_frame}
@@ -6,7 +6,8 @@ use Rattle.cov_session.proofs.Parts.{one_frame, frame_body, frame_long, frame_sh
 use Rattle.cov_session.proofs.serving.answer_frame.Goals as goal
 
 pub answer-said-requires-clause-short : goal.answer-said-requires-clause-short
-answer-said-requires-clause-short g c = let h = rw c.as_slice.ensures (frame_short c.args.len (4 + c.args.len - 4) c.args.inbox.now c.requires.frame (omega arith)) in search rules
+answer-said-requires-clause-short g c =
+  let h = subst (λ (l : List ℕ). length (take (4 + c.args.len - 4) (drop 4 l)) ≤ longest_body) (sym c.as_slice.ensures) (frame_short c.args.len (4 + c.args.len - 4) c.args.inbox.now c.requires.frame (omega arith)) in search rules
 
 pub write_reply-requires-clause-room : goal.write_reply-requires-clause-room
 write_reply-requires-clause-room g c = frame_room c.answer-said.result.reply _ _ c.answer-said.ensures.says.writable (search rules) (search rules)
