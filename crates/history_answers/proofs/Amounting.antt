@@ -15,11 +15,11 @@ use Rattle.cov_history.specs.declared.entry.Event.TheVariants.{Admit, Exclude, R
 use Rattle.cov_history.specs.declared.entry.Entry.{Entry}
 use Rattle.cov_history.specs.History.{design_of, tests_of, bytes_in, contents, out_of, is_found, is_stop, has_stop, bins_hit, amount, most, passed, suits, may_follow, is_legal}
 use Rattle.cov_history.specs.Answers.{by, unless_full, change}
-use Rattle.cov_history.proofs.Bools.{by_bool, and_left}
+use Rattle.cov_history.proofs.Bools.{and_left}
 use Rattle.cov_history.proofs.Snoc.{test_count_snoc, bytes_snoc, entries_snoc, history_snoc, stop_snoc}
 use Rattle.cov_history.proofs.Legal.{kept_along, legal_within, within_of}
 use Rattle.history_answers.specs.declared.amounts.Amounts.{Amounts}
-use Rattle.history_answers.specs.Amounts.{amount_in, AreAmounts, first_passed, told_by}
+use Rattle.history_answers.specs.Amounts.{AreAmounts, first_passed, told_by}
 
 -- ---- legal histories are short
 

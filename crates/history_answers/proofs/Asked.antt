@@ -1,7 +1,6 @@
 -- The answers to questions, from what was worked out for them.
-use Rattle.std.proofs.Common.{◌≡◌, ◌∙◌, ℕ, ◌<◌, ◌≤◌, List, [], ◌∷◌, ◌++◌, length, map, take, drop, refl, sym, ap, subst, arith, Bool, true, Option, Some, None, option_map}
-use Rattle.std.specs.Prelude.{slice_get, slice_index, filter, find, bytes_eq, if◌then◌else◌, option_to_list}
-use Rattle.std.specs.Arc.{arc_value}
+use Rattle.std.proofs.Common.{◌≡◌, ◌∙◌, ℕ, List, [], ◌∷◌, ◌++◌, length, map, take, drop, refl, sym, ap, subst, Bool, true, false, Option, Some, None, option_map}
+use Rattle.std.specs.Prelude.{slice_get, slice_index, find, bytes_eq, if◌then◌else◌, option_to_list}
 use Rattle.tally.specs.Rows.{rows_from}
 use Rattle.tally.specs.declared.ranked.Ranked.{Ranked}
 use Rattle.rank_report.specs.Ranking.{IsRanking, Test as Rows}
@@ -21,7 +20,7 @@ use Rattle.cov_history.specs.Coverage.{is_excluded, live_under}
 use Rattle.cov_history.specs.Ranking.{ranking}
 use Rattle.cov_history.specs.History.{Test, design_of, tests_of, contents, out_of, kept, hits, hits_of, is_legal}
 use Rattle.cov_history.specs.Sums.{all_hits}
-use Rattle.cov_history.specs.Answers.{rows, illegal_hit, at_node, rows_at, counts_at, test_counts_by, test_counts_at, illegal_at, tests_at, test_row, name_at, chunk, fetch_at, wanted_at, rank_at, answer_at, is_made, made, entries_of, Suits}
+use Rattle.cov_history.specs.Answers.{rows, illegal_hit, at_node, rows_at, test_counts_by, test_counts_at, illegal_at, tests_at, name_at, chunk, fetch_at, wanted_at, rank_at, answer_at, is_made, made, entries_of, Suits}
 use Rattle.cov_history.specs.declared.asks.Ask.{Ask}
 use Rattle.cov_history.proofs.Made.{stays_legal}
 use Rattle.cov_history.proofs.Rankings.{ranking_is}
@@ -131,3 +130,7 @@ pub still_legal : (opening : Design) (h : List Entry) (caller : ℕ) (a : Ask) (
 still_legal opening h caller a answer e l s is m one =
     let made_is : made caller a (answer_at opening h caller a) ≡ e ∷ [] = ap (made caller a) (sym is) ∙ ap (λ (b : Bool). if b then entries_of caller a else []) m ∙ sym one in
     subst (λ (es : List Entry). is_legal opening (h ++ es) ≡ true) made_is (stays_legal opening h caller a l s)
+
+pub still_if : (opening : Design) (h : List Entry) (e : Entry) (b : Bool) → is_legal opening h ≡ true → is_legal opening (h ++ e ∷ []) ≡ true → is_legal opening (if b then h ++ e ∷ [] else h) ≡ true
+still_if opening h e true l m = m
+still_if opening h e false l m = l

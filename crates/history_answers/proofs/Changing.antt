@@ -1,5 +1,5 @@
 -- The answers to changes, from what was worked out for them.
-use Rattle.std.proofs.Common.{◌≡◌, ◌∙◌, ℕ, Bool, true, false, List, [], ◌∷◌, refl, sym, ap, Option, Some, None}
+use Rattle.std.proofs.Common.{◌≡◌, ◌∙◌, ℕ, Bool, true, false, List, sym, ap, Option, Some, None}
 use Rattle.std.specs.Prelude.{if◌then◌else◌, find, bytes_eq}
 use Rattle.sha2.specs.Sha256.{sha256}
 use Rattle.design_data.specs.declared.design.Design.{Design}
@@ -11,7 +11,7 @@ use Rattle.ucis_model.specs.declared.answers.Answer.TheVariants as answers
 use Rattle.ucis_model.specs.Nodes.{nodes_of}
 use Rattle.ucis_model.specs.Paths.{find_in}
 use Rattle.cov_history.specs.declared.entry.Entry.{Entry}
-use Rattle.cov_history.specs.History.{Test, design_of, out_of, has, kept, is_revise, is_test_or_revise}
+use Rattle.cov_history.specs.History.{Test, design_of, out_of, has, is_revise, is_test_or_revise}
 use Rattle.cov_history.specs.Answers.{admit_by, admit_at, exclude_at, include_at, revise_at, change, stands_since}
 use Rattle.history_answers.specs.declared.keeping.Kept.{Kept}
 use Rattle.history_answers.specs.Kept.{kept_from}

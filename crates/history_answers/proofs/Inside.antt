@@ -1,10 +1,10 @@
 -- The node of a bin is one.
-use Rattle.std.proofs.Common.{◌≡◌, ℕ, zero, suc, ◌+◌, ◌<◌, Bool, List, [], ◌∷◌, length, refl, sym, ◌∙◌, arith, Option, Some, None}
+use Rattle.std.proofs.Common.{◌≡◌, ℕ, zero, suc, ◌+◌, ◌<◌, Bool, List, ◌∷◌, length, refl, sym, ◌∙◌, arith, Option, Some, None}
 use Rattle.std.specs.Prelude.{filter, slice_get, IfSome}
 use Rattle.std.specs.List.{range_with_len}
 use Rattle.ucis_model.specs.declared.node.Node.{Node}
 use Rattle.ucis_model.specs.Paths.{node_at}
-use Rattle.cov_history.specs.Nodes.{is_bin, bin_nodes, node_of_bin}
+use Rattle.cov_history.specs.Nodes.{is_bin, node_of_bin}
 use Rattle.cov_history.proofs.Bools.{by_bool}
 
 at_or_after : (a n m : ℕ) (xs : List ℕ) → ((j : ℕ) → slice_get xs j ≡ Some m → m < a + suc n) → (i : ℕ) → slice_get (a ∷ xs) i ≡ Some m → m < a + suc n

@@ -165,10 +165,11 @@ pub(crate) fn amounts_of(
     let tests = kept_tests(alloc, design_at(opening, entries), entries)?;
     let bytes = bytes_of(alloc, entries)?;
     let out = out_at(alloc, entries)?;
+    let (kept, paths) = (tests.as_slice(), out.as_slice());
     Ok(Amounts {
-        tests: tests.len() as u64,
+        tests: kept.len() as u64,
         bytes,
-        entries: hit_by(tests.as_slice()),
-        history: changes(entries) + out.len() as u64,
+        entries: hit_by(kept),
+        history: changes(entries) + paths.len() as u64,
     })
 }

@@ -215,10 +215,11 @@ pub fn tests_answer(
     ensures { IfOk result (λ answer. answer ≡ tests_at entries.now first) }
 {
     let tests = kept_tests(alloc, design_at(opening, entries), entries)?;
-    let part = page(tests.as_slice(), first as usize, MOST_TESTS);
+    let all = tests.as_slice();
+    let part = page(all, first as usize, MOST_TESTS);
     let rows = test_rows(alloc, part)?;
     Ok(Answer::TestRows {
-        total: tests.len() as u32,
+        total: all.len() as u32,
         rows: List::of(rows),
     })
 }

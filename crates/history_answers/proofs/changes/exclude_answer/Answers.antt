@@ -1,7 +1,7 @@
-use Rattle.std.proofs.Common.{◌≡◌, ◌∙◌, ap, sym, List, Bool, true, false}
+use Rattle.std.proofs.Common.{◌∙◌, ap, sym}
 use Rattle.cov_history.specs.declared.entry.Event.TheVariants as event
 use Rattle.cov_history.specs.Answers.{by}
-use Rattle.cov_history.specs.History.{has, out_of}
+use Rattle.cov_history.specs.History.{has}
 use Rattle.history_answers.proofs.Changing.{already_is, excluded_is}
 use Rattle.history_answers.proofs.changes.exclude_answer.Goals as goal
 

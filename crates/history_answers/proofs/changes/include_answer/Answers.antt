@@ -1,7 +1,5 @@
-use Rattle.std.proofs.Common.{◌≡◌, ◌∙◌, ap, sym, List, Bool, true, false}
-use Rattle.cov_history.specs.declared.entry.Event.TheVariants as event
-use Rattle.cov_history.specs.Answers.{by}
-use Rattle.cov_history.specs.History.{has, out_of}
+use Rattle.std.proofs.Common.{◌∙◌, ap, sym, true, false}
+use Rattle.cov_history.specs.History.{has}
 use Rattle.history_answers.proofs.Changing.{included_is}
 use Rattle.history_answers.proofs.changes.include_answer.Goals as goal
 

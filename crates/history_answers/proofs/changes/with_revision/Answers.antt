@@ -1,7 +1,4 @@
-use Rattle.std.proofs.Common.{◌≡◌, ◌∙◌, ◌+◌, ap, length, arith, List, ℕ}
-use Rattle.std.specs.Prelude.{filter}
-use Rattle.ucis_model.specs.declared.answers.Which.TheVariants.{Bytes, History}
-use Rattle.cov_history.specs.History.{is_found, out_of}
+use Rattle.std.proofs.Common.{◌∙◌, ap, length, arith, List}
 use Rattle.history_answers.specs.declared.keeping.Kept.{Kept}
 use Rattle.history_answers.specs.Kept.{hit_by}
 use Rattle.history_answers.proofs.Worked.{few_kept, hit_fits, hit_is}

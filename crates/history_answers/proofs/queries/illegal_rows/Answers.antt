@@ -1,7 +1,6 @@
-use Rattle.std.proofs.Common.{◌≡◌, ◌∙◌, ap, sym, List, ℕ}
+use Rattle.std.proofs.Common.{◌≡◌, ◌∙◌, ap, List}
 use Rattle.std.specs.Prelude.{slice_index}
 use Rattle.ucis_model.specs.declared.node.Node.{Node}
-use Rattle.cov_history.specs.Nodes.{bins_under}
 use Rattle.cov_history.specs.Coverage.{is_excluded}
 use Rattle.cov_history.specs.History.{out_of}
 use Rattle.cov_history.specs.Answers.{rows, illegal_hit}

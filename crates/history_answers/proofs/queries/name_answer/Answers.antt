@@ -1,7 +1,7 @@
-use Rattle.std.proofs.Common.{◌≡◌, ◌∙◌, ap, sym, Some, None}
+use Rattle.std.proofs.Common.{◌≡◌, ◌∙◌, ap, sym, Some}
 use Rattle.ucis_model.specs.declared.answers.Answer.TheVariants as answers
 use Rattle.cov_history.specs.Nodes.{node_of_bin}
-use Rattle.history_answers.proofs.Asked.{name_found, no_name}
+use Rattle.history_answers.proofs.Asked.{name_found}
 use Rattle.history_answers.proofs.queries.name_answer.Goals as goal
 
 pub returns : goal.returns

@@ -1,4 +1,4 @@
-use Rattle.std.proofs.Common.{◌≡◌, ◌∙◌, ap, sym, List, ℕ}
+use Rattle.std.proofs.Common.{◌≡◌, ◌∙◌, ap, List}
 use Rattle.std.specs.Prelude.{slice_index}
 use Rattle.ucis_model.specs.declared.node.Node.{Node}
 use Rattle.cov_history.specs.Nodes.{bins_under}

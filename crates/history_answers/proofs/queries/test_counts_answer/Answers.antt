@@ -1,4 +1,4 @@
-use Rattle.std.proofs.Common.{◌≡◌, ◌∙◌, ap, sym, Some, List}
+use Rattle.std.proofs.Common.{◌≡◌, ◌∙◌, ap, sym, Some}
 use Rattle.std.specs.Prelude.{slice_index, find, bytes_eq}
 use Rattle.cov_history.specs.History.{hits, design_of}
 use Rattle.history_answers.specs.declared.keeping.Kept.{Kept}

@@ -1,11 +1,11 @@
-use Rattle.std.proofs.Common.{◌≡◌, ◌∙◌, ap, map, length, arith, subst, sym, List, ℕ}
+use Rattle.std.proofs.Common.{◌≡◌, ◌∙◌, ap, map, length, arith, List}
 use Rattle.std.specs.Arc.{arc_value}
 use Rattle.std.specs.declared.sync.Arc.{Arc}
 use Rattle.std.specs.declared.alloc.Global.{Global}
 use Rattle.std.proofs.lemmas.List.{length-map}
 use Rattle.tally.specs.declared.tally.Tally.{Tally}
 use Rattle.tally.specs.Rows.{rows_from}
-use Rattle.rank_report.specs.Ranking.{IsRanking, Test as Rows}
+use Rattle.rank_report.specs.Ranking.{Test as Rows}
 use Rattle.history_answers.specs.declared.keeping.Kept.{Kept}
 use Rattle.history_answers.specs.Kept.{kept_from, rows_of}
 use Rattle.history_answers.proofs.Worked.{few_kept}

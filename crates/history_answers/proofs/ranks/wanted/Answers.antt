@@ -2,7 +2,7 @@ use Rattle.std.proofs.Common.{◌≡◌, ◌∙◌, ap, map, length, arith, List
 use Rattle.std.specs.Prelude.{filter}
 use Rattle.ucis_model.specs.declared.node.Node.{Node}
 use Rattle.ucis_model.specs.Paths.{node_at}
-use Rattle.cov_history.specs.Nodes.{bins_under, bin_nodes}
+use Rattle.cov_history.specs.Nodes.{bins_under}
 use Rattle.cov_history.specs.Coverage.{is_excluded, is_live, live_under}
 use Rattle.cov_history.specs.History.{out_of}
 use Rattle.std.proofs.lemmas.List.{length-map}
