@@ -164,9 +164,13 @@ fn words_hint(alloc: Global, words: &[String]) -> Result<String, AllocError> {
     let form = match words.first().map(|word| word.as_str()) {
         Some("check") => "covd check DESIGN",
         Some("count") => "covd count DESIGN RECORD",
+        Some("report") => "covd report DESIGN RECORD .., with one record or more",
+        Some("make") =>
+            "covd make DESIGN SEED EVENTS TESTS, three numbers in digits: up to 18446744073709551615, 1048576 and 4096",
         Some("record") =>
             "covd record DESIGN DUMP SCOPE ID, where ID has 1 to 255 signs from ! to ~",
-        _ => "covd check DESIGN, covd count DESIGN RECORD, or covd record DESIGN DUMP SCOPE ID",
+        _ =>
+            "covd check DESIGN, covd count DESIGN RECORD, covd report DESIGN RECORD .., covd make DESIGN SEED EVENTS TESTS, or covd record DESIGN DUMP SCOPE ID",
     };
     format!(in alloc; "the words are: {form}; covd --help says more\n")
 }

@@ -6,13 +6,13 @@
 
 mod hex;
 
-use cov_base::{Memory, SureShelf, SureSource};
+use cov_base::{MemSink, Memory, SureShelf, SureSource};
 use cov_net::StdSink;
 use covd_core::{Status, run};
 use hex::bytes_of;
 use std::alloc::Global;
 use std::io;
-use std::io::{Input, Print};
+use std::io::{Input, Print, Write};
 use std::process::ExitCode;
 use std::thread::Threads;
 
@@ -22,6 +22,7 @@ struct Files {
     design: Vec<u8>,
     record: Vec<u8>,
     whole: Vec<u8>,
+    kept: Vec<(String, Vec<u8>)>,
 }
 
 /// Why a row isn't done.
@@ -52,6 +53,9 @@ fn shelf_of(alloc: Global, files: &Files) -> Result<SureShelf, Memory> {
     let mut all = Vec::new(alloc);
     all.push(file(alloc, "d", &files.design)?)?;
     all.push(file(alloc, "r", &files.record)?)?;
+    for (name, bytes) in &files.kept {
+        all.push(file(alloc, name.as_str(), bytes)?)?;
+    }
     Ok(SureShelf::new(all))
 }
 
@@ -101,6 +105,56 @@ fn status_of<R: Threads + Sync + Print>(
     Ok(run(rt, alloc, words, &mut shelf, &mut source, &mut sink))
 }
 
+/// Runs the words over the files, and hands over what they print.
+fn text_and_status<R: Threads + Sync>(
+    rt: &R,
+    alloc: Global,
+    files: &Files,
+    words: &[String],
+) -> Result<(Vec<u8>, Status), Memory> {
+    let mut shelf = shelf_of(alloc, files)?;
+    let mut source = SureSource::new(Vec::new(alloc), 1);
+    let mut sink = MemSink::new(alloc, 65_536, Vec::new(alloc));
+    let status = run(rt, alloc, words, &mut shelf, &mut source, &mut sink);
+    Ok((Vec::from_slice(alloc, sink.contents())?, status))
+}
+
+/// The first lines of a text.
+fn first_lines(text: &[u8], many: usize) -> &[u8] {
+    let mut left = many;
+    for (place, byte) in text.iter().enumerate() {
+        if left == 0 {
+            return &text[..place];
+        }
+        if *byte == b'\n' {
+            left -= 1;
+        }
+    }
+    text
+}
+
+/// Writes the row of a command with the first lines of its answer.
+fn first<R: Threads + Sync + Print>(
+    rt: &R,
+    alloc: Global,
+    files: &Files,
+    row: &str,
+) -> io::Result<()> {
+    println!(rt; "$ first {row}")?;
+    let mut all = words_of(alloc, row).map_err(out_of_memory)?;
+    let many = all.first().and_then(|word| place_of(word.as_str()));
+    if !all.is_empty() {
+        let _ = all.remove(0);
+    }
+    match text_and_status(rt, alloc, files, &all) {
+        Ok((text, status)) => {
+            io::writer(rt).write_all(first_lines(&text, many.unwrap_or(0)))?;
+            println!(rt; "status {}", status.number())
+        }
+        Err(_) => println!(rt; "no answer"),
+    }
+}
+
 /// Writes the row of a command with its answer.
 fn command<R: Threads + Sync + Print>(
     rt: &R,
@@ -137,6 +191,12 @@ fn row<R: Threads + Sync + Print>(
             files.record = changed(alloc, &files.whole, text).map_err(out_of_memory)?;
             println!(rt; "{line}")
         }
+        Some(("as", name)) => {
+            let kept = file(alloc, name, &files.record).map_err(out_of_memory)?;
+            files.kept.push(kept)?;
+            println!(rt; "{line}")
+        }
+        Some(("first", words)) => first(rt, alloc, files, words),
         _ => command(rt, alloc, files, line),
     }
 }
@@ -147,6 +207,7 @@ fn rows<R: Threads + Sync + Input + Print>(rt: &R, alloc: Global) -> io::Result<
         design: Vec::new(alloc),
         record: Vec::new(alloc),
         whole: Vec::new(alloc),
+        kept: Vec::new(alloc),
     };
     for line in rt.lines(alloc) {
         row(rt, alloc, &mut files, line?.as_str())?;

@@ -1,0 +1,14 @@
+use Rattle.std.proofs.Common.{[], sym, subst}
+use Rattle.std.proofs.lemmas.Result.{IfOk-weaker}
+use Rattle.design_data.specs.declared.design.Design.{Design}
+use Rattle.covd_core.specs.Command.{FillsMade}
+use Rattle.covd_core.specs.Filling.{IsPlain}
+use Rattle.covd_core.proofs.report.made.Goals as goal
+
+pub made_into-requires-clause-plain : goal.made_into-requires-clause-plain
+made_into-requires-clause-plain g c = subst (λ (d : Design). IsPlain d c.in_ok-design.store) (sym c.in_ok-design.ensures.design) c.in_ok-design.ensures.plain
+
+pub returns : goal.returns
+returns g c =
+    let n = c.args.numbers in
+    IfOk-weaker c.made_into.result _ _ (λ a h. subst (λ (d : Design). FillsMade d n.seed n.rounds 1 [] n.tests a.status a.text.items) c.in_ok-design.ensures.design h) c.made_into.ensures
