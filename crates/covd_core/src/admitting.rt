@@ -3,6 +3,7 @@ ghost use Rattle.std.specs.Prelude.{◌≡◌, IfOk, true};
 ghost use Rattle.std.specs.Arc.{arc_value};
 ghost use Rattle.cov_history.specs.Tables.{fits};
 ghost use Rattle.merge_store.specs.Stores.{opening_of, entries_of};
+ghost use Rattle.sampler.specs.Plans.{IsDesignPlan};
 ghost use Rattle.sampler.specs.Shape.{Fits};
 ghost use Rattle.covd_core.specs.Filling.{IsPlain, Admits, IsRefusal};
 
@@ -13,7 +14,7 @@ use cov_base::{Memory, OpenGate};
 use design_data::Design;
 use merge_store::{AdmitFault, Store};
 use record_codec::Record;
-use sampler::{Prepared, prepare};
+use sampler::{Plan, Prepared, prepare_under};
 use std::alloc::Global;
 use std::sync::Arc;
 
@@ -43,20 +44,22 @@ fn admit_prepared(alloc: Global, store: &mut Store, k: u64, prepared: Prepared) 
     }
 }
 
-/// Admits the k-th record by caller 0.
+/// Admits the k-th record by caller 0. `plan` is what is worked out of the design, once for all records.
 pub(crate) fn admit_record(
     alloc: Global,
     design: &Arc<Design>,
+    plan: &Plan,
     store: &mut Store,
     k: u64,
     rec: Record,
 ) -> Result<(), Stop>
     requires plain { IsPlain (arc_value design.now) store.old }
+    requires planned { IsDesignPlan (arc_value design.now).instances plan.now }
     requires fits { Fits (arc_value design.now) rec }
     ensures opening { opening_of store.new ≡ opening_of store.old }
     ensures admits { Admits (arc_value design.now) k (entries_of store.old) rec (entries_of store.new) result }
 {
-    let prepared = prepare(alloc, design, rec, &OpenGate)?;
+    let prepared = prepare_under(alloc, plan, design, rec, &OpenGate)?;
     admit_prepared(alloc, store, k, prepared)?;
     Ok(())
 }

@@ -3,6 +3,7 @@ ghost use Rattle.std.specs.Prelude.{◌≡◌, ◌≤◌, [], length, map, strin
 ghost use Rattle.std.specs.Arc.{arc_value};
 ghost use Rattle.cov_base.specs.Loads.{HasFile};
 ghost use Rattle.cov_ground.specs.Limits.{longest_record};
+ghost use Rattle.sampler.specs.Plans.{IsDesignPlan};
 ghost use Rattle.merge_store.specs.Stores.{opening_of, entries_of};
 ghost use Rattle.covd_core.specs.Filling.{IsPlain, IsUnread, IsDecoded, Takes, IsFilled};
 
@@ -15,7 +16,7 @@ use cov_ground::limits::LONGEST_RECORD;
 use design_data::Design;
 use merge_store::Store;
 use record_codec::{Record, decode};
-use sampler::shape_fits;
+use sampler::{Plan, shape_fits};
 use std::alloc::Global;
 use std::sync::Arc;
 
@@ -50,12 +51,14 @@ fn decoded(alloc: Global, k: u64, design: &Design, bytes: &[u8]) -> Result<Recor
 fn take_file<F: Shelf>(
     alloc: Global,
     design: &Arc<Design>,
+    plan: &Plan,
     store: &mut Store,
     k: u64,
     name: &str,
     shelf: &mut F,
 ) -> Result<(), Stop>
-    requires { IsPlain (arc_value design.now) store.old }
+    requires plain { IsPlain (arc_value design.now) store.old }
+    requires planned { IsDesignPlan (arc_value design.now).instances plan.now }
     ensures same { F.files shelf.new ≡ F.files shelf.old }
     ensures later { F.faults shelf.old ≤ F.faults shelf.new }
     ensures opening { opening_of store.new ≡ opening_of store.old }
@@ -63,7 +66,7 @@ fn take_file<F: Shelf>(
 {
     let bytes = read(alloc, name, shelf)?;
     let rec = decoded(alloc, k, design, &bytes)?;
-    admit_record(alloc, design, store, k, rec)?;
+    admit_record(alloc, design, plan, store, k, rec)?;
     Ok(())
 }
 
@@ -71,11 +74,13 @@ fn take_file<F: Shelf>(
 pub(crate) fn fill<F: Shelf>(
     alloc: Global,
     design: &Arc<Design>,
+    plan: &Plan,
     store: &mut Store,
     names: &[String],
     shelf: &mut F,
 ) -> Result<(), Stop>
     requires plain { IsPlain (arc_value design.now) store.old }
+    requires planned { IsDesignPlan (arc_value design.now).instances plan.now }
     requires fresh { entries_of store.old ≡ [] }
     ensures same { F.files shelf.new ≡ F.files shelf.old }
     ensures later { F.faults shelf.old ≤ F.faults shelf.new }
@@ -86,7 +91,7 @@ pub(crate) fn fill<F: Shelf>(
     let mut rest = names;
     while let Some((name, later)) = rest.split_first() {
         k += 1;
-        take_file(alloc, design, store, k, name.as_str(), shelf)?;
+        take_file(alloc, design, plan, store, k, name.as_str(), shelf)?;
         rest = later;
     }
     Ok(())

@@ -1,6 +1,7 @@
 //! A store that is filled with records from the generator.
 ghost use Rattle.std.specs.Prelude.{◌≡◌, ◌≤◌, [], IfOk, OnOk};
 ghost use Rattle.std.specs.Arc.{arc_value};
+ghost use Rattle.sampler.specs.Plans.{IsDesignPlan};
 ghost use Rattle.merge_store.specs.Stores.{opening_of, entries_of};
 ghost use Rattle.covd_core.specs.Admission.{full_line};
 ghost use Rattle.covd_core.specs.Filling.{IsLine, IsPlain, IsMade, TakesMade, IsFilledMade};
@@ -15,6 +16,7 @@ use design_data::Design;
 use merge_store::Store;
 use record_codec::Record;
 use record_maker::{MakeFault, make_record};
+use sampler::Plan;
 use std::alloc::Global;
 use std::sync::Arc;
 
@@ -43,17 +45,19 @@ fn made(alloc: Global, design: &Design, seed: u64, rounds: u32, test: u32) -> Re
 fn take_made(
     alloc: Global,
     design: &Arc<Design>,
+    plan: &Plan,
     store: &mut Store,
     seed: u64,
     rounds: u32,
     test: u32,
 ) -> Result<(), Stop>
-    requires { IsPlain (arc_value design.now) store.old }
+    requires plain { IsPlain (arc_value design.now) store.old }
+    requires planned { IsDesignPlan (arc_value design.now).instances plan.now }
     ensures opening { opening_of store.new ≡ opening_of store.old }
     ensures takes { TakesMade (arc_value design.now) seed rounds test (entries_of store.old) (entries_of store.new) result }
 {
     let rec = made(alloc, design, seed, rounds, test)?;
-    admit_record(alloc, design, store, test as u64, rec)?;
+    admit_record(alloc, design, plan, store, test as u64, rec)?;
     Ok(())
 }
 
@@ -61,10 +65,12 @@ fn take_made(
 pub(crate) fn fill_made(
     alloc: Global,
     design: &Arc<Design>,
+    plan: &Plan,
     store: &mut Store,
     numbers: Numbers,
 ) -> Result<(), Stop>
     requires plain { IsPlain (arc_value design.now) store.old }
+    requires planned { IsDesignPlan (arc_value design.now).instances plan.now }
     requires fresh { entries_of store.old ≡ [] }
     ensures plain { OnOk result (IsPlain (arc_value design.now) store.new) }
     ensures filled { IsFilledMade (arc_value design.now) numbers.seed numbers.rounds numbers.tests (entries_of store.new) result }
@@ -74,7 +80,15 @@ pub(crate) fn fill_made(
     while left > 0 {
         left -= 1;
         test += 1;
-        take_made(alloc, design, store, numbers.seed, numbers.rounds, test)?;
+        take_made(
+            alloc,
+            design,
+            plan,
+            store,
+            numbers.seed,
+            numbers.rounds,
+            test,
+        )?;
     }
     Ok(())
 }

@@ -1,6 +1,7 @@
 //! The commands `report` and `make`.
 ghost use Rattle.std.specs.Prelude.{◌≡◌, ◌≤◌, [], map, string_bytes, IfOk};
 ghost use Rattle.std.specs.Arc.{arc_value};
+ghost use Rattle.sampler.specs.Plans.{IsDesignPlan};
 ghost use Rattle.merge_store.specs.Stores.{entries_of};
 ghost use Rattle.covd_core.specs.Command.{Fills, FillsMade, Prints, Reports, MakesReport};
 ghost use Rattle.covd_core.specs.Filling.{IsPlain};
@@ -16,6 +17,7 @@ use cov_base::{Memory, Shelf};
 use cov_report::report_lines;
 use design_data::Design;
 use merge_store::Store;
+use sampler::Plan;
 use std::alloc::Global;
 use std::sync::Arc;
 use std::thread::Threads;
@@ -48,17 +50,19 @@ fn filled_into<R: Threads + Sync, F: Shelf>(
     rt: &R,
     alloc: Global,
     design: &Arc<Design>,
+    plan: &Plan,
     store: &mut Store,
     names: &[String],
     shelf: &mut F,
 ) -> Result<Answer, Memory>
     requires plain { IsPlain (arc_value design.now) store.old }
+    requires planned { IsDesignPlan (arc_value design.now).instances plan.now }
     requires fresh { entries_of store.old ≡ [] }
     ensures same { F.files shelf.new ≡ F.files shelf.old }
     ensures later { F.faults shelf.old ≤ F.faults shelf.new }
     ensures answer { IfOk result (λ a. Fills (F.files shelf.old) (F.faults shelf.old) (F.faults shelf.new) (arc_value design.now) 1 [] (map string_bytes names.now) a.status a.text.items) }
 {
-    match fill(alloc, design, store, names, shelf) {
+    match fill(alloc, design, plan, store, names, shelf) {
         Ok(()) => printed(rt, alloc, store),
         Err(Stop::Refused(answer)) => Ok(answer),
         Err(Stop::Memory) => Err(Memory),
@@ -78,7 +82,8 @@ fn filled<R: Threads + Sync, F: Shelf>(
     ensures answer { IfOk result (λ a. Fills (F.files shelf.old) (F.faults shelf.old) (F.faults shelf.new) design 1 [] (map string_bytes names.now) a.status a.text.items) }
 {
     let (design, mut store) = opened(alloc, design)?;
-    filled_into(rt, alloc, &design, &mut store, names, shelf)
+    let plan = Plan::of(alloc, &design)?;
+    filled_into(rt, alloc, &design, &plan, &mut store, names, shelf)
 }
 
 /// Loads, compiles, takes the records in and prints the report.
@@ -104,14 +109,16 @@ fn made_into<R: Threads + Sync>(
     rt: &R,
     alloc: Global,
     design: &Arc<Design>,
+    plan: &Plan,
     store: &mut Store,
     numbers: Numbers,
 ) -> Result<Answer, Memory>
     requires plain { IsPlain (arc_value design.now) store.old }
+    requires planned { IsDesignPlan (arc_value design.now).instances plan.now }
     requires fresh { entries_of store.old ≡ [] }
     ensures { IfOk result (λ a. FillsMade (arc_value design.now) numbers.seed numbers.rounds 1 [] numbers.tests a.status a.text.items) }
 {
-    match fill_made(alloc, design, store, numbers) {
+    match fill_made(alloc, design, plan, store, numbers) {
         Ok(()) => printed(rt, alloc, store),
         Err(Stop::Refused(answer)) => Ok(answer),
         Err(Stop::Memory) => Err(Memory),
@@ -128,7 +135,8 @@ fn made<R: Threads + Sync>(
     ensures { IfOk result (λ a. FillsMade design numbers.seed numbers.rounds 1 [] numbers.tests a.status a.text.items) }
 {
     let (design, mut store) = opened(alloc, design)?;
-    made_into(rt, alloc, &design, &mut store, numbers)
+    let plan = Plan::of(alloc, &design)?;
+    made_into(rt, alloc, &design, &plan, &mut store, numbers)
 }
 
 /// Loads, compiles, makes the records, takes them in and prints the report.
