@@ -1,22 +1,22 @@
 //! Worked rows of whole commands. A line `design TEXT` makes the file `d`, where `\n` stands for a newline; a line
 //! `record HEX` makes the file `r`, and a line `with FROM TO HEX` that record with other bytes in place of those from
-//! FROM up to TO. Every other line is the words of a `covd` over these two files. Each line is written again; behind a
-//! command follow its text and its status.
+//! FROM up to TO. A line `as NAME` keeps the record as the file NAME too. Every other line is the words of a `covd` over
+//! these files. Each line is written again; behind a command follow its text and its status.
 #![tactic(auto)]
 
 mod hex;
 
-use cov_base::{MemSink, Memory, SureShelf, SureSource};
+use cov_base::{Memory, SureShelf, SureSource};
 use cov_net::StdSink;
 use covd_core::{Status, run};
 use hex::bytes_of;
 use std::alloc::Global;
 use std::io;
-use std::io::{Input, Print, Write};
+use std::io::{Input, Print};
 use std::process::ExitCode;
 use std::thread::Threads;
 
-/// The two files, and the record before other bytes were put in.
+/// The two files, the record before other bytes were put in, and the files that are kept.
 #[derive(Drop)]
 struct Files {
     design: Vec<u8>,
@@ -105,56 +105,6 @@ fn status_of<R: Threads + Sync + Print>(
     Ok(run(rt, alloc, words, &mut shelf, &mut source, &mut sink))
 }
 
-/// Runs the words over the files, and hands over what they print.
-fn text_and_status<R: Threads + Sync>(
-    rt: &R,
-    alloc: Global,
-    files: &Files,
-    words: &[String],
-) -> Result<(Vec<u8>, Status), Memory> {
-    let mut shelf = shelf_of(alloc, files)?;
-    let mut source = SureSource::new(Vec::new(alloc), 1);
-    let mut sink = MemSink::new(alloc, 65_536, Vec::new(alloc));
-    let status = run(rt, alloc, words, &mut shelf, &mut source, &mut sink);
-    Ok((Vec::from_slice(alloc, sink.contents())?, status))
-}
-
-/// The first lines of a text.
-fn first_lines(text: &[u8], many: usize) -> &[u8] {
-    let mut left = many;
-    for (place, byte) in text.iter().enumerate() {
-        if left == 0 {
-            return &text[..place];
-        }
-        if *byte == b'\n' {
-            left -= 1;
-        }
-    }
-    text
-}
-
-/// Writes the row of a command with the first lines of its answer.
-fn first<R: Threads + Sync + Print>(
-    rt: &R,
-    alloc: Global,
-    files: &Files,
-    row: &str,
-) -> io::Result<()> {
-    println!(rt; "$ first {row}")?;
-    let mut all = words_of(alloc, row).map_err(out_of_memory)?;
-    let many = all.first().and_then(|word| place_of(word.as_str()));
-    if !all.is_empty() {
-        let _ = all.remove(0);
-    }
-    match text_and_status(rt, alloc, files, &all) {
-        Ok((text, status)) => {
-            io::writer(rt).write_all(first_lines(&text, many.unwrap_or(0)))?;
-            println!(rt; "status {}", status.number())
-        }
-        Err(_) => println!(rt; "no answer"),
-    }
-}
-
 /// Writes the row of a command with its answer.
 fn command<R: Threads + Sync + Print>(
     rt: &R,
@@ -196,7 +146,6 @@ fn row<R: Threads + Sync + Print>(
             files.kept.push(kept)?;
             println!(rt; "{line}")
         }
-        Some(("first", words)) => first(rt, alloc, files, words),
         _ => command(rt, alloc, files, line),
     }
 }
