@@ -104,10 +104,10 @@ fn answer<R: Threads + Sync, F: Shelf>(
 /// Does what the words say over the files of the shelf, and writes its text to the sink.
 ///
 /// The words are those after the program's name. The commands are `check DESIGN`, which prints the bins of the design;
-/// `count DESIGN RECORD`, which prints how often the record hits each of them; and `record DESIGN DUMP SCOPE ID`, which
-/// writes the bytes of the record of a value change dump. What is written is built whole before its first byte is
-/// written. `report DESIGN RECORD ..` and `make DESIGN SEED EVENTS TESTS` print the report of a store that is filled with the
-/// records of files or of a generator. The source isn't touched. Threads are started to rank tests.
+/// `count DESIGN RECORD`, which prints how often the record hits each of them; `report DESIGN RECORD ..` and `make DESIGN
+/// SEED EVENTS TESTS`, which print the report of the records of files, or of those that a generator makes; and `record
+/// DESIGN DUMP SCOPE ID`, which writes the bytes of the record of a value change dump. What is written is built whole
+/// before its first byte is written. The source isn't touched. Threads are started to rank tests.
 pub fn run<R: Threads + Sync, F: Shelf, S: Source, K: Sink>(
     rt: &R,
     alloc: Global,
