@@ -1,6 +1,6 @@
 -- Told files and a shelf that didn't fail leave one status and one text to the words.
 use Rattle.std.proofs.Common.{◌≡◌, ℕ, ◌<◌, ◌+◌, suc, zero, ◌≤◌, List, [], ◌∷◌, length, take, Some, None, inl, inr, refl, sym, ap, subst, ◌∙◌, arith}
-use Rattle.std.specs.Prelude.{◌⊎◌, slice_index_or, Result, Ok, Err, codes}
+use Rattle.std.specs.Prelude.{◌⊎◌, slice_index, slice_index_or, Result, Ok, Err, codes}
 use Rattle.cov_spec.specs.Causes.{Rose}
 use Rattle.cov_spec.specs.Files.{file_of}
 use Rattle.cov_counting.specs.Tallies.{IsTally}
@@ -496,6 +496,10 @@ module _ (spells : IsReading) (all : Told) (design : List ℕ) (before now : ℕ
 same_some : (m n : ℕ) → Some m ≡ Some n → m ≡ n
 same_some m n e = cc
 
+-- `record` and `report` differ in their third letters
+no_report : codes "record" ≡ codes "report" → ⊥
+no_report e = let third : 99 ≡ 112 = ap (λ (word : List ℕ). slice_index word 2) e in omega (arith, third)
+
 -- words of two commands
 other_command : (a b : List ℕ) (xs ys words : List (List ℕ)) → (a ≡ b → ⊥) → words ≡ a ∷ xs → words ≡ b ∷ ys → ⊥
 other_command a b xs ys words apart e f = let same : a ≡ b = cc (e, f) in apart same
@@ -607,7 +611,7 @@ module _ (spells : IsReading) (words : List (List ℕ)) (all : Told) (before now
   count_or_make s s' text text' a b = other_command (codes "count") (codes "make") (a.0 ∷ a.1 ∷ []) _ words (λ e. absurd (cc e)) a.2 b.4.are
 
   record_or_report : AreApart RecordCommand ReportCommand
-  record_or_report s s' text text' a b = other_command (codes "record") (codes "report") (a.0 ∷ a.1 ∷ a.2 ∷ a.3 ∷ []) _ words (λ e. absurd (cc e)) a.4.0 b.2.are
+  record_or_report s s' text text' a b = other_command (codes "record") (codes "report") (a.0 ∷ a.1 ∷ a.2 ∷ a.3 ∷ []) _ words no_report a.4.0 b.2.are
 
   record_or_make : AreApart RecordCommand MakeCommand
   record_or_make s s' text text' a b = other_command (codes "record") (codes "make") (a.0 ∷ a.1 ∷ a.2 ∷ a.3 ∷ []) _ words (λ e. absurd (cc e)) a.4.0 b.4.are

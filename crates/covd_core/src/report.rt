@@ -12,7 +12,6 @@ use crate::filling::fill;
 use crate::forms::Numbers;
 use crate::loading::{HadDesign, had_design};
 use crate::making::fill_made;
-use crate::stop::Stop;
 use cov_base::{Memory, Shelf};
 use cov_report::report_lines;
 use design_data::Design;
@@ -64,8 +63,7 @@ fn filled_into<R: Threads + Sync, F: Shelf>(
 {
     match fill(alloc, design, plan, store, names, shelf) {
         Ok(()) => printed(rt, alloc, store),
-        Err(Stop::Refused(answer)) => Ok(answer),
-        Err(Stop::Memory) => Err(Memory),
+        Err(stop) => stop.into_answer(),
     }
 }
 
@@ -120,8 +118,7 @@ fn made_into<R: Threads + Sync>(
 {
     match fill_made(alloc, design, plan, store, numbers) {
         Ok(()) => printed(rt, alloc, store),
-        Err(Stop::Refused(answer)) => Ok(answer),
-        Err(Stop::Memory) => Err(Memory),
+        Err(stop) => stop.into_answer(),
     }
 }
 

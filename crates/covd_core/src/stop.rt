@@ -1,5 +1,5 @@
 //! Why a command ends before its text is printed.
-ghost use Rattle.std.specs.Prelude.{◌≡◌, IfErr};
+ghost use Rattle.std.specs.Prelude.{◌≡◌, IfOk};
 ghost use Rattle.covd_core.specs.declared.stop.Stop.TheVariants as stops;
 
 use crate::Status;
@@ -27,5 +27,15 @@ impl Stop {
         ensures { result ≡ stops.Refused (record { status = status; text = text }) }
     {
         Stop::Refused(Answer { status, text })
+    }
+
+    /// The answer of the command.
+    pub(crate) fn into_answer(self) -> Result<Answer, Memory>
+        ensures { IfOk result (λ a. self ≡ stops.Refused a) }
+    {
+        match self {
+            Stop::Refused(answer) => Ok(answer),
+            Stop::Memory => Err(Memory),
+        }
     }
 }

@@ -6,9 +6,6 @@ use Rattle.covd_core.specs.Command.{Files, Fills}
 use Rattle.covd_core.specs.Filling.{IsPlain}
 use Rattle.covd_core.proofs.report.filled.Goals as goal
 
-pub filled_into-requires-clause-plain : goal.filled_into-requires-clause-plain
-filled_into-requires-clause-plain g c = subst (λ (d : Design). IsPlain d c.in_ok-design.store) (sym c.in_ok-design.ensures.design) c.in_ok-design.ensures.plain
-
 pub returns-clause-answer : goal.returns-clause-answer
 returns-clause-answer g c =
     let files : Files = g.F.Shelf.files c.args.shelf.now in

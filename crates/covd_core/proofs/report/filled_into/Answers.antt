@@ -6,6 +6,3 @@ use Rattle.covd_core.proofs.report.filled_into.Goals as goal
 pub returns-in-Ok-clause-answer : goal.returns-in-Ok-clause-answer
 returns-in-Ok-clause-answer g c =
     IfOk-weaker c.printed.result _ _ (λ a h. c.in-Ok.ensures.filled.ends (g.F.Shelf.faults c.fill.new.shelf) a.status a.text.items h) (c.printed.ensures (arc_value c.args.design.now) c.in-Ok.ensures.plain)
-
-pub returns-in-Err-Refused-clause-answer : goal.returns-in-Err-Refused-clause-answer
-returns-in-Err-Refused-clause-answer g c = rw c.in-Err-Refused.field-0-is at c.in-Err-Refused.ensures.filled

@@ -5,9 +5,6 @@ use Rattle.covd_core.specs.Command.{FillsMade}
 use Rattle.covd_core.specs.Filling.{IsPlain}
 use Rattle.covd_core.proofs.report.made.Goals as goal
 
-pub made_into-requires-clause-plain : goal.made_into-requires-clause-plain
-made_into-requires-clause-plain g c = subst (λ (d : Design). IsPlain d c.in_ok-design.store) (sym c.in_ok-design.ensures.design) c.in_ok-design.ensures.plain
-
 pub returns : goal.returns
 returns g c =
     let n = c.args.numbers in

@@ -4,6 +4,3 @@ use Rattle.covd_core.proofs.report.made_into.Goals as goal
 
 pub returns-in-Ok : goal.returns-in-Ok
 returns-in-Ok g c = IfOk-weaker c.printed.result _ _ (λ a h. c.in-Ok.ensures.filled.ends a.status a.text.items h) (c.printed.ensures (arc_value c.args.design.now) c.in-Ok.ensures.plain)
-
-pub returns-in-Err-Refused : goal.returns-in-Err-Refused
-returns-in-Err-Refused g c = rw c.in-Err-Refused.field-0-is at c.in-Err-Refused.ensures.filled

@@ -1,4 +1,4 @@
-use Rattle.std.proofs.Common.{[], map, inl, inr, subst}
+use Rattle.std.proofs.Common.{[], map, inr, subst}
 use Rattle.std.proofs.lemmas.Result.{IfOk-weaker}
 use Rattle.std.specs.Prelude.{string_bytes}
 use Rattle.covd_core.specs.Command.{Files, Fills}
@@ -20,6 +20,3 @@ returns-in-Compiled-clause-answer g c =
       fills_from files before middle now d names 1 [] a.status a.text.items c.in_ok-design.ensures.later
           (subst (λ (f : Files). Fills f middle now d 1 [] names a.status a.text.items) c.in_ok-design.ensures.same h),
     )) c.filled.ensures.answer
-
-pub returns-clause-answer : goal.returns-clause-answer
-returns-clause-answer g c = inl (rw c.in-Refused.is at c.in_ok-design.ensures.had)
