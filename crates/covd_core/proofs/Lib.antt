@@ -1,9 +1,14 @@
+pub mod Admissions
 pub mod Designs
+pub mod Digits
 pub mod Dumping
+pub mod Fillings
+pub mod Fitting
 pub mod Grown
 pub mod Had
 pub mod Items
 pub mod Leaving
+pub mod NoForm
 pub mod OneAnswer
 pub mod Parsing
 pub mod Records

@@ -1,12 +1,15 @@
 //! The program's one call.
-ghost use Rattle.std.specs.Prelude.{◌≡◌, ◌≤◌, map, string_bytes, IfOk, MatchOption};
-ghost use Rattle.covd_core.specs.Command.{Answers, IsCheckCommand, IsNoCheck, IsCountCommand, IsNoCount, Leaves, HasOneAnswer};
+ghost use Rattle.std.specs.Prelude.{◌≡◌, ◌≤◌, map, string_bytes, IfOk, IfNone, MatchOption};
+ghost use Rattle.covd_core.specs.Command.{FillAnswers, Answers, IsCheckCommand, IsNoCheck, IsCountCommand, IsNoCount, Leaves, HasOneAnswer};
+ghost use Rattle.covd_core.specs.Forms.{IsNoReport, IsNoMake};
 
 use crate::Status;
 use crate::answer::Answer;
 use crate::check::check;
 use crate::count::count;
+use crate::forms::{make_words, report_words};
 use crate::record::{record_dump, record_words};
+use crate::report::{make, report};
 use crate::texts::bad_words;
 use crate::writing::write_all;
 use cov_base::{Memory, Shelf, Sink, Source};
@@ -45,11 +48,41 @@ fn count_words(words: &[String]) -> Option<(&str, &str)>
     }
 }
 
-fn answer<F: Shelf>(alloc: Global, words: &[String], shelf: &mut F) -> Result<Answer, Memory>
+// The answer of a command that fills a store; None where the words are none.
+fn filled<R: Threads + Sync, F: Shelf>(
+    rt: &R,
+    alloc: Global,
+    words: &[String],
+    shelf: &mut F,
+) -> Option<Result<Answer, Memory>>
+    ensures same { F.files shelf.new ≡ F.files shelf.old }
+    ensures later { F.faults shelf.old ≤ F.faults shelf.new }
+    ensures answer { MatchOption result (IsNoReport (map string_bytes words.now) × IsNoMake (map string_bytes words.now))
+        (λ done. IfOk done (λ a. FillAnswers (map string_bytes words.now) (F.files shelf.old) (F.faults shelf.old) (F.faults shelf.new) a.status a.text.items)) }
+    ensures untouched { IfNone result (shelf.new ≡ shelf.old) }
+{
+    if let Some((design, names)) = report_words(words) {
+        return Some(report(rt, alloc, design, names, shelf));
+    }
+    match make_words(words) {
+        Some((design, numbers)) => Some(make(rt, alloc, design, numbers, shelf)),
+        None => None,
+    }
+}
+
+fn answer<R: Threads + Sync, F: Shelf>(
+    rt: &R,
+    alloc: Global,
+    words: &[String],
+    shelf: &mut F,
+) -> Result<Answer, Memory>
     ensures same { F.files shelf.new ≡ F.files shelf.old }
     ensures later { F.faults shelf.old ≤ F.faults shelf.new }
     ensures answer { IfOk result (λ a. Answers (map string_bytes words.now) (F.files shelf.old) (F.faults shelf.old) (F.faults shelf.new) a.status a.text.items) }
 {
+    if let Some(done) = filled(rt, alloc, words, shelf) {
+        return done;
+    }
     if let Some(design) = check_words(words) {
         return check(alloc, design, shelf);
     }
@@ -71,9 +104,10 @@ fn answer<F: Shelf>(alloc: Global, words: &[String], shelf: &mut F) -> Result<An
 /// Does what the words say over the files of the shelf, and writes its text to the sink.
 ///
 /// The words are those after the program's name. The commands are `check DESIGN`, which prints the bins of the design;
-/// `count DESIGN RECORD`, which prints how often the record hits each of them; and `record DESIGN DUMP SCOPE ID`, which
-/// writes the bytes of the record of a value change dump. What is written is built whole before its first byte is
-/// written. The source isn't touched, and no thread is started.
+/// `count DESIGN RECORD`, which prints how often the record hits each of them; `report DESIGN RECORD ..` and `make DESIGN
+/// SEED EVENTS TESTS`, which print the report of the records of files, or of those that a generator makes; and `record
+/// DESIGN DUMP SCOPE ID`, which writes the bytes of the record of a value change dump. What is written is built whole
+/// before its first byte is written. The source isn't touched. Threads are started to rank tests.
 pub fn run<R: Threads + Sync, F: Shelf, S: Source, K: Sink>(
     rt: &R,
     alloc: Global,
@@ -91,9 +125,8 @@ pub fn run<R: Threads + Sync, F: Shelf, S: Source, K: Sink>(
     ensures source { source.new ≡ source.old }
     ensures sink_faults { K.faults sink.old ≤ K.faults sink.new }
 {
-    let _runtime = rt;
     let _source = source;
-    match answer(alloc, words, shelf) {
+    match answer(rt, alloc, words, shelf) {
         Err(_) => Status::Memory,
         Ok(Answer { status, text }) => match write_all(sink, &text) {
             Ok(()) => status,

@@ -15,6 +15,8 @@ pub enum Status {
     DesignRefused,
     /// A record is refused: it doesn't decode, or doesn't fit the design.
     RecordRefused,
+    /// A record is not admitted: its id is taken, or a limit would be passed.
+    AdmitRefused,
     /// The text could not be written whole.
     WriteFault,
     /// A file could not be read.
@@ -36,6 +38,7 @@ impl Status {
             Status::BadWords => 2,
             Status::DesignRefused => 3,
             Status::RecordRefused => 4,
+            Status::AdmitRefused => 5,
             Status::WriteFault => 7,
             Status::ShelfFault => 8,
             Status::FileTooLong => 12,
