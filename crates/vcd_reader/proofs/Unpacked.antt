@@ -9,7 +9,7 @@ use Rattle.vcd_reader.specs.declared.dump.Bit4.TheVariants.{Zero, One, X, Z}
 use Rattle.vcd_reader.specs.declared.dump.Change.{Change}
 use Rattle.vcd_reader.specs.declared.packing.Item.{Item}
 use Rattle.vcd_reader.specs.declared.packing.Item.TheVariants.{Begins, Changes}
-use Rattle.vcd_reader.specs.Packing.{number_bytes, Number, number_in, with_byte, bit_number, bit_of, form_of, value_bytes, head_of, value_in, Value, far_value, item_bytes, OneItem, begins, changes_with, changes, item_behind, item_in, items_for, items_in, IsItem, IsWhole}
+use Rattle.vcd_reader.specs.Packing.{number_bytes, Number, number_in, with_byte, bit_number, bit_of, form_of, value_bytes, head_of, value_in, far_value, item_bytes, OneItem, begins, changes_with, changes, item_behind, item_in, items_for, items_in, IsItem, IsWhole}
 
 -- ---- one step of each definition
 

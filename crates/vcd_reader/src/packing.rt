@@ -10,7 +10,7 @@ use cov_ground::Memory;
 const MORE: u8 = 9;
 
 /// A time, which begins a step, or a change in the step that stands open.
-#[derive(Clone, Copy, Debug)]
+#[derive(Clone, Copy)]
 pub(crate) enum Item {
     Begins { time: u64 },
     Changes { change: Change },

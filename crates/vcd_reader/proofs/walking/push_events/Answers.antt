@@ -6,7 +6,7 @@ use Rattle.vcd_reader.specs.declared.dump.DumpStep.{DumpStep}
 use Rattle.vcd_reader.specs.Packing.{items_in}
 use Rattle.vcd_reader.specs.Body.{changes_of, steps_begun}
 use Rattle.vcd_reader.specs.Held.{unknown, applied}
-use Rattle.vcd_reader.specs.Moments.{table_events, events_of}
+use Rattle.vcd_reader.specs.Moments.{table_events}
 use Rattle.vcd_reader.specs.Pushing.{Pushed}
 use Rattle.vcd_reader.proofs.Begun.{walk_of}
 use Rattle.vcd_reader.proofs.Tables.{no_events}
