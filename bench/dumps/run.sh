@@ -3,6 +3,8 @@
 # Rust program with the same checks and the same counts of events (plain.rs): the time of reading it, and of making a record
 # of it, which reads it too; and the most memory of a run that makes a record, the file's own bytes with it, in sizes of the
 # file. The dumps are of scalars, of vectors, of a clock with a few signals, and of one step of changes.
+# When it was written, reading took 0.2 to 0.4 s of one processor and a record 0.4 to 1.2 s, in 1.2 to 1.8 sizes of the dump;
+# the plain program took 0.4 to 0.8 s and 0.4 to 0.9 s, in 3 to 15 sizes: it keeps 24 bytes a change.
 # Needs rt, rustc and python3. A word, if there is one, is the number of runs. Run it on a machine with nothing else to do.
 cd "$(dirname "$0")"
 source ../common.sh
