@@ -1,5 +1,5 @@
 //! The workers of a store.
-ghost use Rattle.std.specs.Prelude.{◌≡◌, ◌≤◌};
+ghost use Rattle.std.specs.Prelude.{◌≡◌, ◌+◌, ◌≤◌, OnOk, OnErr};
 ghost use Rattle.turn_lock.specs.Seats.{free, left, number_of, seen};
 ghost use Rattle.merge_store.specs.Sound.{IsSound};
 ghost use Rattle.merge_store.specs.Stores.{opening_of};
@@ -33,6 +33,9 @@ pub fn serve_store<R: Threads + Wait + Sync>(
     ensures seat { HasSeat opening_of IsSound shared.now seat.new }
     ensures number { number_of seat.new ≡ number_of seat.old }
     ensures seen { seen seat.new ≡ seen seat.old }
+    ensures split { OnOk result ((free seat.new + workers ≡ free seat.old)
+        × (left seat.new + workers ≡ left seat.old)) }
+    ensures refused { OnErr result ((free seat.new ≡ free seat.old) × (left seat.new ≡ left seat.old)) }
 {
     serve_with(rt, alloc, listener, shared, seat, workers, rounds)
 }

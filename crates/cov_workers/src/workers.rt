@@ -1,5 +1,5 @@
 //! Several workers, each with a seat of its own.
-ghost use Rattle.std.specs.Prelude.{◌≡◌, ◌≤◌, All, IfOk};
+ghost use Rattle.std.specs.Prelude.{◌≡◌, ◌+◌, ◌≤◌, All, IfOk, OnOk, OnErr};
 ghost use Rattle.std.specs.Thread.{IsSync};
 ghost use Rattle.turn_lock.specs.Seats.{free, left, number_of, seen};
 ghost use Rattle.cov_server.specs.Shares.{HasSeat};
@@ -47,6 +47,9 @@ fn seats_of<C: Core>(
     ensures seat { HasSeat C.base C.sound shared.now seat.new }
     ensures number { number_of seat.new ≡ number_of seat.old }
     ensures seen { seen seat.new ≡ seen seat.old }
+    ensures split { OnOk result ((free seat.new + workers ≡ free seat.old)
+        × (left seat.new + workers ≡ left seat.old)) }
+    ensures refused { OnErr result ((free seat.new ≡ free seat.old) × (left seat.new ≡ left seat.old)) }
 {
     let mut seats = Vec::with_capacity(alloc, workers as usize)?;
     for made in 0..workers {
@@ -86,6 +89,9 @@ pub fn serve_with<C: Core + Send, R: Threads + Wait + Sync>(
     ensures seat { HasSeat C.base C.sound shared.now seat.new }
     ensures number { number_of seat.new ≡ number_of seat.old }
     ensures seen { seen seat.new ≡ seen seat.old }
+    ensures split { OnOk result ((free seat.new + workers ≡ free seat.old)
+        × (left seat.new + workers ≡ left seat.old)) }
+    ensures refused { OnErr result ((free seat.new ≡ free seat.old) × (left seat.new ≡ left seat.old)) }
 {
     if workers == 0 {
         return Ok(());
