@@ -1,3 +1,4 @@
+pub mod Conducting
 pub mod Designs
 pub mod Dumping
 pub mod Grown
@@ -5,6 +6,7 @@ pub mod Had
 pub mod Items
 pub mod Leaving
 pub mod OneAnswer
+pub mod OneDesign
 pub mod Parsing
 pub mod Records
 pub mod Refusals

@@ -6,16 +6,21 @@ mod check;
 mod count;
 mod lines;
 mod loading;
+mod printing;
 mod record;
 mod running;
+mod session;
+mod starting;
 mod status;
 mod texts;
 mod writing;
 
-pub use cov_compile::{CompileFault, compile};
+pub use cov_compile::{CompileFault, Compiled, compile};
+pub use cov_serve::{ServeWords, serve_words};
 pub use loading::{Refusal, refusal_of};
 pub use record::{DumpRefusal, LONGEST_DUMP, dump_fault, dump_refusal_of};
 pub use running::run;
+pub use starting::serve_start;
 pub use status::Status;
 
 #[cfg(test)]

@@ -5,7 +5,7 @@ use Rattle.cov_spec.specs.Told.{Grows}
 use Rattle.covd_core.proofs.Leaving.{leaves_whole}
 use Rattle.covd_core.proofs.Refusals.{IsReading}
 use Rattle.covd_core.proofs.OneAnswer.{has_one_answer}
-use Rattle.covd_core.proofs.running.run.Goals as goal
+use Rattle.covd_core.proofs.printing.print.Goals as goal
 
 spells : IsReading
 spells = record { one = one_record; no_fault = no_fault; one_fault = one_fault }
@@ -22,7 +22,7 @@ returns-clause-one_answer g c = has_one_answer spells (map string_bytes c.args.w
 pub returns-in-Ok-write_all-clause-leaves : goal.returns-in-Ok-write_all-clause-leaves
 returns-in-Ok-write_all-clause-leaves g c =
     let same : c.deref.result.now ≡ c.in-Ok.field-0.text.items = c.deref.ensures.value in
-    let grows = subst (λ (text : List ℕ). Grows (g.K.Sink.written c.args.sink.now) (g.K.Sink.written c.write_all.new.sink) text) same c.in-Ok-write_all.ensures.ok in
+    let grows = subst (λ (text : List ℕ). Grows (g.L.Link.written c.args.link.now) (g.L.Link.written c.write_all.new.link) text) same c.in-Ok-write_all.ensures.ok in
     leaves_whole (map string_bytes c.args.words.now) (g.F.Shelf.files c.args.shelf.now) (g.F.Shelf.faults c.args.shelf.now) (g.F.Shelf.faults c.answer.new.shelf) c.in-Ok.field-0.text.items
-    (g.K.Sink.faults c.args.sink.now) (g.K.Sink.faults c.write_all.new.sink) (g.K.Sink.written c.args.sink.now) (g.K.Sink.written c.write_all.new.sink)
+    (g.L.Link.write_faults c.args.link.now) (g.L.Link.write_faults c.write_all.new.link) (g.L.Link.written c.args.link.now) (g.L.Link.written c.write_all.new.link)
     c.in-Ok.field-0.status c.in-Ok.ensures.answer grows
