@@ -121,17 +121,17 @@ ends_read {opening} {caller} {most} {n} {w} {v} {u} left s few p q torn stays = 
     close : Ran opening caller (n + 0 + 0) w (then_read u left u.held) → Closes opening caller most w (then_read u left u.held) ended.ReadFault
     close r = closed ended.ReadFault s r.goes (omega (arith, r.long)) (r.no_bye, torn) tt r.out
 
-pub ends_input : {opening : Design} {caller most n m : ℕ} {w v u : World} {left : Option (List ℕ)} {held : List ℕ} → Starts w → n ≤ most → Ran opening caller n w v → Ran opening caller 0 v u → Filled u.left left u.held held m → m ≡ 0 → length held ≡ 0 → Closes opening caller most w (then_read u left held) ended.InputEnd
+pub ends_input : {opening : Design} {caller most n m : ℕ} {w v u : World} {left : Option (List ℕ)} {held : List ℕ} → Starts w → n < most → Ran opening caller n w v → Ran opening caller 0 v u → Filled u.left left u.held held m → m ≡ 0 → length held ≡ 0 → Closes opening caller most w (then_read u left held) ended.InputEnd
 ends_input {opening} {caller} {most} {n} {m} {w} {v} {u} {left} {held} s few p q f zero none = close (read_ran left held f.got (ran_then p q refl) f.long f.is f.takes refl)
   where
     close : Ran opening caller (n + 0 + m) w (then_read u left held) → Closes opening caller most w (then_read u left held) ended.InputEnd
-    close r = closed ended.InputEnd s r.goes (omega (arith, r.long)) (r.no_bye, no_bytes held none) (f.ends zero) r.out
+    close r = closed ended.InputEnd s r.goes (omega (arith, r.long)) (r.no_bye, no_bytes held none) (omega (arith, r.long, zero), f.ends zero) r.out
 
-pub ends_torn : {opening : Design} {caller most n m : ℕ} {w v u : World} {left : Option (List ℕ)} {held : List ℕ} → Starts w → n ≤ most → Ran opening caller n w v → Ran opening caller 0 v u → IsTorn u.held → Filled u.left left u.held held m → m ≡ 0 → 0 < length held → Closes opening caller most w (then_read u left held) ended.TornFrame
+pub ends_torn : {opening : Design} {caller most n m : ℕ} {w v u : World} {left : Option (List ℕ)} {held : List ℕ} → Starts w → n < most → Ran opening caller n w v → Ran opening caller 0 v u → IsTorn u.held → Filled u.left left u.held held m → m ≡ 0 → 0 < length held → Closes opening caller most w (then_read u left held) ended.TornFrame
 ends_torn {opening} {caller} {most} {n} {m} {w} {v} {u} {left} {held} s few p q torn f zero some = close (read_ran left held f.got (ran_then p q refl) f.long f.is f.takes refl)
   where
     same : held ≡ u.held
     same = f.is ∙ (ap (λ l. u.held ++ l) (no_bytes f.got (f.long ∙ zero)) ∙ append-nil u.held)
 
     close : Ran opening caller (n + 0 + m) w (then_read u left held) → Closes opening caller most w (then_read u left held) ended.TornFrame
-    close r = closed ended.TornFrame s r.goes (omega (arith, r.long)) (r.no_bye, some, subst IsTorn (sym same) torn) (f.ends zero) r.out
+    close r = closed ended.TornFrame s r.goes (omega (arith, r.long)) (r.no_bye, some, subst IsTorn (sym same) torn) (omega (arith, r.long, zero), f.ends zero) r.out

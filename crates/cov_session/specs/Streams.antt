@@ -70,10 +70,14 @@ abbrev pub Out : Ended → (before now : Option (List ℕ)) → List Reply → T
 Out ended.WriteFault before now replies = WritesFront before now replies
 Out other before now replies = Grows before now (flat_map reply_frame replies)
 
--- at the end of the input nothing is left; a session that is too long took as many bytes as it may
+-- at the end of the input fewer bytes were taken than may be, and nothing is left
+abbrev pub TookAll : (most : ℕ) → List ℕ → (left : Option (List ℕ)) → Type 0
+TookAll most bytes left = (length bytes < most) × IsAtEnd left
+
+-- what the end says of the bytes taken; a session that is too long took as many as it may
 abbrev pub Took : Ended → (most : ℕ) → List ℕ → (left : Option (List ℕ)) → Type 0
-Took ended.InputEnd most bytes left = IsAtEnd left
-Took ended.TornFrame most bytes left = IsAtEnd left
+Took ended.InputEnd most bytes left = TookAll most bytes left
+Took ended.TornFrame most bytes left = TookAll most bytes left
 Took ended.SessionTooLong most bytes left = length bytes ≡ most
 Took other most bytes left = ⊤
 

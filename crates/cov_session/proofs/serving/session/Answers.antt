@@ -42,12 +42,12 @@ returns-in-Err-clause-read_cause g c = λ e. rose_after _ _ _ (omega (arith, c.l
 pub returns-then-rest-eq0-clause-session : goal.returns-then-rest-eq0-clause-session
 returns-then-rest-eq0-clause-session g c =
     let s = rw (c.loop-talk.invariant.opening, c.loop-talk.invariant.caller) at c.in-Ok-answer_all.ensures.stops in
-    rw c.in-Ok-eq0.ensures.written (ends_input (record { empty = refl; place = refl }) (omega arith) c.loop-talk.invariant.ran s.0 c.in-Ok-eq0.ensures.fills c.in-Ok-eq0.field-0-test (sym c.len-rest.ensures ∙ c.if-rest-eq0.true))
+    rw c.in-Ok-eq0.ensures.written (ends_input (record { empty = refl; place = refl }) (omega (arith, c.loop-talk.invariant.low, c.if-room-eq0.false)) c.loop-talk.invariant.ran s.0 c.in-Ok-eq0.ensures.fills c.in-Ok-eq0.field-0-test (sym c.len-rest.ensures ∙ c.if-rest-eq0.true))
 
 pub returns-in-Ok-eq0-clause-session : goal.returns-in-Ok-eq0-clause-session
 returns-in-Ok-eq0-clause-session g c =
     let s = rw (c.loop-talk.invariant.opening, c.loop-talk.invariant.caller) at c.in-Ok-answer_all.ensures.stops in
-    rw c.in-Ok-eq0.ensures.written (ends_torn (record { empty = refl; place = refl }) (omega arith) c.loop-talk.invariant.ran s.0 s.1 c.in-Ok-eq0.ensures.fills c.in-Ok-eq0.field-0-test (let n : c.len-rest.result ≡ length c.fill.new.self = c.len-rest.ensures in omega (arith, n, c.if-rest-eq0.false)))
+    rw c.in-Ok-eq0.ensures.written (ends_torn (record { empty = refl; place = refl }) (omega (arith, c.loop-talk.invariant.low, c.if-room-eq0.false)) c.loop-talk.invariant.ran s.0 s.1 c.in-Ok-eq0.ensures.fills c.in-Ok-eq0.field-0-test (let n : c.len-rest.result ≡ length c.fill.new.self = c.len-rest.ensures in omega (arith, n, c.if-rest-eq0.false)))
 
 pub loop-talk-preserved : goal.loop-talk-preserved
 loop-talk-preserved g c =
