@@ -166,7 +166,11 @@ fn words_hint(alloc: Global, words: &[String]) -> Result<String, AllocError> {
         Some("count") => "covd count DESIGN RECORD",
         Some("record") =>
             "covd record DESIGN DUMP SCOPE ID, where ID has 1 to 255 signs from ! to ~",
-        _ => "covd check DESIGN, covd count DESIGN RECORD, or covd record DESIGN DUMP SCOPE ID",
+        Some("session") => "covd session DESIGN",
+        Some("serve") =>
+            "covd serve DESIGN --listen ADDR, or with --seats N behind it, N from 1 to 256",
+        _ =>
+            "covd check, count, record, session or serve, and what each of them takes",
     };
     format!(in alloc; "the words are: {form}; covd --help says more\n")
 }

@@ -1,6 +1,10 @@
 //! The command `serve`.
+ghost use Rattle.std.specs.Prelude.{◌≡◌, ◌-◌, ◌^◌, ◌≤◌, IfOk};
+ghost use Rattle.turn_lock.specs.Seats.{most_seats, free, left};
+ghost use Rattle.cov_server.specs.Shares.{HasSeat};
+
 use crate::hints::print_hint;
-use cov_base::{Memory, Pair};
+use cov_base::{Book, Memory, Pair};
 use cov_net::{FileShelf, StdSink, StdSource};
 use cov_server::Shared;
 use cov_workers::serve_with;
@@ -39,7 +43,12 @@ fn opened(
     alloc: Global,
     design: &Arc<Design>,
     seats: u32,
-) -> Result<(Shared<Store>, Seat<Store>), Memory> {
+) -> Result<(Shared<Store>, Seat<Store>), Memory>
+    requires { (1 ≤ seats) × (seats ≤ most_seats) }
+    ensures seat { IfOk result (λ t. HasSeat ⟦<Store as Book>⟧.base ⟦<Store as Book>⟧.sound t.0 t.1) }
+    ensures free { IfOk result (λ t. free t.1 ≡ seats - 1) }
+    ensures left { IfOk result (λ t. left t.1 ≡ 2 ^ 32 - 1) }
+{
     let opening = design.clone()?;
     let store = Store::new(alloc, opening)?;
     Shared::over(alloc, store, seats)
@@ -53,7 +62,10 @@ fn listen<R: Threads + Wait + Sync + Print + AllocGlobal>(
     shared: &Shared<Store>,
     seat: &mut Seat<Store>,
     workers: u32,
-) -> u8 {
+) -> u8
+    requires seat { HasSeat ⟦<Store as Book>⟧.base ⟦<Store as Book>⟧.sound shared.now seat.old }
+    requires room { (workers ≤ free seat.old) × (workers ≤ left seat.old) }
+{
     if println!(rt; "listening {address}").is_err() {
         return Status::WriteFault.number();
     }

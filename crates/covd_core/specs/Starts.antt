@@ -1,6 +1,6 @@
 -- How the server begins: its words, and the design that they name with its text. The steps are: words, load of the
 -- design, compiling. The first step that refuses decides.
-use Rattle.std.specs.Prelude.{◌≡◌, ℕ, ◌≤◌, List, length, Option, Some, None, Result, Ok, Err, slice_get}
+use Rattle.std.specs.Prelude.{◌≡◌, ℕ, ◌<◌, ◌≤◌, List, length, Option, Some, None, Result, Ok, Err, slice_get}
 use Rattle.cov_spec.specs.Causes.{Rose}
 use Rattle.cov_spec.specs.Told.{Grows, GrowsByFront, Stays}
 use Rattle.cov_base.specs.Loads.{HasFile}
@@ -52,6 +52,14 @@ pub record Readies (words : List (List ℕ)) (files : Files) (w : ServeWords) (c
   pub name : List ℕ
   pub names : Names words w name
   pub had : HasOpening files name c
+
+-- the address is one of so many words, and there are 1 to 256 seats
+abbrev pub IsServable : (count : ℕ) → ServeWords → Type 0
+IsServable count w = (w.listen < count) × (1 ≤ w.seats) × (w.seats ≤ 256)
+
+abbrev pub ready_words : Begun → Option ServeWords
+ready_words (begun.Ready w c) = Some w
+ready_words (begun.Refused a) = None
 
 abbrev pub IsBegun : List (List ℕ) → Files → ℕ → ℕ → Begun → Type 0
 IsBegun words files before now (begun.Ready w c) = Readies words files w c

@@ -1,6 +1,6 @@
 //! How the server begins: its words, and the design with its text.
-ghost use Rattle.std.specs.Prelude.{◌≡◌, ◌≤◌, map, string_bytes, IfOk};
-ghost use Rattle.covd_core.specs.Starts.{IsOpened, IsBegun, Starts};
+ghost use Rattle.std.specs.Prelude.{◌≡◌, ◌≤◌, length, map, string_bytes, IfOk, IfSome};
+ghost use Rattle.covd_core.specs.Starts.{IsOpened, IsBegun, IsServable, ready_words, Starts};
 
 use crate::Status;
 use crate::answer::Answer;
@@ -47,6 +47,7 @@ fn begin<F: Shelf>(alloc: Global, words: &[String], shelf: &mut F) -> Result<Beg
     ensures later { F.faults shelf.old ≤ F.faults shelf.new }
     ensures begun { IfOk result (IsBegun (map string_bytes words.now) (F.files shelf.old)
         (F.faults shelf.old) (F.faults shelf.new)) }
+    ensures servable { IfOk result (λ b. IfSome (ready_words b) (IsServable (length words.now))) }
 {
     let Some(said) = serve_words(words) else {
         let text = bad_words(alloc)?;
@@ -76,6 +77,7 @@ pub fn serve_start<F: Shelf, L: Link>(
     ensures starts { Starts (map string_bytes words.now) (F.files shelf.old) (F.faults shelf.old)
         (F.faults shelf.new) (L.write_faults link.old) (L.write_faults link.new) (L.written link.old)
         (L.written link.new) result }
+    ensures servable { IfOk result (λ p. IsServable (length words.now) p.0) }
     ensures files { F.files shelf.new ≡ F.files shelf.old }
     ensures shelf_faults { F.faults shelf.old ≤ F.faults shelf.new }
     ensures left { L.left link.new ≡ L.left link.old }

@@ -1,9 +1,13 @@
 //! Worked rows of sessions. A line `design TEXT` makes the file `d`. A line `frame HEX` adds a frame with this body to what
-//! the session is to read, and a line `bytes HEX` adds bytes as they are. A line `run PIECE READS WRITES` runs `session d`
-//! over them, with at most PIECE bytes a call; READS and WRITES are the numbers of the calls that fail, counted from 0 and
-//! separated by commas, or `-`. A line `most MOST PIECE` runs a session that takes at most MOST bytes. Each line is written
-//! again; behind a run follow the body of each reply, the bytes that are no whole reply, and the status or how the session
-//! ended. The file `stdout` has the replies, written from the form and not by the program.
+//! the session is to read, and a line `bytes HEX` adds bytes as they are. A line `uploads COUNT BEFORE AFTER` adds uploads of
+//! records with the ids t1, t2 and so on, which have these bytes before and after the id. A line `zeros AT COUNT` adds a
+//! piece of so many zeros at this place of an upload. A line `repeat COUNT` makes all
+//! that is there stand so many times. A line `run PIECE READS WRITES` runs `session d` over what is there, with at most PIECE
+//! bytes a call; READS and WRITES are the numbers of the calls that fail, counted from 0 and separated by commas, or `-`. A
+//! line `last COUNT PIECE` does the same with no failing call. A line `most MOST PIECE` runs a session that takes at most MOST
+//! bytes. Each line is written again; behind a run follow the body of each reply, of `last` their number and so many of
+//! the last, then the bytes that are no whole reply, and the status or how the session ended. The file `stdout` has the
+//! replies, written from the form and not by the program.
 #![tactic(auto)]
 
 use cov_base::{MemLink, Memory, OpenGate, SureLink, SureShelf};
@@ -12,6 +16,7 @@ use cov_session::{Alone, Ended, session};
 use covd_core::{Status, compile, run};
 use design_data::Design;
 use merge_store::Store;
+use sha2::{Digest, Sha256};
 use std::alloc::Global;
 use std::io;
 use std::io::{Input, Print};
@@ -82,6 +87,71 @@ fn add_frame(input: &mut Vec<u8>, body: &[u8]) -> Result<(), Memory> {
     Ok(())
 }
 
+/// Adds an upload: its length, its bytes in one piece, and its digest.
+fn add_upload(alloc: Global, input: &mut Vec<u8>, bytes: &[u8]) -> Result<(), Memory> {
+    let mut body = Vec::new(alloc);
+    body.push(0x02)?;
+    body.extend_from_slice(&(bytes.len() as u64).to_be_bytes())?;
+    add_frame(input, &body)?;
+    body.clear();
+    body.push(0x03)?;
+    body.extend_from_slice(&0u64.to_be_bytes())?;
+    body.extend_from_slice(bytes)?;
+    add_frame(input, &body)?;
+    body.clear();
+    body.push(0x04)?;
+    body.extend_from_slice(&Sha256::digest(bytes))?;
+    add_frame(input, &body)
+}
+
+/// The record of a number.
+fn record_of(alloc: Global, number: u32, before: &[u8], after: &[u8]) -> Result<Vec<u8>, Memory> {
+    let id = format!(in alloc; "t{number}")?;
+    let mut bytes = Vec::from_slice(alloc, before)?;
+    bytes.extend_from_slice(&(id.len() as u16).to_be_bytes())?;
+    bytes.extend_from_slice(id.as_bytes())?;
+    bytes.extend_from_slice(after)?;
+    Ok(bytes)
+}
+
+/// Adds uploads.
+fn add_uploads(alloc: Global, input: &mut Vec<u8>, row: &str) -> io::Result<()> {
+    let mut words = row.split_whitespace();
+    let count = words.next().and_then(count_of).unwrap_or(0);
+    let before = bytes_of(alloc, words.next().unwrap_or(""))?;
+    let after = bytes_of(alloc, words.next().unwrap_or(""))?;
+    for number in 0..count {
+        let bytes = record_of(alloc, number + 1, &before, &after).map_err(out_of_memory)?;
+        add_upload(alloc, input, &bytes).map_err(out_of_memory)?;
+    }
+    Ok(())
+}
+
+fn count_of(word: &str) -> Option<u32> {
+    word.parse().ok()
+}
+
+/// Adds a piece of zeros at a place.
+fn add_zeros(alloc: Global, input: &mut Vec<u8>, row: &str) -> Result<(), Memory> {
+    let (at, count) = row.split_once(' ').unwrap_or((row, "0"));
+    let at: u64 = at.parse().unwrap_or(0);
+    let mut body = Vec::new(alloc);
+    body.push(0x03)?;
+    body.extend_from_slice(&at.to_be_bytes())?;
+    let zeros = vec![in alloc; 0u8; size_of(count).unwrap_or(0)]?;
+    body.extend_from_slice(&zeros)?;
+    add_frame(input, &body)
+}
+
+/// What is there, so many times.
+fn repeated(alloc: Global, input: &[u8], count: u32) -> Result<Vec<u8>, Memory> {
+    let mut all = Vec::new(alloc);
+    for _ in 0..count {
+        all.extend_from_slice(input)?;
+    }
+    Ok(all)
+}
+
 fn show<R: Print>(rt: &R, alloc: Global, what: &str, bytes: &[u8]) -> io::Result<()> {
     let text = hex::encode(alloc, bytes).map_err(|_| out_of_memory(Memory))?;
     println!(rt; "{what} {text}")
@@ -99,6 +169,29 @@ fn show_replies<R: Print>(rt: &R, alloc: Global, written: &[u8]) -> io::Result<(
         show(rt, alloc, "rest", rest)?;
     }
     Ok(())
+}
+
+/// How many replies there are.
+fn replies_in(written: &[u8]) -> u64 {
+    let mut rest = written;
+    let mut count: u64 = 0;
+    while let FrameStep::Body { len } = next_frame(rest) {
+        rest = &rest[4 + len as usize..];
+        count = count.saturating_add(1);
+    }
+    count
+}
+
+/// What stands behind so many replies.
+fn behind(written: &[u8], count: u64) -> &[u8] {
+    let mut rest = written;
+    for _ in 0..count {
+        let FrameStep::Body { len } = next_frame(rest) else {
+            return rest;
+        };
+        rest = &rest[4 + len as usize..];
+    }
+    rest
 }
 
 /// Runs `session d`, and hands back what is written.
@@ -131,6 +224,24 @@ fn run_row<R: Threads + Sync + Print>(
     let plan = plan_of(alloc, row).map_err(out_of_memory)?;
     let (status, link) = run_session(rt, alloc, table, plan).map_err(out_of_memory)?;
     show_replies(rt, alloc, link.contents())?;
+    println!(rt; "status {}", status.number())
+}
+
+/// Runs a session, and shows so many of the last replies.
+fn last_row<R: Threads + Sync + Print>(
+    rt: &R,
+    alloc: Global,
+    table: &Table,
+    row: &str,
+) -> io::Result<()> {
+    let (shown, plan) = row.split_once(' ').unwrap_or((row, "1"));
+    let shown = shown.parse().unwrap_or(0);
+    let plan = plan_of(alloc, plan).map_err(out_of_memory)?;
+    let (status, link) = run_session(rt, alloc, table, plan).map_err(out_of_memory)?;
+    let count = replies_in(link.contents());
+    println!(rt; "replies {count}")?;
+    let last = behind(link.contents(), count.saturating_sub(shown));
+    show_replies(rt, alloc, last)?;
     println!(rt; "status {}", status.number())
 }
 
@@ -215,6 +326,20 @@ fn row<R: Threads + Sync + Print>(
         Some(("bytes", digits)) => {
             let mut bytes = bytes_of(alloc, digits)?;
             table.input.append(&mut bytes)?;
+            Ok(())
+        }
+        Some(("uploads", words)) => add_uploads(alloc, &mut table.input, words),
+        Some(("zeros", piece)) => {
+            add_zeros(alloc, &mut table.input, piece).map_err(out_of_memory)
+        }
+        Some(("repeat", count)) => {
+            let count = count_of(count).unwrap_or(0);
+            table.input = repeated(alloc, &table.input, count).map_err(out_of_memory)?;
+            Ok(())
+        }
+        Some(("last", plan)) => {
+            last_row(rt, alloc, table, plan)?;
+            table.input.clear();
             Ok(())
         }
         Some(("run", plan)) => {
