@@ -11,8 +11,8 @@ use Rattle.cov_serve.specs.declared.words.ServeWords.{ServeWords}
 use Rattle.cov_serve.specs.Words.{served_by}
 use Rattle.covd_core.specs.declared.status.Status.{Status}
 use Rattle.covd_core.specs.declared.status.Status.TheVariants as status
-use Rattle.covd_core.specs.declared.starting.Opened.{Opened}
-use Rattle.covd_core.specs.declared.starting.Opened.TheVariants as opened
+use Rattle.covd_core.specs.declared.starting.HadCompiled.{HadCompiled}
+use Rattle.covd_core.specs.declared.starting.HadCompiled.TheVariants as had
 use Rattle.covd_core.specs.declared.starting.Begun.{Begun}
 use Rattle.covd_core.specs.declared.starting.Begun.TheVariants as begun
 use Rattle.covd_core.specs.Lines.{bad_words_text}
@@ -26,9 +26,9 @@ pub record HasOpening (files : Files) (name : List ℕ) (c : Declared) : Type 0 
   pub declares : Compiles c.text (Ok c.design)
 
 -- a text with its design from its file, or the answer that it can't be had
-abbrev pub IsOpened : Files → ℕ → ℕ → List ℕ → Opened → Type 0
-IsOpened files before now name (opened.Compiled c) = HasOpening files name c
-IsOpened files before now name (opened.Refused a) = NoDesign files before now name a.status a.text.items
+abbrev pub IsHadCompiled : Files → ℕ → ℕ → List ℕ → HadCompiled → Type 0
+IsHadCompiled files before now name (had.Compiled c) = HasOpening files name c
+IsHadCompiled files before now name (had.Refused a) = NoDesign files before now name a.status a.text.items
 
 -- what the words say, and the name of the design among them
 pub record Names (words : List (List ℕ)) (w : ServeWords) (name : List ℕ) : Type 0 where

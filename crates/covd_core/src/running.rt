@@ -1,5 +1,5 @@
 //! The program's one call.
-ghost use Rattle.std.specs.Prelude.{◌≤◌, map, string_bytes};
+ghost use Rattle.std.specs.Prelude.{◌≡◌, ◌≤◌, map, string_bytes};
 ghost use Rattle.covd_core.specs.Command.{HasOneAnswer};
 ghost use Rattle.covd_core.specs.Sessions.{Runs, HasOneDesign};
 

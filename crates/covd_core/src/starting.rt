@@ -1,6 +1,6 @@
 //! How the server begins: its words, and the design with its text.
 ghost use Rattle.std.specs.Prelude.{◌≡◌, ◌≤◌, length, map, string_bytes, IfOk, IfSome};
-ghost use Rattle.covd_core.specs.Starts.{IsOpened, IsBegun, IsServable, ready_words, Starts};
+ghost use Rattle.covd_core.specs.Starts.{IsHadCompiled, IsBegun, IsServable, ready_words, Starts};
 
 use crate::Status;
 use crate::answer::Answer;
@@ -14,7 +14,7 @@ use cov_serve::{ServeWords, serve_words};
 use std::alloc::Global;
 
 /// A text with its design, or the answer that it can't be had.
-pub(crate) enum Opened {
+pub(crate) enum HadCompiled {
     Compiled(Compiled),
     Refused(Answer),
 }
@@ -26,19 +26,19 @@ pub(crate) enum Begun {
 }
 
 /// Loads and compiles, and keeps the text.
-fn opened<F: Shelf>(alloc: Global, name: &str, shelf: &mut F) -> Result<Opened, Memory>
+fn had_compiled<F: Shelf>(alloc: Global, name: &str, shelf: &mut F) -> Result<HadCompiled, Memory>
     ensures same { F.files shelf.new ≡ F.files shelf.old }
     ensures later { F.faults shelf.old ≤ F.faults shelf.new }
-    ensures had { IfOk result (IsOpened (F.files shelf.old) (F.faults shelf.old)
+    ensures had { IfOk result (IsHadCompiled (F.files shelf.old) (F.faults shelf.old)
         (F.faults shelf.new) name.now) }
 {
     let text = match load(alloc, name, LONGEST_DESIGN, shelf)? {
         Loaded::Bytes(text) => text,
-        Loaded::Refused(answer) => return Ok(Opened::Refused(answer)),
+        Loaded::Refused(answer) => return Ok(HadCompiled::Refused(answer)),
     };
     match Compiled::of(alloc, &text) {
-        Ok(compiled) => Ok(Opened::Compiled(compiled)),
-        Err(fault) => Ok(Opened::Refused(uncompiled(alloc, fault)?)),
+        Ok(compiled) => Ok(HadCompiled::Compiled(compiled)),
+        Err(fault) => Ok(HadCompiled::Refused(uncompiled(alloc, fault)?)),
     }
 }
 
@@ -56,9 +56,9 @@ fn begin<F: Shelf>(alloc: Global, words: &[String], shelf: &mut F) -> Result<Beg
             text,
         }));
     };
-    match opened(alloc, words[said.design as usize].as_str(), shelf)? {
-        Opened::Compiled(compiled) => Ok(Begun::Ready(said, compiled)),
-        Opened::Refused(answer) => Ok(Begun::Refused(answer)),
+    match had_compiled(alloc, words[said.design as usize].as_str(), shelf)? {
+        HadCompiled::Compiled(compiled) => Ok(Begun::Ready(said, compiled)),
+        HadCompiled::Refused(answer) => Ok(Begun::Refused(answer)),
     }
 }
 

@@ -2,7 +2,7 @@ use Rattle.std.proofs.Common.{ℕ, List, subst}
 use Rattle.std.specs.Prelude.{Err}
 use Rattle.cov_compile.specs.Compiling.{Compiles}
 use Rattle.covd_core.proofs.Had.{no_design}
-use Rattle.covd_core.proofs.starting.opened.Goals as goal
+use Rattle.covd_core.proofs.starting.had_compiled.Goals as goal
 
 pub returns-clause-had : goal.returns-clause-had
 returns-clause-had g c =
