@@ -40,14 +40,14 @@ turn_later opening seen h after own own_after caller a given to p t = record { a
 -- what an ask comes with stays right as the history grows
 pub meets_later : (opening : Design) (seen h : List Entry) (a : Ask) → IsPrefix seen h → Meets opening seen a → Meets opening h a
 meets_later opening seen h (ask.Admit since p) before m = record {
-  since = omega (arith, prefix_long seen h before, m.since);
-  under = m.under ∙ ap (design_of opening) (sym (front_same seen h since before m.since));
+  reached = omega (arith, prefix_long seen h before, m.reached);
+  under = m.under ∙ ap (design_of opening) (sym (front_same seen h since before m.reached));
   fit = m.fit;
 }
 meets_later opening seen h (ask.Revise r) before m = record {
-  since = omega (arith, prefix_long seen h before, m.since);
+  reached = omega (arith, prefix_long seen h before, m.reached);
   tables = m.tables;
-  records = m.records ∙ ap contents (sym (front_same seen h r.since before m.since));
+  records = m.records ∙ ap contents (sym (front_same seen h r.since before m.reached));
   declared = m.declared;
 }
 meets_later opening seen h other before m = m
