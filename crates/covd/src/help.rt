@@ -11,6 +11,13 @@ Usage:
                              design has, and a line a bin
   covd count DESIGN RECORD   counts how often the record hits each bin of the
                              design, and prints a line a bin
+  covd report DESIGN RECORD ..
+                             merges the records of tests and prints the coverage
+                             and the ranking of the tests:
+                             covd report bus.sv t1.rec t2.rec
+  covd make DESIGN SEED EVENTS TESTS
+                             the same for TESTS made-up tests of EVENTS rounds of
+                             random values: covd make bus.sv 7 20000 3
   covd record DESIGN DUMP SCOPE ID
                              writes the record of a simulator's dump to standard
                              output: covd record bus.sv bus.vcd tb t1 > t1.rec
@@ -31,13 +38,17 @@ Files:
 Words:
   SCOPE    the scope of the dump whose variables are the design's: tb, TOP.tb
   ID       the test's name, 1 to 255 letters, digits and signs without blanks
+  SEED     1 to 20 digits, at most 18446744073709551615
+  EVENTS   1 to 7 digits, at most 1048576
+  TESTS    1 to 4 digits, 1 to 4096
 
 What is printed goes to standard output. The exit status is one of:
    0   done
    1   out of memory
    2   the words are no command
    3   the design is refused
-   4   the record is refused
+   4   a record is refused
+   5   a record is not admitted: its name is taken, or a limit is met
    6   standard input failed (session)
    7   standard output failed
    8   a file could not be read

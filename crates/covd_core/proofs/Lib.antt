@@ -1,10 +1,14 @@
-pub mod Conducting
+pub mod Admissions
 pub mod Designs
+pub mod Digits
 pub mod Dumping
+pub mod Fillings
+pub mod Fitting
 pub mod Grown
 pub mod Had
 pub mod Items
 pub mod Leaving
+pub mod NoForm
 pub mod OneAnswer
 pub mod OneDesign
 pub mod Parsing
@@ -12,3 +16,4 @@ pub mod Records
 pub mod Refusals
 pub mod Trees
 pub mod Unread
+pub mod Unserved

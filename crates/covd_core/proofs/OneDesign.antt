@@ -7,7 +7,7 @@ use Rattle.design_data.specs.declared.design.Design.{Design}
 use Rattle.covd_core.specs.declared.status.Status.{Status}
 use Rattle.covd_core.specs.declared.status.Status.TheVariants as status
 use Rattle.covd_core.specs.Command.{Files, HasDesign, HasNoDesign}
-use Rattle.covd_core.specs.Steps.{NoDesign}
+use Rattle.covd_core.specs.Command.{NoDesign}
 use Rattle.covd_core.specs.Sessions.{OneDesign, HasOneDesign}
 use Rattle.covd_core.proofs.OneAnswer.{IsRefused, refused, refused_one, not_refused, design_one, no_design, no_design_one}
 

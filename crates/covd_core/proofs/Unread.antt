@@ -23,7 +23,7 @@ long_more : (files : Files) (before middle now : ℕ) (name : List ℕ) (most si
 long_more None before middle now name most size le h = (rose_more before middle now le h.0, h.1)
 long_more (Some files) before middle now name most size le h = h
 
-not_loaded : (files : Files) (before middle now : ℕ) (name : List ℕ) (most : ℕ) (s : Status) (text : List ℕ) → before ≤ middle → NotLoaded files middle now name most s text → NotLoaded files before now name most s text
+pub not_loaded : (files : Files) (before middle now : ℕ) (name : List ℕ) (most : ℕ) (s : Status) (text : List ℕ) → before ≤ middle → NotLoaded files middle now name most s text → NotLoaded files before now name most s text
 not_loaded files before middle now name most status.ShelfFault text le h = (elim h.0 [ inl lacks ↦ inl lacks | inr rose ↦ inr (rose_more before middle now le rose) ], h.1)
 not_loaded files before middle now name most status.FileTooLong text le h = (h.0, long_more files before middle now name most h.0 le h.1, h.2)
 not_loaded files before middle now name most other text le h = absurd h

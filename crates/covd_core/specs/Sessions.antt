@@ -13,7 +13,7 @@ use Rattle.cov_session.specs.Streams.{Session}
 use Rattle.covd_core.specs.declared.status.Status.{Status}
 use Rattle.covd_core.specs.declared.status.Status.TheVariants as status
 use Rattle.covd_core.specs.Command.{Files, HasDesign, Leaves}
-use Rattle.covd_core.specs.Steps.{NoDesign}
+use Rattle.covd_core.specs.Command.{NoDesign}
 
 -- ---- words
 

@@ -17,7 +17,7 @@ use Rattle.covd_core.specs.declared.starting.Begun.{Begun}
 use Rattle.covd_core.specs.declared.starting.Begun.TheVariants as begun
 use Rattle.covd_core.specs.Lines.{bad_words_text}
 use Rattle.covd_core.specs.Command.{Files}
-use Rattle.covd_core.specs.Steps.{NoDesign}
+use Rattle.covd_core.specs.Command.{NoDesign}
 
 -- the file of that name has the text, which declares the design
 pub record HasOpening (files : Files) (name : List ℕ) (c : Declared) : Type 0 where

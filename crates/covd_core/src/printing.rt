@@ -1,16 +1,20 @@
 //! The commands that print.
-ghost use Rattle.std.specs.Prelude.{◌≡◌, ◌≤◌, map, string_bytes, IfOk, MatchOption};
-ghost use Rattle.covd_core.specs.Command.{Answers, IsCheckCommand, IsNoCheck, IsCountCommand, IsNoCount, Leaves, HasOneAnswer};
+ghost use Rattle.std.specs.Prelude.{◌≡◌, ◌≤◌, map, string_bytes, IfOk, IfNone, MatchOption};
+ghost use Rattle.covd_core.specs.Command.{FillAnswers, Answers, IsCheckCommand, IsNoCheck, IsCountCommand, IsNoCount, Leaves, HasOneAnswer};
+ghost use Rattle.covd_core.specs.Forms.{IsNoReport, IsNoMake};
 
 use crate::Status;
 use crate::answer::Answer;
 use crate::check::check;
 use crate::count::count;
+use crate::forms::{make_words, report_words};
 use crate::record::{record_dump, record_words};
+use crate::report::{make, report};
 use crate::texts::bad_words;
 use crate::writing::write_all;
 use cov_base::{Link, Memory, Shelf};
 use std::alloc::Global;
+use std::thread::Threads;
 
 // The name behind `check`.
 fn check_words(words: &[String]) -> Option<&str>
@@ -44,11 +48,41 @@ fn count_words(words: &[String]) -> Option<(&str, &str)>
     }
 }
 
-fn answer<F: Shelf>(alloc: Global, words: &[String], shelf: &mut F) -> Result<Answer, Memory>
+// The answer of a command that fills a store; None where the words are none.
+fn filled<R: Threads + Sync, F: Shelf>(
+    rt: &R,
+    alloc: Global,
+    words: &[String],
+    shelf: &mut F,
+) -> Option<Result<Answer, Memory>>
+    ensures same { F.files shelf.new ≡ F.files shelf.old }
+    ensures later { F.faults shelf.old ≤ F.faults shelf.new }
+    ensures answer { MatchOption result (IsNoReport (map string_bytes words.now) × IsNoMake (map string_bytes words.now))
+        (λ done. IfOk done (λ a. FillAnswers (map string_bytes words.now) (F.files shelf.old) (F.faults shelf.old) (F.faults shelf.new) a.status a.text.items)) }
+    ensures untouched { IfNone result (shelf.new ≡ shelf.old) }
+{
+    if let Some((design, names)) = report_words(words) {
+        return Some(report(rt, alloc, design, names, shelf));
+    }
+    match make_words(words) {
+        Some((design, numbers)) => Some(make(rt, alloc, design, numbers, shelf)),
+        None => None,
+    }
+}
+
+fn answer<R: Threads + Sync, F: Shelf>(
+    rt: &R,
+    alloc: Global,
+    words: &[String],
+    shelf: &mut F,
+) -> Result<Answer, Memory>
     ensures same { F.files shelf.new ≡ F.files shelf.old }
     ensures later { F.faults shelf.old ≤ F.faults shelf.new }
     ensures answer { IfOk result (λ a. Answers (map string_bytes words.now) (F.files shelf.old) (F.faults shelf.old) (F.faults shelf.new) a.status a.text.items) }
 {
+    if let Some(done) = filled(rt, alloc, words, shelf) {
+        return done;
+    }
     if let Some(design) = check_words(words) {
         return check(alloc, design, shelf);
     }
@@ -69,7 +103,8 @@ fn answer<F: Shelf>(alloc: Global, words: &[String], shelf: &mut F) -> Result<An
 
 /// Does what the words of a command that prints say over the files of the shelf, and writes its text to the link. What is
 /// written is built whole before its first byte is written.
-pub(crate) fn print<F: Shelf, L: Link>(
+pub(crate) fn print<R: Threads + Sync, F: Shelf, L: Link>(
+    rt: &R,
     alloc: Global,
     words: &[String],
     shelf: &mut F,
@@ -83,7 +118,7 @@ pub(crate) fn print<F: Shelf, L: Link>(
     ensures read_faults { L.read_faults link.new ≡ L.read_faults link.old }
     ensures write_faults { L.write_faults link.old ≤ L.write_faults link.new }
 {
-    match answer(alloc, words, shelf) {
+    match answer(rt, alloc, words, shelf) {
         Err(_) => Status::Memory,
         Ok(Answer { status, text }) => match write_all(link, &text) {
             Ok(()) => status,

@@ -15,6 +15,8 @@ pub enum Status {
     DesignRefused,
     /// A record is refused: it doesn't decode, or doesn't fit the design.
     RecordRefused,
+    /// A record is not admitted: its id is taken, or a limit would be passed.
+    AdmitRefused,
     /// The input could not be read.
     ReadFault,
     /// The text, or a reply, could not be written whole.
@@ -44,6 +46,7 @@ impl Status {
             Status::BadWords => 2,
             Status::DesignRefused => 3,
             Status::RecordRefused => 4,
+            Status::AdmitRefused => 5,
             Status::ReadFault => 6,
             Status::WriteFault => 7,
             Status::ShelfFault => 8,

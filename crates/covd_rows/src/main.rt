@@ -1,7 +1,7 @@
 //! Worked rows of whole commands. A line `design TEXT` makes the file `d`, where `\n` stands for a newline; a line
 //! `record HEX` makes the file `r`, and a line `with FROM TO HEX` that record with other bytes in place of those from
-//! FROM up to TO. Every other line is the words of a `covd` over these two files. Each line is written again; behind a
-//! command follow its text and its status.
+//! FROM up to TO. A line `as NAME` keeps the record as the file NAME too. Every other line is the words of a `covd` over
+//! these files. Each line is written again; behind a command follow its text and its status.
 #![tactic(auto)]
 
 mod hex;
@@ -16,12 +16,13 @@ use std::io::{Input, Print};
 use std::process::ExitCode;
 use std::thread::Threads;
 
-/// The two files, and the record before other bytes were put in.
+/// The two files, the record before other bytes were put in, and the files that are kept.
 #[derive(Drop)]
 struct Files {
     design: Vec<u8>,
     record: Vec<u8>,
     whole: Vec<u8>,
+    kept: Vec<(String, Vec<u8>)>,
 }
 
 /// Why a row isn't done.
@@ -52,6 +53,9 @@ fn shelf_of(alloc: Global, files: &Files) -> Result<SureShelf, Memory> {
     let mut all = Vec::new(alloc);
     all.push(file(alloc, "d", &files.design)?)?;
     all.push(file(alloc, "r", &files.record)?)?;
+    for (name, bytes) in &files.kept {
+        all.push(file(alloc, name.as_str(), bytes)?)?;
+    }
     Ok(SureShelf::new(all))
 }
 
@@ -141,6 +145,11 @@ fn row<R: Threads + Sync + Print>(
             files.record = changed(alloc, &files.whole, text).map_err(out_of_memory)?;
             println!(rt; "{line}")
         }
+        Some(("as", name)) => {
+            let kept = file(alloc, name, &files.record).map_err(out_of_memory)?;
+            files.kept.push(kept)?;
+            println!(rt; "{line}")
+        }
         _ => command(rt, alloc, files, line),
     }
 }
@@ -151,6 +160,7 @@ fn rows<R: Threads + Sync + Input + Print>(rt: &R, alloc: Global) -> io::Result<
         design: Vec::new(alloc),
         record: Vec::new(alloc),
         whole: Vec::new(alloc),
+        kept: Vec::new(alloc),
     };
     for line in rt.lines(alloc) {
         row(rt, alloc, &mut files, line?.as_str())?;

@@ -1,5 +1,5 @@
 use Rattle.std.proofs.Common.{inl, inr}
-use Rattle.covd_core.proofs.Conducting.{refused_leaves}
+use Rattle.covd_core.proofs.Unserved.{refused_leaves}
 use Rattle.covd_core.proofs.session.serve.Goals as goal
 
 pub returns-in-Ok-Refused-clause-leaves : goal.returns-in-Ok-Refused-clause-leaves

@@ -6,7 +6,7 @@ use Rattle.cov_spec.specs.Told.{Grows, GrowsByFront}
 use Rattle.covd_core.specs.declared.status.Status.{Status}
 use Rattle.covd_core.specs.declared.status.Status.TheVariants as status
 use Rattle.covd_core.specs.Command.{Files}
-use Rattle.covd_core.specs.Steps.{NoDesign}
+use Rattle.covd_core.specs.Command.{NoDesign}
 use Rattle.covd_core.specs.Sessions.{Ends, LeavesRefusal}
 
 module _ (files : Files) (before now : ℕ) (design text : List ℕ) (e e' : Ends) where
