@@ -1,21 +1,23 @@
 //! The command `serve`.
-ghost use Rattle.std.specs.Prelude.{◌≡◌, ◌-◌, ◌^◌, ◌≤◌, IfOk};
-ghost use Rattle.turn_lock.specs.Seats.{most_seats, free, left};
+ghost use Rattle.std.specs.Prelude.{◌≤◌, length, IfOk};
+ghost use Rattle.turn_lock.specs.Seats.{free, left};
+ghost use Rattle.merge_store.specs.Sound.{IsSound};
+ghost use Rattle.merge_store.specs.Stores.{opening_of};
 ghost use Rattle.cov_server.specs.Shares.{HasSeat};
+ghost use Rattle.covd_core.specs.Starts.{IsServable};
 
 use crate::hints::print_hint;
-use cov_base::{Book, Memory, Pair};
+use cov_base::Pair;
 use cov_net::{FileShelf, StdSink, StdSource};
 use cov_server::Shared;
-use cov_workers::serve_with;
-use covd_core::{Status, serve_start, serve_words};
-use design_data::Design;
+use cov_workers::{open, serve_store};
+use covd_core::{Compiled, ServeWords, Status, serve_start, serve_words};
 use merge_store::Store;
 use std::alloc::Global;
 use std::io;
 use std::net::{Net, TcpListener};
 use std::rt::Files;
-use std::sync::{Arc, Wait};
+use std::sync::Wait;
 use std::thread::Threads;
 use turn_lock::Seat;
 
@@ -38,20 +40,22 @@ fn built(words: &[String]) -> &[String] {
     }
 }
 
-/// A store over the design for so many seats at a time, and its first seat.
-fn opened(
+/// What the words say, and their design; or the status, whose line was printed.
+fn begun<R: Files + Print>(
+    rt: &R,
     alloc: Global,
-    design: &Arc<Design>,
-    seats: u32,
-) -> Result<(Shared<Store>, Seat<Store>), Memory>
-    requires { (1 ≤ seats) × (seats ≤ most_seats) }
-    ensures seat { IfOk result (λ t. HasSeat ⟦<Store as Book>⟧.base ⟦<Store as Book>⟧.sound t.0 t.1) }
-    ensures free { IfOk result (λ t. free t.1 ≡ seats - 1) }
-    ensures left { IfOk result (λ t. left t.1 ≡ 2 ^ 32 - 1) }
+    words: &[String],
+) -> Result<(ServeWords, Compiled), Status>
+    ensures servable { IfOk result (λ p. IsServable (length words.now) p.0) }
 {
-    let opening = design.clone()?;
-    let store = Store::new(alloc, opening)?;
-    Shared::over(alloc, store, seats)
+    let mut shelf = FileShelf::new(rt);
+    let mut source = StdSource::new(io::empty());
+    let mut sink = StdSink::new(io::writer(rt));
+    let mut link = Pair {
+        source: &mut source,
+        sink: &mut sink,
+    };
+    serve_start(alloc, words, &mut shelf, &mut link)
 }
 
 /// Serves the listener's connections by so many workers, each with a seat of its own, until all of them have ended.
@@ -63,13 +67,13 @@ fn listen<R: Threads + Wait + Sync + Print + AllocGlobal>(
     seat: &mut Seat<Store>,
     workers: u32,
 ) -> u8
-    requires seat { HasSeat ⟦<Store as Book>⟧.base ⟦<Store as Book>⟧.sound shared.now seat.old }
+    requires seat { HasSeat opening_of IsSound shared.now seat.old }
     requires room { (workers ≤ free seat.old) × (workers ≤ left seat.old) }
 {
     if println!(rt; "listening {address}").is_err() {
         return Status::WriteFault.number();
     }
-    match serve_with(rt, rt.alloc(), listener, shared, seat, workers, u64::MAX) {
+    match serve_store(rt, rt.alloc(), listener, shared, seat, workers, u64::MAX) {
         Ok(()) => NO_WORKER,
         Err(_) => Status::Memory.number(),
     }
@@ -80,27 +84,22 @@ pub(crate) fn serve<R>(rt: &R, words: &[String]) -> u8
 where
     R: Threads + Wait + Sync + Net<Listener = TcpListener> + Files + Print + Eprint + AllocGlobal,
 {
-    let alloc = rt.alloc();
-    let mut shelf = FileShelf::new(rt);
-    let mut source = StdSource::new(io::empty());
-    let mut sink = StdSink::new(io::writer(rt));
-    let mut link = Pair {
-        source: &mut source,
-        sink: &mut sink,
-    };
-    let words = built(words);
-    let (said, compiled) = match serve_start(alloc, words, &mut shelf, &mut link) {
+    let asked = built(words);
+    let (said, compiled) = match begun(rt, rt.alloc(), asked) {
         Ok(begun) => begun,
         Err(status) => {
             print_hint(rt, words, status);
             return status.number();
         }
     };
-    // one seat for each worker, and one that splits them off
-    let Ok((shared, mut seat)) = opened(alloc, compiled.design(), said.seats + 1) else {
+    let Ok(design) = compiled.design().clone() else {
         return Status::Memory.number();
     };
-    let address = words[said.listen as usize].as_str();
+    // one seat for each worker, and one that splits them off
+    let Ok((shared, mut seat)) = open(rt.alloc(), design, said.seats + 1) else {
+        return Status::Memory.number();
+    };
+    let address = asked[said.listen as usize].as_str();
     let status = match TcpListener::bind(rt, address) {
         Ok(listener) => listen(rt, &listener, address, &shared, &mut seat, said.seats),
         Err(_) => NO_WORKER,
