@@ -1,19 +1,16 @@
 -- The admission of a record by caller 0 to a store that no entry has changed.
-use Rattle.std.proofs.Common.{◌≡◌, ℕ, ◌≤◌, List, [], ◌∷◌, ◌++◌, length, take, Bool, true, false, Option, Some, None, Ok, Err, inl, inr, refl, sym, ap, ◌∙◌, arith}
+use Rattle.std.proofs.Common.{◌≡◌, ℕ, List, [], ◌∷◌, ◌++◌, length, take, Bool, true, false, Option, Some, None, Ok, Err, inl, inr, refl, sym, ap, ◌∙◌, arith}
 use Rattle.std.specs.Prelude.{if◌then◌else◌}
 use Rattle.std.proofs.lemmas.List.{take_all}
 use Rattle.design_data.specs.declared.design.Design.{Design}
 use Rattle.record_codec.specs.declared.record.Record.{Record}
 use Rattle.record_codec.specs.declared.record.Fields.{Fields}
-use Rattle.record_codec.specs.declared.record.SignalRow.{SignalRow}
-use Rattle.record_codec.specs.declared.record.InstRow.{InstRow}
 use Rattle.record_codec.specs.Spelling.{fields_of}
 use Rattle.record_maker.specs.Generator.{version_of, start_of}
 use Rattle.sampler.specs.Shape.{Fits, signals_of, instances_of}
 use Rattle.ucis_model.specs.declared.answers.Answer.{Answer}
 use Rattle.ucis_model.specs.declared.answers.Answer.TheVariants as answers
 use Rattle.cov_history.specs.declared.entry.Entry.{Entry}
-use Rattle.cov_history.specs.declared.entry.Event.TheVariants as event
 use Rattle.cov_history.specs.declared.asks.Ask.TheVariants as ask
 use Rattle.cov_history.specs.Tables.{fits}
 use Rattle.cov_history.specs.History.{design_of, design_after}

@@ -1,12 +1,12 @@
 -- The steps of filling a store, one after the other.
-use Rattle.std.proofs.Common.{◌≡◌, ℕ, zero, suc, ◌+◌, ◌-◌, ◌≤◌, ◌<◌, List, [], ◌∷◌, length, Some, None, Ok, Err, inl, inr, refl, sym, ap, subst, ◌∙◌, arith}
-use Rattle.std.specs.Prelude.{◌⊎◌, codes}
+use Rattle.std.proofs.Common.{◌≡◌, ℕ, zero, suc, ◌+◌, ◌-◌, ◌≤◌, ◌<◌, List, [], ◌∷◌, length, Ok, Err, inl, inr, refl, sym, ap, subst, ◌∙◌, arith}
+use Rattle.std.specs.Prelude.{codes}
 use Rattle.cov_ground.specs.Limits.{longest_record, most_events}
 use Rattle.record_codec.specs.Builders.{told}
 use Rattle.cov_base.specs.Loads.{HasFile}
 use Rattle.design_data.specs.declared.design.Design.{Design}
 use Rattle.record_codec.specs.declared.record.Record.{Record}
-use Rattle.record_codec.specs.Spelling.{Encodes, fields_of}
+use Rattle.record_codec.specs.Spelling.{Encodes}
 use Rattle.sampler.specs.Shape.{Fits, IsWrongAt}
 use Rattle.sampler.proofs.Tables.{does_not_fit}
 use Rattle.covd_core.specs.Lines.{record_refused_text}
@@ -15,8 +15,8 @@ use Rattle.covd_core.specs.declared.stop.Stop.{Stop}
 use Rattle.covd_core.specs.declared.stop.Stop.TheVariants.{Memory, Refused}
 use Rattle.covd_core.specs.declared.status.Status.{Status}
 use Rattle.covd_core.specs.declared.status.Status.TheVariants as status
-use Rattle.covd_core.specs.Admission.{admission, behind, refusal_line, full_line, made_fields, made_events, made_size}
-use Rattle.covd_core.specs.Command.{Files, NotLoaded, NoDesign, IsRefusedText, HasRecord, NotTaken, NotMade, Prints, Fills, FillsMade, FillAnswers}
+use Rattle.covd_core.specs.Admission.{behind, full_line, made_events, made_size}
+use Rattle.covd_core.specs.Command.{Files, NotLoaded, NoDesign, IsRefusedText, HasRecord, NotTaken, Fills, FillsMade, FillAnswers}
 use Rattle.covd_core.specs.Filling.{IsLine, IsUnread, IsDecoded, Admits, Takes, IsMade, TakesMade, Leads, IsFilled, LeadsMade, IsFilledMade}
 use Rattle.covd_core.proofs.Unread.{not_loaded}
 

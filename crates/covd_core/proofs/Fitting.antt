@@ -1,6 +1,6 @@
 -- A record whose tables are a design's passes the test of a store.
-use Rattle.std.proofs.Common.{◌≡◌, ℕ, List, [], ◌∷◌, map, Bool, true, false, Option, Some, None, refl, sym, ap, subst, ◌∙◌, arith}
-use Rattle.std.specs.Prelude.{◌==◌, ◌&&◌, not, slice_get, bytes_eq, if◌then◌else◌}
+use Rattle.std.proofs.Common.{◌≡◌, ℕ, List, [], ◌∷◌, map, Bool, true, false, Option, Some, None, refl, ap, ◌∙◌, arith}
+use Rattle.std.specs.Prelude.{◌==◌, ◌&&◌, slice_get, bytes_eq, if◌then◌else◌}
 use Rattle.std.proofs.lemmas.Bool.Decides.{nat_tests}
 use Rattle.std.proofs.lemmas.Slice.Eq.{bytes_eq-Decides}
 use Rattle.std.specs.Option.{option_map_or}
@@ -11,8 +11,8 @@ use Rattle.design_data.specs.declared.infos.GroupInfo.{GroupInfo}
 use Rattle.record_codec.specs.declared.record.Record.{Record}
 use Rattle.record_codec.specs.declared.record.SignalRow.{SignalRow}
 use Rattle.record_codec.specs.declared.record.InstRow.{InstRow}
-use Rattle.sampler.specs.Shape.{Fits, signal_row, arg_row, arg_rows, instance_row, name_of}
-use Rattle.cov_history.specs.Tables.{fits, agree, group_name, same_sign, is_signal, is_arg, is_instance}
+use Rattle.sampler.specs.Shape.{Fits, signal_row, arg_row, instance_row, name_of}
+use Rattle.cov_history.specs.Tables.{fits, agree, same_sign, is_signal, is_arg, is_instance}
 
 both : (a b : Bool) → a ≡ true → b ≡ true → (a && b) ≡ true
 both a b e f = rw (e, f) refl

@@ -1,8 +1,8 @@
 -- Words that are no form.
-use Rattle.std.proofs.Common.{◌≡◌, ℕ, List, [], ◌∷◌, Option, Some, sym, ap, subst, ◌∙◌}
+use Rattle.std.proofs.Common.{◌≡◌, ℕ, List, [], ◌∷◌, Some, sym, ap, ◌∙◌}
 use Rattle.std.specs.Prelude.{codes}
 use Rattle.covd_core.specs.Digits.{written, bounded}
-use Rattle.covd_core.specs.Forms.{IsMakeCommand, IsNoMake}
+use Rattle.covd_core.specs.Forms.{IsNoMake}
 
 -- no three numbers are written in these words
 abbrev pub NoNumbers : (a b c : List ℕ) → Type 0

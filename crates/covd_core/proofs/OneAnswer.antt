@@ -1,16 +1,15 @@
 -- Told files and a shelf that didn't fail leave one status and one text to the words.
-use Rattle.std.proofs.Common.{◌≡◌, ℕ, ◌<◌, ◌+◌, suc, zero, ◌≤◌, List, [], ◌∷◌, length, take, Some, None, inl, inr, refl, sym, ap, subst, ◌∙◌, arith}
-use Rattle.std.specs.Prelude.{◌⊎◌, slice_index, slice_index_or, Result, Ok, Err, codes}
+use Rattle.std.proofs.Common.{◌≡◌, ℕ, ◌<◌, ◌+◌, suc, zero, ◌≤◌, List, [], ◌∷◌, length, Some, None, inl, inr, refl, sym, ap, subst, ◌∙◌, arith}
+use Rattle.std.specs.Prelude.{◌⊎◌, slice_index, Result, Ok, Err, codes}
 use Rattle.cov_spec.specs.Causes.{Rose}
 use Rattle.cov_spec.specs.Files.{file_of}
-use Rattle.cov_counting.specs.Tallies.{IsTally}
 use Rattle.cov_counting.proofs.Bins.{one as tally_is_one}
 use Rattle.record_codec.specs.declared.record.Record.{Record}
 use Rattle.record_codec.specs.declared.record.Fields.{Fields}
 use Rattle.record_codec.specs.Bytes.{bytes_of}
 use Rattle.record_codec.specs.Spelling.{Encodes, fields_of}
 use Rattle.design_data.specs.declared.design.Design.{Design}
-use Rattle.cov_design.specs.Elaboration.{Parts, parts_of}
+use Rattle.cov_design.specs.Elaboration.{parts_of}
 use Rattle.covd_core.specs.declared.status.Status.{Status}
 use Rattle.covd_core.specs.declared.status.Status.TheVariants as status
 use Rattle.cov_compile.specs.declared.fault.CompileFault.{CompileFault}

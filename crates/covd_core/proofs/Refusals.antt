@@ -11,7 +11,7 @@ use Rattle.cov_compile.specs.declared.fault.CompileFault.{CompileFault}
 use Rattle.cov_compile.specs.declared.fault.CompileFault.TheVariants.{Lex, Parse, Elab}
 use Rattle.elab_base.specs.declared.fault.ElabFault.TheVariants as elaborating
 use Rattle.design_data.specs.declared.design.Design.{Design}
-use Rattle.sampler.specs.Shape.{Fits, IsWrongAt}
+use Rattle.sampler.specs.Shape.{IsWrongAt}
 use Rattle.sampler.proofs.Tables.{place_one}
 use Rattle.vcd_reader.specs.declared.fault.DumpFault.{DumpFault}
 use Rattle.vcd_reader.specs.declared.fault.DumpFault.TheVariants as dumping

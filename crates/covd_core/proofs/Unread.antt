@@ -1,5 +1,5 @@
 -- A file that isn't had stays so when the count of faults is looked at from an earlier time.
-use Rattle.std.proofs.Common.{◌≡◌, ◌≤◌, ◌+◌, ◌^◌, ◌-◌, ℕ, List, min, Some, None, inl, inr, arith, subst, sym}
+use Rattle.std.proofs.Common.{◌≡◌, ◌≤◌, ◌+◌, ◌^◌, ◌-◌, ℕ, List, min, Some, None, inl, inr, arith, subst}
 use Rattle.std.proofs.Math.Nat.{min-le_left, min-le_right, le-min}
 use Rattle.cov_spec.specs.Causes.{Rose}
 use Rattle.cov_base.specs.Loads.{HasLongFile}

@@ -1,10 +1,9 @@
 -- Records that are admitted one after the other by caller 0, and the lines of those that are refused.
-use Rattle.std.specs.Prelude.{◌≡◌, ℕ, ◌+◌, ◌/◌, ◌%◌, List, [], ◌∷◌, ◌++◌, codes, decimal, length, slice_index, Option, Some, None, if◌then◌else◌}
+use Rattle.std.specs.Prelude.{ℕ, ◌/◌, ◌%◌, List, [], ◌∷◌, ◌++◌, codes, decimal, length, slice_index, Option, Some, None, if◌then◌else◌}
 use Rattle.std.specs.List.{flat_map}
 use Rattle.design_data.specs.declared.design.Design.{Design}
 use Rattle.record_codec.specs.declared.record.Record.{Record}
 use Rattle.record_codec.specs.declared.record.Fields.{Fields}
-use Rattle.record_codec.specs.Builders.{told}
 use Rattle.record_codec.specs.Starts.{with_events, size_with}
 use Rattle.record_maker.specs.Generator.{start_of, events_of}
 use Rattle.ucis_model.specs.declared.answers.Answer.{Answer}

@@ -2,7 +2,7 @@
 -- the design, compiling; for `count` load of the record, decoding and shape; for `report` the same and admission, record
 -- by record; for `make` the making and the admission of each; for `record` load of the dump, reading it and making its
 -- record; then printing. The first step that refuses decides.
-use Rattle.std.specs.Prelude.{◌≡◌, ◌⊎◌, ℕ, ◌≤◌, List, [], ◌∷◌, length, Option, Some, Result, Ok, Err, codes, zero, suc, ◌+◌, ◌<◌, None}
+use Rattle.std.specs.Prelude.{◌≡◌, ◌⊎◌, ℕ, ◌≤◌, List, [], ◌∷◌, length, Option, Some, Ok, Err, codes, zero, suc, ◌+◌, ◌<◌, None}
 use Rattle.cov_spec.specs.Causes.{Rose}
 use Rattle.cov_spec.specs.Told.{Grows, GrowsByFront, Stays}
 use Rattle.cov_base.specs.Loads.{HasFile, LacksFile, HasLongFile}

@@ -1,6 +1,5 @@
-use Rattle.std.proofs.Common.{map, inl, inr, sym, subst}
+use Rattle.std.proofs.Common.{inl, inr, subst}
 use Rattle.std.proofs.lemmas.Result.{IfOk-weaker}
-use Rattle.std.specs.Prelude.{string_bytes}
 use Rattle.covd_core.specs.Command.{Checks, Counts, Records}
 use Rattle.covd_core.proofs.printing.answer.Goals as goal
 

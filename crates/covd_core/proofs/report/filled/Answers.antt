@@ -1,9 +1,8 @@
-use Rattle.std.proofs.Common.{[], map, sym, subst}
+use Rattle.std.proofs.Common.{[], map, subst}
 use Rattle.std.proofs.lemmas.Result.{IfOk-weaker}
 use Rattle.std.specs.Prelude.{string_bytes}
 use Rattle.design_data.specs.declared.design.Design.{Design}
 use Rattle.covd_core.specs.Command.{Files, Fills}
-use Rattle.covd_core.specs.Filling.{IsPlain}
 use Rattle.covd_core.proofs.report.filled.Goals as goal
 
 pub returns-clause-answer : goal.returns-clause-answer

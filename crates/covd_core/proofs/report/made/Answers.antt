@@ -1,8 +1,7 @@
-use Rattle.std.proofs.Common.{[], sym, subst}
+use Rattle.std.proofs.Common.{[], subst}
 use Rattle.std.proofs.lemmas.Result.{IfOk-weaker}
 use Rattle.design_data.specs.declared.design.Design.{Design}
 use Rattle.covd_core.specs.Command.{FillsMade}
-use Rattle.covd_core.specs.Filling.{IsPlain}
 use Rattle.covd_core.proofs.report.made.Goals as goal
 
 pub returns : goal.returns
