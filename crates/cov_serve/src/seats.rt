@@ -35,7 +35,9 @@ fn number(word: &[u8]) -> Option<u32>
 
 /// The number of seats that the word says: 1 to 256, by one to three decimal digits.
 pub(crate) fn seats(word: &[u8]) -> Option<u32>
-    ensures { result ≡ seats_of word.now }
+    ensures number { result ≡ seats_of word.now }
+    ensures some { IfSome result (λ n. 1 ≤ n) }
+    ensures most { IfSome result (λ n. n ≤ 256) }
 {
     let n = number(word)?;
     if 1 <= n && n <= 256 { Some(n) } else { None }

@@ -68,7 +68,9 @@ fn journal(at: u32, words: &[String]) -> Option<(Option<u32>, Option<u32>)>
 
 /// What the words behind the address say.
 fn flags(words: &[String]) -> Option<ServeWords>
-    ensures { result ≡ flags_of (map string_bytes words.now) }
+    ensures words { result ≡ flags_of (map string_bytes words.now) }
+    ensures some { IfSome result (λ w. 1 ≤ w.seats) }
+    ensures most { IfSome result (λ w. w.seats ≤ 256) }
 {
     let (seats, at, rest) = match flagged("--seats", words) {
         Some((value, rest)) => (seats(value)?, 6, rest),
@@ -86,7 +88,9 @@ fn flags(words: &[String]) -> Option<ServeWords>
 
 // What the words say.
 fn said(words: &[String]) -> Option<ServeWords>
-    ensures { result ≡ served_by (map string_bytes words.now) }
+    ensures words { result ≡ served_by (map string_bytes words.now) }
+    ensures some { IfSome result (λ w. 1 ≤ w.seats) }
+    ensures most { IfSome result (λ w. w.seats ≤ 256) }
 {
     let (_, rest) = flagged("serve", words)?;
     let (_, rest) = flagged("--listen", rest)?;
@@ -99,6 +103,8 @@ fn said(words: &[String]) -> Option<ServeWords>
 pub fn serve_words(words: &[String]) -> Option<ServeWords>
     ensures words { result ≡ served_by (map string_bytes words.now) }
     ensures within { IfSome result (IsWithin (length words.now)) }
+    ensures some { IfSome result (λ w. 1 ≤ w.seats) }
+    ensures most { IfSome result (λ w. w.seats ≤ 256) }
 {
     said(words)
 }

@@ -21,6 +21,12 @@ Usage:
   covd record DESIGN DUMP SCOPE ID
                              writes the record of a simulator's dump to standard
                              output: covd record bus.sv bus.vcd tb t1 > t1.rec
+  covd session DESIGN        answers requests on standard input, to standard
+                             output: covd session bus.sv < requests > replies
+  covd serve DESIGN --listen ADDR [--seats N]
+                             answers requests over the network, of up to N
+                             callers at a time (16, or 1 to 256):
+                             covd serve bus.sv --listen 127.0.0.1:7000
   covd --help                prints this text
   covd --version             prints the version
 
@@ -43,10 +49,15 @@ What is printed goes to standard output. The exit status is one of:
    3   the design is refused
    4   a record is refused
    5   a record is not admitted: its name is taken, or a limit is met
+   6   standard input failed (session)
    7   standard output failed
    8   a file could not be read
+   9   the requests end inside a frame (session)
+  10   a frame states a length that is 0 or above 1,048,640 (session)
+  11   the requests are too long (session)
   12   a file is too long
   13   the dump is refused
+  14   the address can't be listened on, or no worker is left (serve)
 ";
 
 /// What `covd --version` prints.

@@ -169,8 +169,11 @@ fn words_hint(alloc: Global, words: &[String]) -> Result<String, AllocError> {
             "covd make DESIGN SEED EVENTS TESTS, three numbers in digits: up to 18446744073709551615, 1048576 and 4096",
         Some("record") =>
             "covd record DESIGN DUMP SCOPE ID, where ID has 1 to 255 signs from ! to ~",
+        Some("session") => "covd session DESIGN",
+        Some("serve") =>
+            "covd serve DESIGN --listen ADDR, or with --seats N behind it, N from 1 to 256",
         _ =>
-            "covd check DESIGN, covd count DESIGN RECORD, covd report DESIGN RECORD .., covd make DESIGN SEED EVENTS TESTS, or covd record DESIGN DUMP SCOPE ID",
+            "covd check, count, report, make, record, session or serve, and what each of them takes",
     };
     format!(in alloc; "the words are: {form}; covd --help says more\n")
 }

@@ -10,8 +10,10 @@ pub mod Items
 pub mod Leaving
 pub mod NoForm
 pub mod OneAnswer
+pub mod OneDesign
 pub mod Parsing
 pub mod Records
 pub mod Refusals
 pub mod Trees
 pub mod Unread
+pub mod Unserved

@@ -71,29 +71,29 @@ same_file : (all : Told) (name bytes others : List ℕ) → file_of all name ≡
 same_file all name bytes others h k = cc (h, k)
 
 module _ (all : Told) (name : List ℕ) where
-  record IsMissing (s : Status) (text : List ℕ) : Type 0 where
+  pub record IsMissing (s : Status) (text : List ℕ) : Type 0 where
     absent : file_of all name ≡ None
     is_status : s ≡ status.ShelfFault
     is_text : text ≡ cannot_read_text name
 
-  record IsLong (most : ℕ) (s : Status) (text : List ℕ) : Type 0 where
+  pub record IsLong (most : ℕ) (s : Status) (text : List ℕ) : Type 0 where
     bytes : List ℕ
     file : file_of all name ≡ Some bytes
     long : most < length bytes
     is_status : s ≡ status.FileTooLong
     is_text : text ≡ too_long_text name (length bytes)
 
-  abbrev IsRefused : ℕ → Status → List ℕ → Type 0
+  abbrev pub IsRefused : ℕ → Status → List ℕ → Type 0
   IsRefused most s text = IsMissing s text ⊎ IsLong most s text
 
   module _ (before now : ℕ) (calm : Rose before now → ⊥) (most : ℕ) where
-    refused : (s : Status) (text : List ℕ) → NotLoaded (Some all) before now name most s text → IsRefused most s text
+    pub refused : (s : Status) (text : List ℕ) → NotLoaded (Some all) before now name most s text → IsRefused most s text
     refused status.ShelfFault text h = elim h.0 [ inl absent ↦ inl (record { absent = absent; is_status = refl; is_text = h.1 }) | inr rose ↦ absurd (calm rose) ]
     refused status.FileTooLong text h = inr (record { bytes = h.1.0; file = h.1.1; long = omega (arith, h.1.2, h.1.3); is_status = refl; is_text = h.2 ∙ ap (too_long_text name) (sym h.1.2) })
     refused other text h = absurd h
 
   module _ (most : ℕ) (s s' : Status) (text text' : List ℕ) where
-    refused_one : IsRefused most s text → IsRefused most s' text' → (s ≡ s') × (text ≡ text')
+    pub refused_one : IsRefused most s text → IsRefused most s' text' → (s ≡ s') × (text ≡ text')
     refused_one h k = elim h [
       | inl a ↦ elim k [ inl b ↦ (a.is_status ∙ sym b.is_status, a.is_text ∙ sym b.is_text) | inr b ↦ absurd (cc (a.absent, b.file)) ]
       | inr a ↦ elim k [
@@ -102,7 +102,7 @@ module _ (all : Told) (name : List ℕ) where
       ]
     ]
 
-  not_refused : (most : ℕ) (s : Status) (text bytes : List ℕ) → file_of all name ≡ Some bytes → length bytes ≤ most → IsRefused most s text → ⊥
+  pub not_refused : (most : ℕ) (s : Status) (text bytes : List ℕ) → file_of all name ≡ Some bytes → length bytes ≤ most → IsRefused most s text → ⊥
   not_refused most s text bytes file short h = elim h [
     | inl a ↦ cc (a.absent, file)
     | inr a ↦ let same : length a.bytes ≡ length bytes = ap length (same_file all name a.bytes bytes a.file file) in omega (arith, a.long)
@@ -111,13 +111,13 @@ module _ (all : Told) (name : List ℕ) where
 -- ---- the design's file
 
 module _ (all : Told) where
-  design_one : (name : List ℕ) (d e : Design) → HasDesign (Some all) name d → HasDesign (Some all) name e → d ≡ e
+  pub design_one : (name : List ℕ) (d e : Design) → HasDesign (Some all) name d → HasDesign (Some all) name e → d ≡ e
   design_one name d e h k = design_is d e (text_design k.text (parts_of d) (parts_of e) (subst (λ (text : List ℕ). IsDesign (parts_of d) text) (same_file all name h.text k.text h.file k.file) h.is_design) k.is_design)
 
-  no_design : (name line : List ℕ) (d : Design) → HasDesign (Some all) name d → HasNoDesign (Some all) name line → ⊥
+  pub no_design : (name line : List ℕ) (d : Design) → HasDesign (Some all) name d → HasNoDesign (Some all) name line → ⊥
   no_design name line d h n = n.none (parts_of d) (subst (λ (text : List ℕ). IsDesign (parts_of d) text) (same_file all name h.text n.text h.file n.file) h.is_design)
 
-  no_design_one : (name line other : List ℕ) → HasNoDesign (Some all) name line → HasNoDesign (Some all) name other → line ≡ other
+  pub no_design_one : (name line other : List ℕ) → HasNoDesign (Some all) name line → HasNoDesign (Some all) name other → line ≡ other
   no_design_one name line other h k =
       let same = fault_one k.text h.fault k.fault (subst (λ (text : List ℕ). IsDesignFault text h.fault) (same_file all name h.text k.text h.file k.file) h.cause) k.cause in
       design_text_one k.fault line other (subst (λ (fault : CompileFault). IsDesignFaultText fault line) same h.says) k.says

@@ -2,6 +2,8 @@ pub mod Columns
 pub mod Command
 pub mod Dumps
 pub mod Lines
+pub mod Sessions
+pub mod Starts
 pub mod Forms
 pub mod Filling
 pub mod Digits

@@ -6,7 +6,7 @@
 
 mod hex;
 
-use cov_base::{Memory, SureShelf, SureSource};
+use cov_base::{Memory, Pair, SureShelf, SureSource};
 use cov_net::StdSink;
 use covd_core::{Status, run};
 use hex::bytes_of;
@@ -102,7 +102,11 @@ fn status_of<R: Threads + Sync + Print>(
     let mut shelf = shelf_of(alloc, files)?;
     let mut source = SureSource::new(Vec::new(alloc), 1);
     let mut sink = StdSink::new(io::writer(rt));
-    Ok(run(rt, alloc, words, &mut shelf, &mut source, &mut sink))
+    let mut link = Pair {
+        source: &mut source,
+        sink: &mut sink,
+    };
+    Ok(run(rt, alloc, words, &mut shelf, &mut link))
 }
 
 /// Writes the row of a command with its answer.

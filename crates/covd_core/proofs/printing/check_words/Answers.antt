@@ -2,7 +2,7 @@ use Rattle.std.proofs.Common.{◌≡◌, [], ◌∷◌, map, sym, ap, ◌∙◌}
 use Rattle.std.specs.Prelude.{codes, string_bytes}
 use Rattle.std.proofs.lemmas.Slice.Eq.{bytes_eq-Decides}
 use Rattle.covd_core.proofs.Items.{two_items}
-use Rattle.covd_core.proofs.running.check_words.Goals as goal
+use Rattle.covd_core.proofs.printing.check_words.Goals as goal
 
 pub returns-then-eq : goal.returns-then-eq
 returns-then-eq c =

@@ -1,7 +1,7 @@
 use Rattle.std.proofs.Common.{inl, inr, subst}
 use Rattle.std.proofs.lemmas.Result.{IfOk-weaker}
 use Rattle.covd_core.specs.Command.{Checks, Counts, Records}
-use Rattle.covd_core.proofs.running.answer.Goals as goal
+use Rattle.covd_core.proofs.printing.answer.Goals as goal
 
 pub returns-in-Some-clause-answer : goal.returns-in-Some-clause-answer
 returns-in-Some-clause-answer g c = IfOk-weaker c.in-Some.done _ _ (λ a h. inr (inr (inr (inr h)))) c.in-Some.ensures.answer
