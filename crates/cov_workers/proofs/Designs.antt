@@ -15,31 +15,19 @@ use Rattle.design_data.specs.contracts.infos.BinInfo as bin
 use Rattle.design_data.specs.contracts.infos.ItemInfo as item
 use Rattle.design_data.specs.contracts.infos.InstInfo as instance
 use Rattle.design_data.specs.contracts.design.Design as design
-use Rattle.cov_workers.proofs.Expressions.{bound_send, bound_sync, select_send, select_sync, select_field_send, select_field_sync}
-
-pub shape_send : IsSend shape.the_row
-shape_send = search (sendable, crosses, bound_send, list.the_send) depth 30
+use Rattle.cov_workers.proofs.Expressions.{bound_send, bound_sync, select_field_send, select_field_sync}
 
 pub shape_field_send : IsSend (shape.the_field).row
 shape_field_send = search (sendable, crosses, bound_send, list.the_send) depth 30
 
-pub shape_sync : IsSync shape.the_row
-shape_sync = search (sendable, crosses, bound_sync, list.the_sync) depth 30
-
 pub shape_field_sync : IsSync (shape.the_field).row
 shape_field_sync = search (sendable, crosses, bound_sync, list.the_sync) depth 30
 
-pub rule_send : IsSend rule.the_row
-rule_send = search (sendable, crosses, select_send, select_field_send, list.the_send, set.the_send, seq.the_send, pattern.the_send) depth 30
-
 pub rule_field_send : IsSend (rule.the_field).row
-rule_field_send = search (sendable, crosses, select_send, select_field_send, list.the_send, set.the_send, seq.the_send, pattern.the_send) depth 30
-
-pub rule_sync : IsSync rule.the_row
-rule_sync = search (sendable, crosses, select_sync, select_field_sync, list.the_sync, set.the_sync, seq.the_sync, pattern.the_sync) depth 30
+rule_field_send = search (sendable, crosses, select_field_send, list.the_send, set.the_send, seq.the_send, pattern.the_send) depth 30
 
 pub rule_field_sync : IsSync (rule.the_field).row
-rule_field_sync = search (sendable, crosses, select_sync, select_field_sync, list.the_sync, set.the_sync, seq.the_sync, pattern.the_sync) depth 30
+rule_field_sync = search (sendable, crosses, select_field_sync, list.the_sync, set.the_sync, seq.the_sync, pattern.the_sync) depth 30
 
 pub bin_send : IsSend bin.the_row
 bin_send = search (sendable, crosses, name.the_send, kind.the_field_send, rule_field_send, bound_send) depth 30
@@ -62,11 +50,5 @@ instance_sync = search (sendable, crosses, name.the_sync, list.the_sync, signal.
 pub design_send : IsSend design.the_row
 design_send = search (sendable, crosses, list.the_send, signal.the_send, group.the_send, instance_send) depth 30
 
-pub design_field_send : IsSend (design.the_field).row
-design_field_send = search (sendable, crosses, list.the_send, signal.the_send, group.the_send, instance_send) depth 30
-
 pub design_sync : IsSync design.the_row
 design_sync = search (sendable, crosses, list.the_sync, signal.the_sync, group.the_sync, instance_sync) depth 30
-
-pub design_field_sync : IsSync (design.the_field).row
-design_field_sync = search (sendable, crosses, list.the_sync, signal.the_sync, group.the_sync, instance_sync) depth 30

@@ -13,32 +13,20 @@ use Rattle.const_eval.specs.contracts.bound.Bound as bound
 use Rattle.cross_select.proofs.select.Select.TheLaws.TheKnot as select_knot
 use Rattle.cross_select.specs.contracts.select.Select as select
 
-pub typed_send : IsSend typed.the_row
-typed_send = search (sendable, crosses, typed_knot.crosses, typ.the_field_send, meaning.the_field_send, unary.the_field_send, binary.the_field_send) depth 30
-
 pub typed_field_send : IsSend (typed.the_field).row
 typed_field_send = search (sendable, crosses, typed_knot.crosses, typ.the_field_send, meaning.the_field_send, unary.the_field_send, binary.the_field_send) depth 30
-
-pub typed_sync : IsSync typed.the_row
-typed_sync = search (sendable, crosses, typed_knot.crosses, typ.the_field_sync, meaning.the_field_sync, unary.the_field_sync, binary.the_field_sync) depth 30
 
 pub typed_field_sync : IsSync (typed.the_field).row
 typed_field_sync = search (sendable, crosses, typed_knot.crosses, typ.the_field_sync, meaning.the_field_sync, unary.the_field_sync, binary.the_field_sync) depth 30
 
 pub bound_send : IsSend bound.the_row
-bound_send = search (sendable, crosses, typed_send, typed_field_send) depth 30
+bound_send = search (sendable, crosses, typed_field_send) depth 30
 
 pub bound_sync : IsSync bound.the_row
-bound_sync = search (sendable, crosses, typed_sync, typed_field_sync) depth 30
-
-pub select_send : IsSend select.the_row
-select_send = search (sendable, crosses, select_knot.crosses, list.the_send, boxed.the_send) depth 30
+bound_sync = search (sendable, crosses, typed_field_sync) depth 30
 
 pub select_field_send : IsSend (select.the_field).row
 select_field_send = search (sendable, crosses, select_knot.crosses, list.the_send, boxed.the_send) depth 30
-
-pub select_sync : IsSync select.the_row
-select_sync = search (sendable, crosses, select_knot.crosses, list.the_sync, boxed.the_sync) depth 30
 
 pub select_field_sync : IsSync (select.the_field).row
 select_field_sync = search (sendable, crosses, select_knot.crosses, list.the_sync, boxed.the_sync) depth 30

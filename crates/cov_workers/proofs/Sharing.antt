@@ -10,4 +10,4 @@ use Rattle.cov_server.specs.contracts.shared.Shared as shared
 use Rattle.cov_workers.proofs.Designs.{design_send, design_sync}
 
 pub shared_sync : (T : RattleType) (g : Ghosts T.Denot Design Entry) → IsSend T → IsSync (shared.the_row T g)
-shared_sync T g s = search (sendable, crosses, lock.the_sync, lock.the_field_sync, design_send, design_sync) depth 40 fits 4000
+shared_sync T g s = search (sendable, crosses, lock.the_field_sync, design_send, design_sync) depth 40 fits 4000

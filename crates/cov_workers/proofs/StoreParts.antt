@@ -17,14 +17,11 @@ use Rattle.cov_workers.proofs.Designs.{design_send, design_sync}
 pub prepared_send : IsSend prepared.the_row
 prepared_send = search (sendable, crosses, content.the_send, content.the_sync, tally.the_send, tally.the_sync, design_send, design_sync) depth 30
 
-pub event_send : IsSend event.the_row
-event_send = search (sendable, crosses, content.the_send, content.the_sync, name.the_send, name.the_sync, design_send, design_sync) depth 30
-
 pub event_field_send : IsSend (event.the_field).row
 event_field_send = search (sendable, crosses, content.the_send, content.the_sync, name.the_send, name.the_sync, design_send, design_sync) depth 30
 
 pub held_send : IsSend held.the_row
-held_send = search (sendable, crosses, event_send, event_field_send) depth 30
+held_send = search (sendable, crosses, event_field_send) depth 30
 
 pub kept_send : IsSend kept.the_row
 kept_send = search (sendable, crosses, prepared_send, tally.the_send, tally.the_sync) depth 30
