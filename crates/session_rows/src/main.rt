@@ -81,7 +81,7 @@ fn size_of(word: &str) -> Option<usize> {
 
 /// Adds a frame.
 fn add_frame(input: &mut Vec<u8>, body: &[u8]) -> Result<(), Memory> {
-    let length = (body.len() as u32).to_be_bytes();
+    let length = (body.len().min(u32::MAX as usize) as u32).to_be_bytes();
     input.extend_from_slice(&length)?;
     input.extend_from_slice(body)?;
     Ok(())
@@ -108,7 +108,7 @@ fn add_upload(alloc: Global, input: &mut Vec<u8>, bytes: &[u8]) -> Result<(), Me
 fn record_of(alloc: Global, number: u32, before: &[u8], after: &[u8]) -> Result<Vec<u8>, Memory> {
     let id = format!(in alloc; "t{number}")?;
     let mut bytes = Vec::from_slice(alloc, before)?;
-    bytes.extend_from_slice(&(id.len() as u16).to_be_bytes())?;
+    bytes.extend_from_slice(&(id.len().min(u16::MAX as usize) as u16).to_be_bytes())?;
     bytes.extend_from_slice(id.as_bytes())?;
     bytes.extend_from_slice(after)?;
     Ok(bytes)
