@@ -15,7 +15,7 @@ use covd_core::{Compiled, ServeWords, Status, serve_start, serve_words};
 use merge_store::Store;
 use std::alloc::Global;
 use std::io;
-use std::net::{Net, TcpListener};
+use std::net::{Net, TcpListener, TcpStream};
 use std::rt::Files;
 use std::sync::Wait;
 use std::thread::Threads;
@@ -82,7 +82,14 @@ fn listen<R: Threads + Wait + Sync + Print + AllocGlobal>(
 /// Serves until every worker has ended, and says with which status the program ends.
 pub(crate) fn serve<R>(rt: &R, words: &[String]) -> u8
 where
-    R: Threads + Wait + Sync + Net<Listener = TcpListener> + Files + Print + Eprint + AllocGlobal,
+    R: Threads
+        + Wait
+        + Sync
+        + Net<Listener = TcpListener, Stream = TcpStream>
+        + Files
+        + Print
+        + Eprint
+        + AllocGlobal,
 {
     let asked = built(words);
     let (said, compiled) = match begun(rt, rt.alloc(), asked) {
