@@ -160,7 +160,10 @@ fn show<R: Print>(rt: &R, alloc: Global, what: &str, bytes: &[u8]) -> io::Result
 /// Writes the body of each reply, and what is behind them.
 fn show_replies<R: Print>(rt: &R, alloc: Global, written: &[u8]) -> io::Result<()> {
     let mut rest = written;
-    while let FrameStep::Body { len } = next_frame(rest) {
+    for _ in 0..written.len() {
+        let FrameStep::Body { len } = next_frame(rest) else {
+            break;
+        };
         let end = 4 + len as usize;
         show(rt, alloc, "reply", &rest[4..end])?;
         rest = &rest[end..];
@@ -174,12 +177,13 @@ fn show_replies<R: Print>(rt: &R, alloc: Global, written: &[u8]) -> io::Result<(
 /// How many replies there are.
 fn replies_in(written: &[u8]) -> u64 {
     let mut rest = written;
-    let mut count: u64 = 0;
-    while let FrameStep::Body { len } = next_frame(rest) {
+    for count in 0..u64::MAX {
+        let FrameStep::Body { len } = next_frame(rest) else {
+            return count;
+        };
         rest = &rest[4 + len as usize..];
-        count = count.saturating_add(1);
     }
-    count
+    u64::MAX
 }
 
 /// What stands behind so many replies.
