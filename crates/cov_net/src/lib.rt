@@ -1,13 +1,15 @@
-//! The trusted edge: files of the system and the standard streams as the traits of `cov_base`. They tell no content,
-//! and count their failures.
+//! The trusted edge: files of the system, the standard streams and the network as the traits of `cov_base`. They tell no
+//! content, and count their failures.
 #![tactic(auto)]
 
 mod again;
 mod disk;
 mod shelf;
+mod sockets;
 mod streams;
 
 pub use shelf::FileShelf;
+pub use sockets::{TcpDoor, TcpLink};
 pub use streams::{StdSink, StdSource};
 
 #[cfg(test)]

@@ -1,9 +1,11 @@
 //! The real files, and streams that go by a script.
 use crate::shelf::{FileShelf, read_whole};
+use crate::sockets::{TcpDoor, TcpLink};
 use crate::streams::{StdSink, StdSource};
-use cov_base::{Failed, Memory, Shelf, ShelfRefusal, Sink, Source};
+use cov_base::{Door, Failed, Link, Memory, Shelf, ShelfRefusal, Sink, Source};
 use std::alloc::Global;
 use std::io::{ErrorKind, Read, Write};
+use std::net::{TcpListener, TcpStream};
 use std::process::Abort;
 use std::test::Fail;
 use std::{fs, io, process};
@@ -189,4 +191,58 @@ fn files_that_grow_are_cut_off(rt: HostRuntime) {
         let answer = read_whole(&mut file, rt.alloc(), 1, most);
         expect_answer(&rt, &answer, expected.map(|text| text.as_bytes()));
     }
+}
+
+/// One write to a link through the bound.
+fn say<L: Link>(link: &mut L) -> Result<usize, Failed> {
+    link.write(b"text")
+}
+
+/// One read with room for three bytes from a link through the bound.
+fn hear<L: Link>(alloc: Global, link: &mut L) -> Result<Option<Vec<u8>>, Memory> {
+    let mut room = [0u8; 3];
+    match link.read(&mut room) {
+        Ok(count) => Ok(Some(Vec::from_slice(alloc, &room[..count])?)),
+        Err(Failed) => Ok(None),
+    }
+}
+
+/// The next link through the bound.
+fn enter<D: Door>(door: &mut D) -> Result<D::Wire, Failed> {
+    door.accept()
+}
+
+#[test]
+fn links_read_and_write_once(rt: HostRuntime) -> Result<(), Fail> {
+    for (script, written, read) in [
+        ([Step::Pass(1), Step::Pass(9)], Ok(1), Some("tex")),
+        ([Step::Interrupted, Step::Pass(2)], Ok(2), Some("")),
+        ([Step::Pass(0), Step::Broken], Err(Failed), None),
+        ([Step::Broken, Step::Pass(2)], Err(Failed), Some("te")),
+    ] {
+        let bytes = b"text".as_slice();
+        let mut link = TcpLink::new(Scripted {
+            script: &script,
+            bytes,
+        });
+        assert_eq!(rt; say(&mut link), written);
+        let taken = hear(rt.alloc(), &mut link)?;
+        assert!(rt; taken.as_ref().map(|t| t.as_slice()) == read.map(|e| e.as_bytes()));
+    }
+    Ok(())
+}
+
+#[test]
+fn doors_hand_out_connections(rt: HostRuntime) -> Result<(), Fail> {
+    let listener = TcpListener::bind(&rt, "127.0.0.1:0")?;
+    let mut door = TcpDoor::new(&listener);
+    let mut far = TcpLink::new(TcpStream::connect(&rt, listener.local_addr()?)?);
+    let mut near = enter(&mut door)?;
+    assert_eq!(rt; say(&mut far), Ok(4));
+    drop(far);
+    for expected in ["tex", "t", ""] {
+        let taken = hear(rt.alloc(), &mut near)?;
+        assert!(rt; taken.as_ref().map(|t| t.as_slice()) == Some(expected.as_bytes()));
+    }
+    Ok(())
 }

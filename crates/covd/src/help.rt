@@ -11,9 +11,22 @@ Usage:
                              design has, and a line a bin
   covd count DESIGN RECORD   counts how often the record hits each bin of the
                              design, and prints a line a bin
+  covd report DESIGN RECORD ..
+                             merges the records of tests and prints the coverage
+                             and the ranking of the tests:
+                             covd report bus.sv t1.rec t2.rec
+  covd make DESIGN SEED EVENTS TESTS
+                             the same for TESTS made-up tests of EVENTS rounds of
+                             random values: covd make bus.sv 7 20000 3
   covd record DESIGN DUMP SCOPE ID
                              writes the record of a simulator's dump to standard
                              output: covd record bus.sv bus.vcd tb t1 > t1.rec
+  covd session DESIGN        answers requests on standard input, to standard
+                             output: covd session bus.sv < requests > replies
+  covd serve DESIGN --listen ADDR [--seats N]
+                             answers requests over the network, of up to N
+                             callers at a time (16, or 1 to 256):
+                             covd serve bus.sv --listen 127.0.0.1:7000
   covd --help                prints this text
   covd --version             prints the version
 
@@ -25,17 +38,26 @@ Files:
 Words:
   SCOPE    the scope of the dump whose variables are the design's: tb, TOP.tb
   ID       the test's name, 1 to 255 letters, digits and signs without blanks
+  SEED     1 to 20 digits, at most 18446744073709551615
+  EVENTS   1 to 7 digits, at most 1048576
+  TESTS    1 to 4 digits, 1 to 4096
 
 What is printed goes to standard output. The exit status is one of:
    0   done
    1   out of memory
    2   the words are no command
    3   the design is refused
-   4   the record is refused
+   4   a record is refused
+   5   a record is not admitted: its name is taken, or a limit is met
+   6   standard input failed (session)
    7   standard output failed
    8   a file could not be read
+   9   the requests end inside a frame (session)
+  10   a frame states a length that is 0 or above 1,048,640 (session)
+  11   the requests are too long (session)
   12   a file is too long
   13   the dump is refused
+  14   the address can't be listened on, or no worker is left (serve)
 ";
 
 /// What `covd --version` prints.

@@ -164,9 +164,16 @@ fn words_hint(alloc: Global, words: &[String]) -> Result<String, AllocError> {
     let form = match words.first().map(|word| word.as_str()) {
         Some("check") => "covd check DESIGN",
         Some("count") => "covd count DESIGN RECORD",
+        Some("report") => "covd report DESIGN RECORD .., with one record or more",
+        Some("make") =>
+            "covd make DESIGN SEED EVENTS TESTS, three numbers in digits: up to 18446744073709551615, 1048576 and 4096",
         Some("record") =>
             "covd record DESIGN DUMP SCOPE ID, where ID has 1 to 255 signs from ! to ~",
-        _ => "covd check DESIGN, covd count DESIGN RECORD, or covd record DESIGN DUMP SCOPE ID",
+        Some("session") => "covd session DESIGN",
+        Some("serve") =>
+            "covd serve DESIGN --listen ADDR, or with --seats N behind it, N from 1 to 256",
+        _ =>
+            "covd check, count, report, make, record, session or serve, and what each of them takes",
     };
     format!(in alloc; "the words are: {form}; covd --help says more\n")
 }
@@ -207,7 +214,21 @@ fn on_file<R: Files + AllocGlobal>(
     }
 }
 
-/// The hint on the first file that can't be read: a design text, and a record or a dump.
+/// The hint on the first of these files that can't be read, each of at most so many bytes.
+fn on_any_file<R: Files + AllocGlobal>(
+    rt: &R,
+    names: &[String],
+    most: u64,
+) -> Result<Option<String>, AllocError> {
+    for name in names {
+        if let Some(hint) = on_file(rt, name.as_str(), most)? {
+            return Ok(Some(hint));
+        }
+    }
+    Ok(None)
+}
+
+/// The hint on the first file that can't be read: a design text, and records or a dump.
 fn on_files<R: Files + AllocGlobal>(
     rt: &R,
     words: &[String],
@@ -218,15 +239,33 @@ fn on_files<R: Files + AllocGlobal>(
     if let Some(hint) = on_file(rt, design.as_str(), LONGEST_DESIGN)? {
         return Ok(Some(hint));
     }
-    let most = if command.as_str() == "record" {
-        LONGEST_DUMP
-    } else {
-        LONGEST_RECORD
-    };
-    match rest.first() {
-        Some(name) => on_file(rt, name.as_str(), most),
-        None => Ok(None),
+    match (command.as_str(), rest) {
+        ("record", [dump, ..]) => on_file(rt, dump.as_str(), LONGEST_DUMP),
+        ("count" | "report", records) => on_any_file(rt, records, LONGEST_RECORD),
+        _ => Ok(None),
     }
+}
+
+/// The hint on the first of these records that is none.
+fn on_records<R: Files + AllocGlobal>(
+    rt: &R,
+    names: &[String],
+) -> Result<Option<String>, AllocError> {
+    for name in names {
+        if let Some(hint) = on_record(rt, name.as_str())? {
+            return Ok(Some(hint));
+        }
+    }
+    Ok(None)
+}
+
+/// The hint on a record that isn't admitted.
+fn admit_hint(alloc: Global, words: &[String]) -> Result<String, AllocError> {
+    let why = match words.first().map(|word| word.as_str()) {
+        Some("make") => "a made test has at most 1048576 events and 8388608 bytes: fewer EVENTS",
+        _ => "a test's ID stands for one record, and a report has room for 4096 tests",
+    };
+    format!(in alloc; "{why} (see docs/FORMATS.md)\n")
 }
 
 /// The hint on how a command with these words ended.
@@ -238,7 +277,8 @@ fn hint_on<R: Files + AllocGlobal>(
     match (status, words) {
         (Status::BadWords, _) => Ok(Some(words_hint(rt.alloc(), words)?)),
         (Status::DesignRefused, [_, design, ..]) => on_design(rt, design.as_str()),
-        (Status::RecordRefused, [_, _, record, ..]) => on_record(rt, record.as_str()),
+        (Status::RecordRefused, [_, _, records @ ..]) => on_records(rt, records),
+        (Status::AdmitRefused, _) => Ok(Some(admit_hint(rt.alloc(), words)?)),
         (Status::DumpRefused, [_, design, dump, scope, id]) => on_dump(
             rt,
             design.as_str(),

@@ -5,12 +5,15 @@ mod dump_hints;
 mod ending;
 mod help;
 mod hints;
+mod serving;
 
+use cov_base::Pair;
 use cov_net::{FileShelf, StdSink, StdSource};
 use covd_core::{Status, run};
 use ending::{ended, given};
 use help::early_text;
 use hints::print_hint;
+use serving::{is_serve, serve};
 use std::process::ExitCode;
 use std::rt::Files;
 use std::thread::Threads;
@@ -33,20 +36,25 @@ fn run_words<R: Threads + Sync + Files + Input + Print + Eprint + AllocGlobal>(
     let mut shelf = FileShelf::new(rt);
     let mut source = StdSource::new(rt.reader());
     let mut sink = StdSink::new(io::writer(rt));
-    let status = run(rt, rt.alloc(), words, &mut shelf, &mut source, &mut sink);
+    let mut link = Pair {
+        source: &mut source,
+        sink: &mut sink,
+    };
+    let status = run(rt, rt.alloc(), words, &mut shelf, &mut link);
     print_hint(rt, words, status);
     status
 }
 
 fn main(rt: HostRuntime) -> ExitCode {
-    let status = match given(rt.alloc(), words_of(&rt)) {
+    let number = match given(rt.alloc(), words_of(&rt)) {
         Ok(words) => match early_text(&words) {
-            Some(text) => ended(&rt.print(text)),
-            None => run_words(&rt, &words),
+            Some(text) => ended(&rt.print(text)).number(),
+            None if is_serve(&words) => serve(&rt, &words),
+            None => run_words(&rt, &words).number(),
         },
-        Err(status) => status,
+        Err(status) => status.number(),
     };
-    ExitCode::from(status.number())
+    ExitCode::from(number)
 }
 
 #[cfg(test)]

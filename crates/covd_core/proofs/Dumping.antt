@@ -1,16 +1,12 @@
 -- From the answer to a dump's bytes to that of the command.
-use Rattle.std.proofs.Common.{◌≡◌, ℕ, ◌≤◌, List, length, refl, sym, ap, subst, ◌∙◌}
+use Rattle.std.proofs.Common.{◌≡◌, ℕ, ◌≤◌, List, length, sym, ap, subst}
 use Rattle.std.specs.Prelude.{Result, Ok, Err}
 use Rattle.cov_tree.specs.declared.declarations.DesignText.{DesignText}
 use Rattle.cov_base.specs.Loads.{HasFile}
-use Rattle.cov_ground.specs.Limits.{longest_design}
-use Rattle.cov_compile.specs.declared.fault.CompileFault.{CompileFault}
-use Rattle.cov_compile.specs.Compiling.{IsDesign, Declares, Compiles}
-use Rattle.cov_design.specs.Elaboration.{parts_of}
 use Rattle.design_data.specs.declared.design.Design.{Design}
 use Rattle.record_codec.specs.declared.record.Fields.{Fields}
 use Rattle.record_codec.specs.declared.record.Record.{Record}
-use Rattle.record_codec.specs.Spelling.{fields_of, spelling, Encodes}
+use Rattle.record_codec.specs.Spelling.{fields_of, spelling}
 use Rattle.vcd_reader.specs.declared.dump.Dump.{Dump}
 use Rattle.vcd_reader.specs.declared.fault.DumpFault.{DumpFault}
 use Rattle.vcd_reader.specs.declared.fault.DumpFault.TheVariants.{Syntax, TimeBack, UnknownCode, BadEvent, NoSignal, WidthDiffers, TooManyEvents, TooLong, Memory}
@@ -19,7 +15,7 @@ use Rattle.vcd_reader.specs.Refusals.{◌>>=◌, Fails, Gives}
 use Rattle.covd_core.specs.declared.status.Status.{Status}
 use Rattle.covd_core.specs.declared.status.Status.TheVariants as status
 use Rattle.covd_core.specs.Command.{Files, HasDesign, Records}
-use Rattle.covd_core.specs.Dumps.{IsTextOf, HasText, made_of}
+use Rattle.covd_core.specs.Dumps.{HasText, made_of}
 use Rattle.covd_core.specs.Lines.{IsDumpFaultText}
 use Rattle.covd_core.specs.Steps.{RecordsDump}
 

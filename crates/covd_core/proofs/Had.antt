@@ -13,8 +13,7 @@ use Rattle.cov_ground.specs.Limits.{longest_design}
 use Rattle.covd_core.specs.declared.status.Status.{Status}
 use Rattle.covd_core.specs.declared.status.Status.TheVariants as status
 use Rattle.covd_core.specs.Lines.{IsDesignFaultText}
-use Rattle.covd_core.specs.Command.{Files, HasNoDesign}
-use Rattle.covd_core.specs.Steps.{NoDesign}
+use Rattle.covd_core.specs.Command.{Files, HasNoDesign, NoDesign}
 
 -- want of memory has no line
 has_line : (fault : CompileFault) (line : List ℕ) → IsDesignFaultText fault line → is_memory fault → ⊥

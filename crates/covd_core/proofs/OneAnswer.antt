@@ -1,16 +1,15 @@
 -- Told files and a shelf that didn't fail leave one status and one text to the words.
-use Rattle.std.proofs.Common.{◌≡◌, ℕ, ◌<◌, ◌≤◌, List, [], ◌∷◌, length, take, Some, None, inl, inr, refl, sym, ap, subst, ◌∙◌, arith}
-use Rattle.std.specs.Prelude.{◌⊎◌, slice_index_or, Result, Ok, Err}
+use Rattle.std.proofs.Common.{◌≡◌, ℕ, ◌<◌, ◌+◌, suc, zero, ◌≤◌, List, [], ◌∷◌, length, Some, None, inl, inr, refl, sym, ap, subst, ◌∙◌, arith}
+use Rattle.std.specs.Prelude.{◌⊎◌, slice_index, Result, Ok, Err, codes}
 use Rattle.cov_spec.specs.Causes.{Rose}
 use Rattle.cov_spec.specs.Files.{file_of}
-use Rattle.cov_counting.specs.Tallies.{IsTally}
 use Rattle.cov_counting.proofs.Bins.{one as tally_is_one}
 use Rattle.record_codec.specs.declared.record.Record.{Record}
 use Rattle.record_codec.specs.declared.record.Fields.{Fields}
 use Rattle.record_codec.specs.Bytes.{bytes_of}
 use Rattle.record_codec.specs.Spelling.{Encodes, fields_of}
 use Rattle.design_data.specs.declared.design.Design.{Design}
-use Rattle.cov_design.specs.Elaboration.{Parts, parts_of}
+use Rattle.cov_design.specs.Elaboration.{parts_of}
 use Rattle.covd_core.specs.declared.status.Status.{Status}
 use Rattle.covd_core.specs.declared.status.Status.TheVariants as status
 use Rattle.cov_compile.specs.declared.fault.CompileFault.{CompileFault}
@@ -22,6 +21,13 @@ use Rattle.vcd_reader.specs.Reading.{longest_dump}
 use Rattle.covd_core.specs.Lines.{count_text, check_text, IsDesignFaultText, IsDumpFaultText, bad_words_text, cannot_read_text, too_long_text}
 use Rattle.covd_core.specs.Dumps.{HasText, HasMade, IsTextOf, made_of}
 use Rattle.covd_core.specs.Command.{Files, IsCheckCommand, IsCountCommand, IsRecordCommand, IsNoCommand, NotLoaded, HasDesign, HasNoDesign, HasRecord, HasNoRecord, IsCountText, IsRefusedText, Checks, Counts, Records, Answers, HasOneAnswer}
+use Rattle.cov_ground.specs.Limits.{most_events}
+use Rattle.record_codec.proofs.RecordLaws.{same_record}
+use Rattle.cov_history.specs.declared.entry.Entry.{Entry}
+use Rattle.covd_core.specs.Digits.{written, bounded}
+use Rattle.covd_core.specs.Forms.{IsReportCommand, IsMakeCommand}
+use Rattle.covd_core.specs.Admission.{admission, behind, refusal_line, made_fields, made_events, made_size}
+use Rattle.covd_core.specs.Command.{NoDesign, NotTaken, IsTooMuch, NotMade, Fills, FillsMade, Reports, MakesReport}
 use Rattle.covd_core.proofs.Refusals.{IsReading, design_text_one, dump_text_one, refused_text_one}
 use Rattle.covd_core.proofs.Dumping.{has_design}
 use Rattle.covd_core.proofs.Trees.{one_tree}
@@ -65,29 +71,29 @@ same_file : (all : Told) (name bytes others : List ℕ) → file_of all name ≡
 same_file all name bytes others h k = cc (h, k)
 
 module _ (all : Told) (name : List ℕ) where
-  record IsMissing (s : Status) (text : List ℕ) : Type 0 where
+  pub record IsMissing (s : Status) (text : List ℕ) : Type 0 where
     absent : file_of all name ≡ None
     is_status : s ≡ status.ShelfFault
     is_text : text ≡ cannot_read_text name
 
-  record IsLong (most : ℕ) (s : Status) (text : List ℕ) : Type 0 where
+  pub record IsLong (most : ℕ) (s : Status) (text : List ℕ) : Type 0 where
     bytes : List ℕ
     file : file_of all name ≡ Some bytes
     long : most < length bytes
     is_status : s ≡ status.FileTooLong
     is_text : text ≡ too_long_text name (length bytes)
 
-  abbrev IsRefused : ℕ → Status → List ℕ → Type 0
+  abbrev pub IsRefused : ℕ → Status → List ℕ → Type 0
   IsRefused most s text = IsMissing s text ⊎ IsLong most s text
 
   module _ (before now : ℕ) (calm : Rose before now → ⊥) (most : ℕ) where
-    refused : (s : Status) (text : List ℕ) → NotLoaded (Some all) before now name most s text → IsRefused most s text
+    pub refused : (s : Status) (text : List ℕ) → NotLoaded (Some all) before now name most s text → IsRefused most s text
     refused status.ShelfFault text h = elim h.0 [ inl absent ↦ inl (record { absent = absent; is_status = refl; is_text = h.1 }) | inr rose ↦ absurd (calm rose) ]
     refused status.FileTooLong text h = inr (record { bytes = h.1.0; file = h.1.1; long = omega (arith, h.1.2, h.1.3); is_status = refl; is_text = h.2 ∙ ap (too_long_text name) (sym h.1.2) })
     refused other text h = absurd h
 
   module _ (most : ℕ) (s s' : Status) (text text' : List ℕ) where
-    refused_one : IsRefused most s text → IsRefused most s' text' → (s ≡ s') × (text ≡ text')
+    pub refused_one : IsRefused most s text → IsRefused most s' text' → (s ≡ s') × (text ≡ text')
     refused_one h k = elim h [
       | inl a ↦ elim k [ inl b ↦ (a.is_status ∙ sym b.is_status, a.is_text ∙ sym b.is_text) | inr b ↦ absurd (cc (a.absent, b.file)) ]
       | inr a ↦ elim k [
@@ -96,7 +102,7 @@ module _ (all : Told) (name : List ℕ) where
       ]
     ]
 
-  not_refused : (most : ℕ) (s : Status) (text bytes : List ℕ) → file_of all name ≡ Some bytes → length bytes ≤ most → IsRefused most s text → ⊥
+  pub not_refused : (most : ℕ) (s : Status) (text bytes : List ℕ) → file_of all name ≡ Some bytes → length bytes ≤ most → IsRefused most s text → ⊥
   not_refused most s text bytes file short h = elim h [
     | inl a ↦ cc (a.absent, file)
     | inr a ↦ let same : length a.bytes ≡ length bytes = ap length (same_file all name a.bytes bytes a.file file) in omega (arith, a.long)
@@ -105,13 +111,13 @@ module _ (all : Told) (name : List ℕ) where
 -- ---- the design's file
 
 module _ (all : Told) where
-  design_one : (name : List ℕ) (d e : Design) → HasDesign (Some all) name d → HasDesign (Some all) name e → d ≡ e
+  pub design_one : (name : List ℕ) (d e : Design) → HasDesign (Some all) name d → HasDesign (Some all) name e → d ≡ e
   design_one name d e h k = design_is d e (text_design k.text (parts_of d) (parts_of e) (subst (λ (text : List ℕ). IsDesign (parts_of d) text) (same_file all name h.text k.text h.file k.file) h.is_design) k.is_design)
 
-  no_design : (name line : List ℕ) (d : Design) → HasDesign (Some all) name d → HasNoDesign (Some all) name line → ⊥
+  pub no_design : (name line : List ℕ) (d : Design) → HasDesign (Some all) name d → HasNoDesign (Some all) name line → ⊥
   no_design name line d h n = n.none (parts_of d) (subst (λ (text : List ℕ). IsDesign (parts_of d) text) (same_file all name h.text n.text h.file n.file) h.is_design)
 
-  no_design_one : (name line other : List ℕ) → HasNoDesign (Some all) name line → HasNoDesign (Some all) name other → line ≡ other
+  pub no_design_one : (name line other : List ℕ) → HasNoDesign (Some all) name line → HasNoDesign (Some all) name other → line ≡ other
   no_design_one name line other h k =
       let same = fault_one k.text h.fault k.fault (subst (λ (text : List ℕ). IsDesignFault text h.fault) (same_file all name h.text k.text h.file k.file) h.cause) k.cause in
       design_text_one k.fault line other (subst (λ (fault : CompileFault). IsDesignFaultText fault line) same h.says) k.says
@@ -188,12 +194,12 @@ module _ (spells : IsReading) (all : Told) where
   record_one : (name : List ℕ) (d : Design) (r q : Record) → HasRecord (Some all) name d r → HasRecord (Some all) name d q → r ≡ q
   record_one name d r q h k = spells.one k.bytes r q (subst (λ (bytes : List ℕ). Encodes r bytes) (same_file all name h.bytes k.bytes h.file k.file) h.encodes) k.encodes
 
-  no_record : (name : List ℕ) (d : Design) (r : Record) (text : List ℕ) → HasRecord (Some all) name d r → HasNoRecord (Some all) name d text → ⊥
-  no_record name d r text h n = n.none r (subst (λ (bytes : List ℕ). Encodes r bytes) (same_file all name h.bytes n.bytes h.file n.file) h.encodes) h.fits
+  no_record : (name : List ℕ) (d : Design) (k : ℕ) (r : Record) (text : List ℕ) → HasRecord (Some all) name d r → HasNoRecord (Some all) name d k text → ⊥
+  no_record name d k r text h n = n.none r (subst (λ (bytes : List ℕ). Encodes r bytes) (same_file all name h.bytes n.bytes h.file n.file) h.encodes) h.fits
 
   module _ (name : List ℕ) (d : Design) where
     record IsUnfit (s : Status) (text : List ℕ) : Type 0 where
-      none : HasNoRecord (Some all) name d text
+      none : HasNoRecord (Some all) name d 1 text
       is_status : s ≡ status.RecordRefused
 
     record IsCounted (s : Status) (text : List ℕ) : Type 0 where
@@ -209,12 +215,12 @@ module _ (spells : IsReading) (all : Told) where
     had : (s : Status) (text : List ℕ) (r : Record) → HasRecord (Some all) name d r → IsRefused all name longest_record s text → ⊥
     had s text r h = not_refused all name longest_record s text h.bytes h.file h.short
 
-    had_none : (s : Status) (text line : List ℕ) → HasNoRecord (Some all) name d line → IsRefused all name longest_record s text → ⊥
+    had_none : (s : Status) (text line : List ℕ) → HasNoRecord (Some all) name d 1 line → IsRefused all name longest_record s text → ⊥
     had_none s text line h = not_refused all name longest_record s text h.bytes h.file h.short
 
     unfit_one : (s s' : Status) (text text' : List ℕ) → IsUnfit s text → IsUnfit s' text' → (s ≡ s') × (text ≡ text')
     unfit_one s s' text text' a b =
-        (a.is_status ∙ sym b.is_status, refused_text_one spells d b.none.bytes text text' (subst (λ (bytes : List ℕ). IsRefusedText d bytes text) (same_file all name a.none.bytes b.none.bytes a.none.file b.none.file) a.none.line) b.none.line)
+        (a.is_status ∙ sym b.is_status, refused_text_one spells 1 d b.none.bytes text text' (subst (λ (bytes : List ℕ). IsRefusedText 1 d bytes text) (same_file all name a.none.bytes b.none.bytes a.none.file b.none.file) a.none.line) b.none.line)
 
     counted_one : (s s' : Status) (text text' : List ℕ) → IsCounted s text → IsCounted s' text' → (s ≡ s') × (text ≡ text')
     counted_one s s' text text' a b =
@@ -229,11 +235,11 @@ module _ (spells : IsReading) (all : Told) where
       | inr x ↦ elim x [
         | inl a ↦ elim k [
           | inl b ↦ absurd (had_none s' text' text a.none b)
-          | inr y ↦ elim y [ inl b ↦ unfit_one s s' text text' a b | inr b ↦ absurd (no_record name d b.r text b.has a.none) ]
+          | inr y ↦ elim y [ inl b ↦ unfit_one s s' text text' a b | inr b ↦ absurd (no_record name d 1 b.r text b.has a.none) ]
         ]
         | inr a ↦ elim k [
           | inl b ↦ absurd (had s' text' a.r a.has b)
-          | inr y ↦ elim y [ inl b ↦ absurd (no_record name d a.r text' a.has b.none) | inr b ↦ counted_one s s' text text' a b ]
+          | inr y ↦ elim y [ inl b ↦ absurd (no_record name d 1 a.r text' a.has b.none) | inr b ↦ counted_one s s' text text' a b ]
         ]
       ]
     ]
@@ -333,7 +339,169 @@ module _ (all : Told) (design dump scope id : List ℕ) where
     record_one_answer : IsOne (Records (Some all) before now design dump scope id)
     record_one_answer s s' text text' h k = case_one all MakesEnds makes_one design s s' text text' (record_case s text h) (record_case s' text' k)
 
+-- ---- records from files
+
+module _ (spells : IsReading) (all : Told) (before now : ℕ) (calm : Rose before now → ⊥) (d : Design) where
+  module _ (k : ℕ) (h : List Entry) (name : List ℕ) where
+    abbrev Unloaded : Family
+    Unloaded s text = NotLoaded (Some all) before now name longest_record s text
+
+    abbrev Misfit : Family
+    Misfit s text = (s ≡ status.RecordRefused) × HasNoRecord (Some all) name d k text
+
+    abbrev Unadmitted : Family
+    Unadmitted s text = (r : Record) × HasRecord (Some all) name d r × (s ≡ status.AdmitRefused) × (refusal_line k (admission d h r) ≡ Some text)
+
+    unloaded_one : IsOne Unloaded
+    unloaded_one s s' text text' a b =
+        refused_one all name longest_record s s' text text' (refused all name before now calm longest_record s text a) (refused all name before now calm longest_record s' text' b)
+
+    misfit_one : IsOne Misfit
+    misfit_one s s' text text' a b =
+        (a.0 ∙ sym b.0, refused_text_one spells k d b.1.bytes text text' (subst (λ (bytes : List ℕ). IsRefusedText k d bytes text) (same_file all name a.1.bytes b.1.bytes a.1.file b.1.file) a.1.line) b.1.line)
+
+    line_of : (r q : Record) (text text' : List ℕ) → r ≡ q → refusal_line k (admission d h r) ≡ Some text → refusal_line k (admission d h q) ≡ Some text' → text ≡ text'
+    line_of r q text text' same e f = let g : refusal_line k (admission d h r) ≡ Some text' = ap (λ (x : Record). refusal_line k (admission d h x)) same ∙ f in cc (e, g)
+
+    unadmitted_one : IsOne Unadmitted
+    unadmitted_one s s' text text' a b = (a.2 ∙ sym b.2, line_of a.0 b.0 text text' (record_one spells all name d a.0 b.0 a.1 b.1) a.3 b.3)
+
+    -- a record that is had
+    file_had : (s : Status) (text : List ℕ) (r : Record) → HasRecord (Some all) name d r → Unloaded s text → ⊥
+    file_had s text r has a = not_refused all name longest_record s text has.bytes has.file has.short (refused all name before now calm longest_record s text a)
+
+    unloaded_or_misfit : AreApart Unloaded Misfit
+    unloaded_or_misfit s s' text text' a b = not_refused all name longest_record s text b.1.bytes b.1.file b.1.short (refused all name before now calm longest_record s text a)
+
+    unloaded_or_unadmitted : AreApart Unloaded Unadmitted
+    unloaded_or_unadmitted s s' text text' a b = file_had s text b.0 b.1 a
+
+    misfit_or_unadmitted : AreApart Misfit Unadmitted
+    misfit_or_unadmitted s s' text text' a b = no_record spells all name d k b.0 text b.1 a.1
+
+    not_taken_one : IsOne (NotTaken (Some all) before now d k h name)
+    not_taken_one =
+        either_one Unloaded (Either Misfit Unadmitted) unloaded_one (either_one Misfit Unadmitted misfit_one unadmitted_one misfit_or_unadmitted) (apart_both Unloaded Misfit Unadmitted unloaded_or_misfit unloaded_or_unadmitted)
+
+    -- one that is taken in isn't refused
+    taken : (s : Status) (text : List ℕ) (r : Record) → HasRecord (Some all) name d r → refusal_line k (admission d h r) ≡ None → NotTaken (Some all) before now d k h name s text → ⊥
+    taken s text r has free x = elim x [
+      | inl a ↦ file_had s text r has a
+      | inr y ↦ elim y [
+        | inl a ↦ no_record spells all name d k r text has a.1
+        | inr a ↦
+            let e = a.3 in
+            let f : refusal_line k (admission d h a.0) ≡ None = ap (λ (q : Record). refusal_line k (admission d h q)) (record_one spells all name d a.0 r a.1 has) ∙ free in
+            cc (e, f)
+      ]
+    ]
+
+  fills_one : (names : List (List ℕ)) (k : ℕ) (h : List Entry) → IsOne (Fills (Some all) before now d k h names)
+  fills_one [] k h s s' text text' a b = (a.0 ∙ sym b.0, a.1 ∙ sym b.1)
+  fills_one (name ∷ names) k h s s' text text' a b = elim a [
+    | inl x ↦ elim b [ inl y ↦ not_taken_one k h name s s' text text' x y | inr y ↦ absurd (taken k h name s text y.0 y.1 y.2 x) ]
+    | inr x ↦ elim b [
+      | inl y ↦ absurd (taken k h name s' text' x.0 x.1 x.2 y)
+      | inr y ↦
+          let same = record_one spells all name d y.0 x.0 y.1 x.1 in
+          fills_one names (k + 1) (behind d h x.0) s s' text text' x.3 (subst (λ (r : Record). Fills (Some all) before now d (k + 1) (behind d h r) names s' text') same y.3)
+    ]
+  ]
+
+-- ---- records of the generator
+
+module _ (d : Design) (seed rounds : ℕ) where
+  module _ (test : ℕ) (h : List Entry) where
+    one_made : (r q : Record) → fields_of r ≡ made_fields d seed rounds test → fields_of q ≡ made_fields d seed rounds test → r ≡ q
+    one_made r q e f = same_record r q (e ∙ sym f)
+
+    abbrev IsMadeRecord : Record → Type 0
+    IsMadeRecord r = fields_of r ≡ made_fields d seed rounds test
+
+    few : (r : Record) → IsMadeRecord r → made_events d seed rounds test ≤ most_events
+    few r e = subst (λ (f : Fields). length f.events ≤ most_events) e r.within.event_count
+
+    short : (r : Record) → IsMadeRecord r → made_size d seed rounds test ≤ longest_record
+    short r e = subst (λ (f : Fields). length (bytes_of f) ≤ longest_record) e r.within.short
+
+    too_much_one : (text text' : List ℕ) → IsTooMuch d seed rounds test text → IsTooMuch d seed rounds test text' → text ≡ text'
+    too_much_one text text' a b = elim a [
+      | inl x ↦ elim b [ inl y ↦ x.1 ∙ sym y.1 | inr y ↦ absurd (omega (arith, x.0, y.0)) ]
+      | inr x ↦ elim b [ inl y ↦ absurd (omega (arith, x.0, y.0)) | inr y ↦ x.2 ∙ sym y.2 ]
+    ]
+
+    made_within : (r : Record) (text : List ℕ) → IsMadeRecord r → IsTooMuch d seed rounds test text → ⊥
+    made_within r text e a = elim a [ inl x ↦ omega (arith, x.0, few r e) | inr x ↦ omega (arith, x.1, short r e) ]
+
+    line_is : (r q : Record) (text text' : List ℕ) → r ≡ q → refusal_line test (admission d h r) ≡ Some text → refusal_line test (admission d h q) ≡ Some text' → text ≡ text'
+    line_is r q text text' same e f = let g : refusal_line test (admission d h r) ≡ Some text' = ap (λ (x : Record). refusal_line test (admission d h x)) same ∙ f in cc (e, g)
+
+    not_made_one : IsOne (NotMade d seed rounds test h)
+    not_made_one s s' text text' a b = (
+      a.0 ∙ sym b.0,
+      elim a.1 [
+        | inl x ↦ elim b.1 [ inl y ↦ too_much_one text text' x y | inr y ↦ absurd (made_within y.0 text y.1 x) ]
+        | inr x ↦ elim b.1 [ inl y ↦ absurd (made_within x.0 text' x.1 y) | inr y ↦ line_is x.0 y.0 text text' (one_made x.0 y.0 x.1 y.1) x.2 y.2 ]
+      ],
+    )
+
+    made_in : (s : Status) (text : List ℕ) (r : Record) → IsMadeRecord r → refusal_line test (admission d h r) ≡ None → NotMade d seed rounds test h s text → ⊥
+    made_in s text r e free a = elim a.1 [
+      | inl x ↦ made_within r text e x
+      | inr x ↦
+          let g = x.2 in
+          let f : refusal_line test (admission d h x.0) ≡ None = ap (λ (q : Record). refusal_line test (admission d h q)) (one_made x.0 r x.1 e) ∙ free in
+          cc (g, f)
+    ]
+
+  fills_made_one : (left test : ℕ) (h : List Entry) → IsOne (FillsMade d seed rounds test h left)
+  fills_made_one zero test h s s' text text' a b = (a.0 ∙ sym b.0, a.1 ∙ sym b.1)
+  fills_made_one (suc left) test h s s' text text' a b = elim a [
+    | inl x ↦ elim b [ inl y ↦ not_made_one test h s s' text text' x y | inr y ↦ absurd (made_in test h s text y.0 y.1 y.2 x) ]
+    | inr x ↦ elim b [
+      | inl y ↦ absurd (made_in test h s' text' x.0 x.1 x.2 y)
+      | inr y ↦
+          let same = one_made test h y.0 x.0 y.1 x.1 in
+          fills_made_one left (test + 1) (behind d h x.0) s s' text text' x.3 (subst (λ (r : Record). FillsMade d seed rounds (test + 1) (behind d h r) left s' text') same y.3)
+    ]
+  ]
+
+-- ---- report and make
+
+module _ (all : Told) (design : List ℕ) (before now : ℕ) (calm : Rose before now → ⊥) (Ends : Design → Status → List ℕ → Type 0) (ends_one : (d : Design) → IsOne (Ends d)) where
+  design_case : (s : Status) (text : List ℕ) → NoDesign (Some all) before now design s text → Case all Ends ends_one design s text
+  design_case status.DesignRefused text h = inr (inl (record { none = h; is_status = refl }))
+  design_case other text h = inl (refused all design before now calm longest_design other text h)
+
+  -- the design can't be had, or this is how the command ends with it
+  abbrev WithDesign : Family
+  WithDesign s text = NoDesign (Some all) before now design s text ⊎ ((d : Design) × HasDesign (Some all) design d × Ends d s text)
+
+  with_case : (s : Status) (text : List ℕ) → WithDesign s text → Case all Ends ends_one design s text
+  with_case s text h = elim h [ inl a ↦ design_case s text a | inr a ↦ inr (inr (record { d = a.0; has = a.1; ends = a.2 })) ]
+
+  with_one : IsOne WithDesign
+  with_one s s' text text' h k = case_one all Ends ends_one design s s' text text' (with_case s text h) (with_case s' text' k)
+
+module _ (spells : IsReading) (all : Told) (design : List ℕ) (before now : ℕ) (calm : Rose before now → ⊥) where
+  report_one : (names : List (List ℕ)) → IsOne (Reports (Some all) before now design names)
+  report_one names = with_one all design before now calm (λ d s text. Fills (Some all) before now d 1 [] names s text) (λ d. fills_one spells all before now calm d names 1 [])
+
+  make_one : (seed rounds tests : ℕ) → IsOne (MakesReport (Some all) before now design seed rounds tests)
+  make_one seed rounds tests = with_one all design before now calm (λ d s text. FillsMade d seed rounds 1 [] tests s text) (λ d. fills_made_one d seed rounds tests 1 [])
+
 -- ---- the words
+
+same_some : (m n : ℕ) → Some m ≡ Some n → m ≡ n
+same_some m n e = cc
+
+-- `record` and `report` differ in their third letters
+no_report : codes "record" ≡ codes "report" → ⊥
+no_report e = let third : 99 ≡ 112 = ap (λ (word : List ℕ). slice_index word 2) e in omega (arith, third)
+
+-- words of two commands
+other_command : (a b : List ℕ) (xs ys words : List (List ℕ)) → (a ≡ b → ⊥) → words ≡ a ∷ xs → words ≡ b ∷ ys → ⊥
+other_command a b xs ys words apart e f = let same : a ≡ b = cc (e, f) in apart same
 
 module _ (spells : IsReading) (words : List (List ℕ)) (all : Told) (before now : ℕ) (calm : Rose before now → ⊥) where
   abbrev NoCommand : Family
@@ -347,6 +515,12 @@ module _ (spells : IsReading) (words : List (List ℕ)) (all : Told) (before now
 
   abbrev RecordCommand : Family
   RecordCommand s text = (design dump scope id : List ℕ) × IsRecordCommand words design dump scope id × Records (Some all) before now design dump scope id s text
+
+  abbrev ReportCommand : Family
+  ReportCommand s text = (design : List ℕ) × (names : List (List ℕ)) × IsReportCommand words design names × Reports (Some all) before now design names s text
+
+  abbrev MakeCommand : Family
+  MakeCommand s text = (design : List ℕ) × (seed rounds tests : ℕ) × IsMakeCommand words design seed rounds tests × MakesReport (Some all) before now design seed rounds tests s text
 
   none_one : IsOne NoCommand
   none_one s s' text text' a b = (a.1 ∙ sym b.1, a.2 ∙ sym b.2)
@@ -392,16 +566,82 @@ module _ (spells : IsReading) (words : List (List ℕ)) (all : Told) (before now
   none_or_record : AreApart NoCommand RecordCommand
   none_or_record s s' text text' a b = a.0.2 b.0 b.1 b.2 b.3 b.4
 
-  count_and_more : IsOne (Either CountCommand RecordCommand)
-  count_and_more = either_one CountCommand RecordCommand counts_one records_one count_or_record
+  reports_one : IsOne ReportCommand
+  reports_one s s' text text' a b =
+      let e = a.2.are in
+      let f = b.2.are in
+      let one : b.0 ≡ a.0 = cc (e, f) in
+      let two : b.1 ≡ a.1 = cc (e, f) in
+      let k : Reports (Some all) before now a.0 a.1 s' text' = rw (sym one, sym two) b.3 in
+      report_one spells all a.0 before now calm a.1 s s' text text' a.3 k
 
-  check_and_more : IsOne (Either CheckCommand (Either CountCommand RecordCommand))
-  check_and_more = either_one CheckCommand (Either CountCommand RecordCommand) checks_one count_and_more (apart_both CheckCommand CountCommand RecordCommand check_or_count check_or_record)
+  makes_one_report : IsOne MakeCommand
+  makes_one_report s s' text text' a b =
+      let m = a.4 in
+      let n = b.4 in
+      let e = m.are in
+      let f = n.are in
+      let one : b.0 ≡ a.0 = cc (e, f) in
+      let seeds : n.seed_word ≡ m.seed_word = cc (e, f) in
+      let rounds : n.rounds_word ≡ m.rounds_word = cc (e, f) in
+      let tests : n.tests_word ≡ m.tests_word = cc (e, f) in
+      let two : b.1 ≡ a.1 = same_some _ _ (sym n.seed_is ∙ ap (written 20) seeds ∙ m.seed_is) in
+      let three : b.2 ≡ a.2 = same_some _ _ (sym n.rounds_are ∙ ap (λ (word : List ℕ). bounded 0 1048576 (written 7 word)) rounds ∙ m.rounds_are) in
+      let four : b.3 ≡ a.3 = same_some _ _ (sym n.tests_are ∙ ap (λ (word : List ℕ). bounded 1 4096 (written 4 word)) tests ∙ m.tests_are) in
+      let k : MakesReport (Some all) before now a.0 a.1 a.2 a.3 s' text' = rw (sym one, sym two, sym three, sym four) b.5 in
+      make_one spells all a.0 before now calm a.1 a.2 a.3 s s' text text' a.5 k
+
+  none_or_report : AreApart NoCommand ReportCommand
+  none_or_report s s' text text' a b = a.0.3 b.0 b.1 b.2
+
+  none_or_make : AreApart NoCommand MakeCommand
+  none_or_make s s' text text' a b = a.0.4 b.0 b.1 b.2 b.3 b.4
+
+  check_or_report : AreApart CheckCommand ReportCommand
+  check_or_report s s' text text' a b = other_command (codes "check") (codes "report") (a.0 ∷ []) _ words (λ e. absurd (cc e)) a.1 b.2.are
+
+  check_or_make : AreApart CheckCommand MakeCommand
+  check_or_make s s' text text' a b = other_command (codes "check") (codes "make") (a.0 ∷ []) _ words (λ e. absurd (cc e)) a.1 b.4.are
+
+  count_or_report : AreApart CountCommand ReportCommand
+  count_or_report s s' text text' a b = other_command (codes "count") (codes "report") (a.0 ∷ a.1 ∷ []) _ words (λ e. absurd (cc e)) a.2 b.2.are
+
+  count_or_make : AreApart CountCommand MakeCommand
+  count_or_make s s' text text' a b = other_command (codes "count") (codes "make") (a.0 ∷ a.1 ∷ []) _ words (λ e. absurd (cc e)) a.2 b.4.are
+
+  record_or_report : AreApart RecordCommand ReportCommand
+  record_or_report s s' text text' a b = other_command (codes "record") (codes "report") (a.0 ∷ a.1 ∷ a.2 ∷ a.3 ∷ []) _ words no_report a.4.0 b.2.are
+
+  record_or_make : AreApart RecordCommand MakeCommand
+  record_or_make s s' text text' a b = other_command (codes "record") (codes "make") (a.0 ∷ a.1 ∷ a.2 ∷ a.3 ∷ []) _ words (λ e. absurd (cc e)) a.4.0 b.4.are
+
+  report_or_make : AreApart ReportCommand MakeCommand
+  report_or_make s s' text text' a b = other_command (codes "report") (codes "make") (a.0 ∷ a.1) _ words (λ e. absurd (cc e)) a.2.are b.4.are
+
+  abbrev Filling : Family
+  Filling = Either ReportCommand MakeCommand
+
+  filling_one : IsOne Filling
+  filling_one = either_one ReportCommand MakeCommand reports_one makes_one_report report_or_make
+
+  record_and_more : IsOne (Either RecordCommand Filling)
+  record_and_more = either_one RecordCommand Filling records_one filling_one (apart_both RecordCommand ReportCommand MakeCommand record_or_report record_or_make)
+
+  count_and_more : IsOne (Either CountCommand (Either RecordCommand Filling))
+  count_and_more =
+      either_one CountCommand (Either RecordCommand Filling) counts_one record_and_more
+      (apart_both CountCommand RecordCommand Filling count_or_record (apart_both CountCommand ReportCommand MakeCommand count_or_report count_or_make))
+
+  check_and_more : IsOne (Either CheckCommand (Either CountCommand (Either RecordCommand Filling)))
+  check_and_more =
+      either_one CheckCommand (Either CountCommand (Either RecordCommand Filling)) checks_one count_and_more
+      (apart_both CheckCommand CountCommand (Either RecordCommand Filling) check_or_count (apart_both CheckCommand RecordCommand Filling check_or_record (apart_both CheckCommand ReportCommand MakeCommand check_or_report check_or_make)))
 
   answer_one : IsOne (Answers words (Some all) before now)
   answer_one =
-      either_one NoCommand (Either CheckCommand (Either CountCommand RecordCommand)) none_one check_and_more
-      (apart_both NoCommand CheckCommand (Either CountCommand RecordCommand) none_or_check (apart_both NoCommand CountCommand RecordCommand none_or_count none_or_record))
+      either_one NoCommand (Either CheckCommand (Either CountCommand (Either RecordCommand Filling))) none_one check_and_more
+      (apart_both NoCommand CheckCommand (Either CountCommand (Either RecordCommand Filling)) none_or_check
+      (apart_both NoCommand CountCommand (Either RecordCommand Filling) none_or_count (apart_both NoCommand RecordCommand Filling none_or_record (apart_both NoCommand ReportCommand MakeCommand none_or_report none_or_make))))
 
 pub has_one_answer : IsReading → (words : List (List ℕ)) (files : Files) (before now : ℕ) → HasOneAnswer words files before now
 has_one_answer spells words files before now all told calm s s' text text' h k =

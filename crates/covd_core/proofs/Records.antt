@@ -25,26 +25,26 @@ done d bytes r s text h fits a = with_status d bytes status.Done s text a.0 (r, 
 
 -- one that doesn't fit is refused
 pub unfit : (d : Design) (bytes : List ℕ) (r : Record) (at : ℕ) (s : Status) (text : List ℕ) → Encodes r bytes → ((other : Record) → Encodes other bytes → other ≡ r) → IsWrongAt d r at
-    → (s ≡ status.RecordRefused) × (text ≡ wrong_shape_text at) → CountsRecord d bytes s text
+    → (s ≡ status.RecordRefused) × (text ≡ wrong_shape_text 1 at) → CountsRecord d bytes s text
 unfit d bytes r at s text h only wrong a =
     with_status d bytes status.RecordRefused s text a.0
     (λ q k fits. does_not_fit d r at wrong (subst (λ (x : Record). Fits d x) (only q k) fits), inr (r, h, at, wrong, a.1))
 
 -- a fault that has a line is that of the bytes
-fault_of : (bytes : List ℕ) (fault : RecordFault) (text : List ℕ) → HasRead (Err fault) (reading bytes) → IsFaultText fault text → HasFault bytes fault
-fault_of bytes (Short at) text h t = h
-fault_of bytes BadMagic text h t = h
-fault_of bytes (BadVersion version) text h t = h
-fault_of bytes (BadField at) text h t = h
-fault_of bytes (TooManyEvents count) text h t = h
-fault_of bytes (Trailing at) text h t = h
-fault_of bytes Memory text h t = absurd t
+pub fault_of : (k : ℕ) (bytes : List ℕ) (fault : RecordFault) (text : List ℕ) → HasRead (Err fault) (reading bytes) → IsFaultText k fault text → HasFault bytes fault
+fault_of k bytes (Short at) text h t = h
+fault_of k bytes BadMagic text h t = h
+fault_of k bytes (BadVersion version) text h t = h
+fault_of k bytes (BadField at) text h t = h
+fault_of k bytes (TooManyEvents count) text h t = h
+fault_of k bytes (Trailing at) text h t = h
+fault_of k bytes Memory text h t = absurd t
 
 -- bytes that are no record are refused
 pub undecoded : (d : Design) (bytes : List ℕ) (fault : RecordFault) (s : Status) (text : List ℕ) → ((r : Record) (f : RecordFault) → Encodes r bytes → HasFault bytes f → ⊥) → HasRead (Err fault) (reading bytes)
-    → (s ≡ status.RecordRefused) × IsFaultText fault text → CountsRecord d bytes s text
+    → (s ≡ status.RecordRefused) × IsFaultText 1 fault text → CountsRecord d bytes s text
 undecoded d bytes fault s text no_fault h a =
-    let is = fault_of bytes fault text h a.1 in
+    let is = fault_of 1 bytes fault text h a.1 in
     with_status d bytes status.RecordRefused s text a.0 (λ r k fits. no_fault r fault k is, inl (fault, is, a.1))
 
 -- the command's answer, where both files are had

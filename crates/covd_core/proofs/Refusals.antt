@@ -11,7 +11,7 @@ use Rattle.cov_compile.specs.declared.fault.CompileFault.{CompileFault}
 use Rattle.cov_compile.specs.declared.fault.CompileFault.TheVariants.{Lex, Parse, Elab}
 use Rattle.elab_base.specs.declared.fault.ElabFault.TheVariants as elaborating
 use Rattle.design_data.specs.declared.design.Design.{Design}
-use Rattle.sampler.specs.Shape.{Fits, IsWrongAt}
+use Rattle.sampler.specs.Shape.{IsWrongAt}
 use Rattle.sampler.proofs.Tables.{place_one}
 use Rattle.vcd_reader.specs.declared.fault.DumpFault.{DumpFault}
 use Rattle.vcd_reader.specs.declared.fault.DumpFault.TheVariants as dumping
@@ -26,14 +26,14 @@ pub record IsReading : Type 0 where
 
 -- ---- the line
 
-fault_text_one : (fault : RecordFault) (text other : List ℕ) → IsFaultText fault text → IsFaultText fault other → text ≡ other
-fault_text_one (Short at) text other h k = h ∙ sym k
-fault_text_one BadMagic text other h k = h ∙ sym k
-fault_text_one (BadVersion version) text other h k = h ∙ sym k
-fault_text_one (BadField at) text other h k = h ∙ sym k
-fault_text_one (TooManyEvents count) text other h k = h ∙ sym k
-fault_text_one (Trailing at) text other h k = h ∙ sym k
-fault_text_one Memory text other h k = absurd h
+fault_text_one : (k : ℕ) (fault : RecordFault) (text other : List ℕ) → IsFaultText k fault text → IsFaultText k fault other → text ≡ other
+fault_text_one n (Short at) text other h k = h ∙ sym k
+fault_text_one n BadMagic text other h k = h ∙ sym k
+fault_text_one n (BadVersion version) text other h k = h ∙ sym k
+fault_text_one n (BadField at) text other h k = h ∙ sym k
+fault_text_one n (TooManyEvents count) text other h k = h ∙ sym k
+fault_text_one n (Trailing at) text other h k = h ∙ sym k
+fault_text_one n Memory text other h k = absurd h
 
 pub design_text_one : (fault : CompileFault) (text other : List ℕ) → IsDesignFaultText fault text → IsDesignFaultText fault other → text ≡ other
 design_text_one (Lex (lexing.BadByte at)) text other h k = h ∙ sym k
@@ -60,10 +60,10 @@ dump_text_one (dumping.TooManyEvents count) text other h k = h ∙ sym k
 dump_text_one (dumping.TooLong size) text other h k = h ∙ sym k
 dump_text_one dumping.Memory text other h k = absurd h
 
-pub refused_text_one : IsReading → (d : Design) (bytes text other : List ℕ) → IsRefusedText d bytes text → IsRefusedText d bytes other → text ≡ other
-refused_text_one read d bytes text other h k = elim h [
+pub refused_text_one : IsReading → (n : ℕ) (d : Design) (bytes text other : List ℕ) → IsRefusedText n d bytes text → IsRefusedText n d bytes other → text ≡ other
+refused_text_one read n d bytes text other h k = elim h [
   | inl a ↦ elim k [
-    | inl b ↦ fault_text_one b.0 text other (subst (λ (f : RecordFault). IsFaultText f text) (read.one_fault bytes a.0 b.0 a.1 b.1) a.2) b.2
+    | inl b ↦ fault_text_one n b.0 text other (subst (λ (f : RecordFault). IsFaultText n f text) (read.one_fault bytes a.0 b.0 a.1 b.1) a.2) b.2
     | inr b ↦ absurd (read.no_fault bytes b.0 a.0 b.1 a.1)
   ]
   | inr a ↦ elim k [
@@ -71,6 +71,6 @@ refused_text_one read d bytes text other h k = elim h [
     | inr b ↦
         let same = read.one bytes a.0 b.0 a.1 b.1 in
         let at = place_one d b.0 a.2 b.2 (subst (λ (r : Record). IsWrongAt d r a.2) same a.3) b.3 in
-        a.4 ∙ ap wrong_shape_text at ∙ sym b.4
+        a.4 ∙ ap (wrong_shape_text n) at ∙ sym b.4
   ]
 ]

@@ -1,5 +1,5 @@
 -- A file that isn't had stays so when the count of faults is looked at from an earlier time.
-use Rattle.std.proofs.Common.{◌≡◌, ◌≤◌, ◌+◌, ◌^◌, ◌-◌, ℕ, List, min, Some, None, inl, inr, arith, subst, sym}
+use Rattle.std.proofs.Common.{◌≡◌, ◌≤◌, ◌+◌, ◌^◌, ◌-◌, ℕ, List, min, Some, None, inl, inr, arith, subst}
 use Rattle.std.proofs.Math.Nat.{min-le_left, min-le_right, le-min}
 use Rattle.cov_spec.specs.Causes.{Rose}
 use Rattle.cov_base.specs.Loads.{HasLongFile}
@@ -23,7 +23,7 @@ long_more : (files : Files) (before middle now : ℕ) (name : List ℕ) (most si
 long_more None before middle now name most size le h = (rose_more before middle now le h.0, h.1)
 long_more (Some files) before middle now name most size le h = h
 
-not_loaded : (files : Files) (before middle now : ℕ) (name : List ℕ) (most : ℕ) (s : Status) (text : List ℕ) → before ≤ middle → NotLoaded files middle now name most s text → NotLoaded files before now name most s text
+pub not_loaded : (files : Files) (before middle now : ℕ) (name : List ℕ) (most : ℕ) (s : Status) (text : List ℕ) → before ≤ middle → NotLoaded files middle now name most s text → NotLoaded files before now name most s text
 not_loaded files before middle now name most status.ShelfFault text le h = (elim h.0 [ inl lacks ↦ inl lacks | inr rose ↦ inr (rose_more before middle now le rose) ], h.1)
 not_loaded files before middle now name most status.FileTooLong text le h = (h.0, long_more files before middle now name most h.0 le h.1, h.2)
 not_loaded files before middle now name most other text le h = absurd h

@@ -1,7 +1,8 @@
 -- What a command answers: a status and a text, from its words and the files of a shelf. The steps are: words, load of
--- the design, compiling; for `count` load of the record, decoding and shape; for `record` load of the dump, reading it
--- and making its record; then printing. The first step that refuses decides.
-use Rattle.std.specs.Prelude.{◌≡◌, ◌⊎◌, ℕ, ◌≤◌, List, [], ◌∷◌, length, Option, Some, Result, Ok, Err, codes}
+-- the design, compiling; for `count` load of the record, decoding and shape; for `report` the same and admission, record
+-- by record; for `make` the making and the admission of each; for `record` load of the dump, reading it and making its
+-- record; then printing. The first step that refuses decides.
+use Rattle.std.specs.Prelude.{◌≡◌, ◌⊎◌, ℕ, ◌≤◌, List, [], ◌∷◌, length, Option, Some, Ok, Err, codes, zero, suc, ◌+◌, ◌<◌, None}
 use Rattle.cov_spec.specs.Causes.{Rose}
 use Rattle.cov_spec.specs.Told.{Grows, GrowsByFront, Stays}
 use Rattle.cov_base.specs.Loads.{HasFile, LacksFile, HasLongFile}
@@ -13,11 +14,16 @@ use Rattle.cov_compile.specs.declared.fault.CompileFault.{CompileFault}
 use Rattle.cov_compile.specs.Compiling.{IsDesign, IsDesignFault}
 use Rattle.cov_counting.specs.Tallies.{IsTally}
 use Rattle.cov_design.specs.Elaboration.{Parts, parts_of}
-use Rattle.cov_ground.specs.Limits.{longest_design, longest_record}
+use Rattle.cov_ground.specs.Limits.{longest_design, longest_record, most_events}
 use Rattle.cov_tree.specs.declared.declarations.DesignText.{DesignText}
 use Rattle.design_data.specs.declared.design.Design.{Design}
 use Rattle.covd_core.specs.declared.status.Status.{Status}
 use Rattle.covd_core.specs.declared.status.Status.TheVariants as status
+use Rattle.record_codec.specs.Builders.{told}
+use Rattle.cov_history.specs.declared.entry.Entry.{Entry}
+use Rattle.cov_report.specs.Report.{report_text}
+use Rattle.covd_core.specs.Forms.{IsReportCommand, IsMakeCommand, IsNoReport, IsNoMake}
+use Rattle.covd_core.specs.Admission.{admission, behind, refusal_line, full_line, made_fields, made_events, made_size}
 use Rattle.sampler.specs.Shape.{Fits, IsWrongAt}
 use Rattle.vcd_reader.specs.declared.fault.DumpFault.{DumpFault}
 use Rattle.vcd_reader.specs.Reading.{longest_dump}
@@ -52,7 +58,7 @@ abbrev pub IsNoRecord : List (List ℕ) → Type 0
 IsNoRecord words = (design dump scope id : List ℕ) → IsRecordCommand words design dump scope id → ⊥
 
 abbrev pub IsNoCommand : List (List ℕ) → Type 0
-IsNoCommand words = IsNoCheck words × IsNoCount words × IsNoRecord words
+IsNoCommand words = IsNoCheck words × IsNoCount words × IsNoRecord words × IsNoReport words × IsNoMake words
 
 -- ---- files
 
@@ -91,20 +97,20 @@ pub record HasRecord (files : Files) (name : List ℕ) (d : Design) (r : Record)
   pub encodes : Encodes r bytes
   pub fits : Fits d r
 
--- Why bytes are no record that fits the design, and the line that says so: the first fault at which the bytes are no
--- record, or the first place at which the tables of the record that they are differ from the design's.
-abbrev pub IsRefusedText : Design → List ℕ → List ℕ → Type 0
-IsRefusedText d bytes text =
-    ((fault : RecordFault) × HasFault bytes fault × IsFaultText fault text)
-    ⊎ ((r : Record) × Encodes r bytes × (at : ℕ) × IsWrongAt d r at × (text ≡ wrong_shape_text at))
+-- Why the bytes of the k-th record are none that fits the design, and the line that says so: the first fault at which the
+-- bytes are no record, or the first place at which the tables of the record that they are differ from the design's.
+abbrev pub IsRefusedText : (k : ℕ) → Design → List ℕ → List ℕ → Type 0
+IsRefusedText k d bytes text =
+    ((fault : RecordFault) × HasFault bytes fault × IsFaultText k fault text)
+    ⊎ ((r : Record) × Encodes r bytes × (at : ℕ) × IsWrongAt d r at × (text ≡ wrong_shape_text k at))
 
--- the file of that name has no record that fits the design, and the line says why
-pub record HasNoRecord (files : Files) (name : List ℕ) (d : Design) (text : List ℕ) : Type 0 where
+-- the file of that name, that of the k-th record, has none that fits the design, and the line says why
+pub record HasNoRecord (files : Files) (name : List ℕ) (d : Design) (k : ℕ) (text : List ℕ) : Type 0 where
   pub bytes : List ℕ
   pub file : HasFile files name bytes
   pub short : length bytes ≤ longest_record
   pub none : (r : Record) → Encodes r bytes → Fits d r → ⊥
-  pub line : IsRefusedText d bytes text
+  pub line : IsRefusedText k d bytes text
 
 -- ---- answers
 
@@ -124,7 +130,7 @@ Checks files before now design other text = ⊥
 abbrev pub Counts : Files → ℕ → ℕ → List ℕ → List ℕ → Status → List ℕ → Type 0
 Counts files before now design rec status.Done text = (d : Design) × HasDesign files design d × (r : Record) × HasRecord files rec d r × IsCountText d r text
 Counts files before now design rec status.DesignRefused text = HasNoDesign files design text
-Counts files before now design rec status.RecordRefused text = (d : Design) × HasDesign files design d × HasNoRecord files rec d text
+Counts files before now design rec status.RecordRefused text = (d : Design) × HasDesign files design d × HasNoRecord files rec d 1 text
 Counts files before now design rec status.ShelfFault text = NotLoaded files before now design longest_design status.ShelfFault text ⊎ ((d : Design) × HasDesign files design d × NotLoaded files before now rec longest_record status.ShelfFault text)
 Counts files before now design rec status.FileTooLong text = NotLoaded files before now design longest_design status.FileTooLong text ⊎ ((d : Design) × HasDesign files design d × NotLoaded files before now rec longest_record status.FileTooLong text)
 Counts files before now design rec other text = ⊥
@@ -142,13 +148,76 @@ Records files before now design dump scope id status.ShelfFault text = NotLoaded
 Records files before now design dump scope id status.FileTooLong text = NotLoaded files before now design longest_design status.FileTooLong text ⊎ ((d : Design) × HasDesign files design d × NotLoaded files before now dump longest_dump status.FileTooLong text)
 Records files before now design dump scope id other text = ⊥
 
+-- status and text where the design of that name can't be had
+abbrev pub NoDesign : Files → ℕ → ℕ → List ℕ → Status → List ℕ → Type 0
+NoDesign files before now name status.DesignRefused text = HasNoDesign files name text
+NoDesign files before now name s text = NotLoaded files before now name longest_design s text
+
+-- ---- filling a store, which has the history `h` so far
+
+-- the report of a history
+abbrev pub Prints : Design → (h : List Entry) → Status → List ℕ → Type 0
+Prints d h s text = (s ≡ status.Done) × (text ≡ report_text d h)
+
+-- The k-th record isn't taken in: its file can't be had, it has no record that fits the design, or that isn't admitted.
+abbrev pub NotTaken : Files → ℕ → ℕ → Design → (k : ℕ) → (h : List Entry) → (name : List ℕ) → Status → List ℕ → Type 0
+NotTaken files before now d k h name s text =
+    NotLoaded files before now name longest_record s text
+    ⊎ (((s ≡ status.RecordRefused) × HasNoRecord files name d k text)
+    ⊎ ((r : Record) × HasRecord files name d r × (s ≡ status.AdmitRefused) × (refusal_line k (admission d h r) ≡ Some text)))
+
+-- The records of these files are taken in one after the other, the first of them being the k-th, and the report is printed;
+-- or the first that isn't taken in decides.
+abbrev pub Fills : Files → ℕ → ℕ → Design → (k : ℕ) → (h : List Entry) → (names : List (List ℕ)) → Status → List ℕ → Type 0
+Fills files before now d k h [] s text = Prints d h s text
+Fills files before now d k h (name ∷ names) s text =
+    NotTaken files before now d k h name s text
+    ⊎ ((r : Record) × HasRecord files name d r × (refusal_line k (admission d h r) ≡ None) × Fills files before now d (k + 1) (behind d h r) names s text)
+
+-- Status and text of `report DESIGN RECORD ..`.
+abbrev pub Reports : Files → ℕ → ℕ → (design : List ℕ) → (names : List (List ℕ)) → Status → List ℕ → Type 0
+Reports files before now design names s text =
+    NoDesign files before now design s text ⊎ ((d : Design) × HasDesign files design d × Fills files before now d 1 [] names s text)
+
+-- the record of a test would have too many events, or else too many bytes, and the line says how many
+abbrev pub IsTooMuch : Design → (seed rounds test : ℕ) → List ℕ → Type 0
+IsTooMuch d seed rounds test text =
+    ((most_events < made_events d seed rounds test) × (text ≡ full_line test (codes "events") 0 (made_events d seed rounds test)))
+    ⊎ ((made_events d seed rounds test ≤ most_events) × (longest_record < made_size d seed rounds test) × (text ≡ full_line test (codes "record") 0 (told (made_size d seed rounds test))))
+
+-- The record of a test isn't taken in: it is above a limit, or isn't admitted.
+abbrev pub NotMade : Design → (seed rounds test : ℕ) → (h : List Entry) → Status → List ℕ → Type 0
+NotMade d seed rounds test h s text =
+    (s ≡ status.AdmitRefused)
+    × (IsTooMuch d seed rounds test text ⊎ ((r : Record) × (fields_of r ≡ made_fields d seed rounds test) × (refusal_line test (admission d h r) ≡ Some text)))
+
+-- So many records are made and taken in one after the other, the first of them being that of this test, and the report is
+-- printed; or the first that isn't taken in decides.
+abbrev pub FillsMade : Design → (seed rounds test : ℕ) → (h : List Entry) → (left : ℕ) → Status → List ℕ → Type 0
+FillsMade d seed rounds test h zero s text = Prints d h s text
+FillsMade d seed rounds test h (suc left) s text =
+    NotMade d seed rounds test h s text
+    ⊎ ((r : Record) × (fields_of r ≡ made_fields d seed rounds test) × (refusal_line test (admission d h r) ≡ None) × FillsMade d seed rounds (test + 1) (behind d h r) left s text)
+
+-- Status and text of `make DESIGN SEED EVENTS TESTS`.
+abbrev pub MakesReport : Files → ℕ → ℕ → (design : List ℕ) → (seed rounds tests : ℕ) → Status → List ℕ → Type 0
+MakesReport files before now design seed rounds tests s text =
+    NoDesign files before now design s text ⊎ ((d : Design) × HasDesign files design d × FillsMade d seed rounds 1 [] tests s text)
+
+-- Status and text of the words of the two.
+abbrev pub FillAnswers : List (List ℕ) → Files → ℕ → ℕ → Status → List ℕ → Type 0
+FillAnswers words files before now s text =
+    ((design : List ℕ) × (names : List (List ℕ)) × IsReportCommand words design names × Reports files before now design names s text)
+    ⊎ ((design : List ℕ) × (seed rounds tests : ℕ) × IsMakeCommand words design seed rounds tests × MakesReport files before now design seed rounds tests s text)
+
 -- Status and text of any words; `before` and `now` are the counts of the shelf's faults.
 abbrev pub Answers : List (List ℕ) → Files → ℕ → ℕ → Status → List ℕ → Type 0
 Answers words files before now s text =
     (IsNoCommand words × (s ≡ status.BadWords) × (text ≡ bad_words_text))
     ⊎ (((design : List ℕ) × IsCheckCommand words design × Checks files before now design s text)
     ⊎ (((design rec : List ℕ) × IsCountCommand words design rec × Counts files before now design rec s text)
-    ⊎ ((design dump scope id : List ℕ) × IsRecordCommand words design dump scope id × Records files before now design dump scope id s text)))
+    ⊎ (((design dump scope id : List ℕ) × IsRecordCommand words design dump scope id × Records files before now design dump scope id s text)
+    ⊎ FillAnswers words files before now s text)))
 
 -- What a run leaves in the sink. Where memory ran out: nothing. Where the sink failed, its count having risen: some of
 -- the answer's text from the front. Else: the whole text of the answer, whose status it is.

@@ -1,5 +1,5 @@
 -- What the command `record` makes of a design text and a dump.
-use Rattle.std.specs.Prelude.{◌≡◌, ℕ, ◌≤◌, nat_le, nat_lt, List, length, Option, Bool, true, Result, Ok, Err}
+use Rattle.std.specs.Prelude.{◌≡◌, ℕ, ◌≤◌, nat_le, nat_lt, List, length, Option, Bool, true, Result, Ok}
 use mathlib.Core.Bool.{◌&&◌}
 use Rattle.std.specs.List.{list_all}
 use Rattle.cov_tree.specs.declared.declarations.DesignText.{DesignText}

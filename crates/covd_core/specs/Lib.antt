@@ -2,6 +2,12 @@ pub mod Columns
 pub mod Command
 pub mod Dumps
 pub mod Lines
+pub mod Sessions
+pub mod Starts
+pub mod Forms
+pub mod Filling
+pub mod Digits
+pub mod Admission
 pub mod Statuses
 pub mod Steps
 pub use Rattle.cov_base.specs.Loads
@@ -18,3 +24,7 @@ pub use Rattle.record_codec.specs.Spelling
 pub use Rattle.sampler.specs.Shape
 pub use Rattle.vcd_reader.specs.Reading as DumpReading
 pub use Rattle.vcd_reader.specs.Records
+pub use Rattle.cov_history.specs.History
+pub use Rattle.cov_history.specs.Answers
+pub use Rattle.cov_report.specs.Report
+pub use Rattle.record_maker.specs.Generator

@@ -147,22 +147,22 @@ IsDesignFaultText (Parse parsing.Memory) text = ⊥
 IsDesignFaultText (Elab (elaborating.Fault kind at)) text = text ≡ design_refused_text (fault_word kind) at
 IsDesignFaultText (Elab elaborating.Memory) text = ⊥
 
--- the first record, which is the only one, is refused: the kind of the refusal and its number
-abbrev pub record_refused_text : List ℕ → ℕ → List ℕ
-record_refused_text kind number = codes "record 1 refused " ++ (kind ++ 32 ∷ (decimal number ++ newline))
+-- the k-th record is refused: the kind of the refusal and its number
+abbrev pub record_refused_text : (k : ℕ) → (kind : List ℕ) → (number : ℕ) → List ℕ
+record_refused_text k kind number = codes "record " ++ (decimal k ++ (codes " refused " ++ (kind ++ 32 ∷ (decimal number ++ newline))))
 
--- The line of a fault of a record's bytes. BadMagic has the number 0, and want of memory has no line.
-abbrev pub IsFaultText : RecordFault → List ℕ → Type 0
-IsFaultText (Short at) text = text ≡ record_refused_text (codes "Short") at
-IsFaultText BadMagic text = text ≡ record_refused_text (codes "BadMagic") 0
-IsFaultText (BadVersion version) text = text ≡ record_refused_text (codes "BadVersion") version
-IsFaultText (BadField at) text = text ≡ record_refused_text (codes "BadField") at
-IsFaultText (TooManyEvents count) text = text ≡ record_refused_text (codes "TooManyEvents") count
-IsFaultText (Trailing at) text = text ≡ record_refused_text (codes "Trailing") at
-IsFaultText Memory text = ⊥
+-- The line of a fault of the k-th record's bytes. BadMagic has the number 0, and want of memory has no line.
+abbrev pub IsFaultText : (k : ℕ) → RecordFault → List ℕ → Type 0
+IsFaultText k (Short at) text = text ≡ record_refused_text k (codes "Short") at
+IsFaultText k BadMagic text = text ≡ record_refused_text k (codes "BadMagic") 0
+IsFaultText k (BadVersion version) text = text ≡ record_refused_text k (codes "BadVersion") version
+IsFaultText k (BadField at) text = text ≡ record_refused_text k (codes "BadField") at
+IsFaultText k (TooManyEvents count) text = text ≡ record_refused_text k (codes "TooManyEvents") count
+IsFaultText k (Trailing at) text = text ≡ record_refused_text k (codes "Trailing") at
+IsFaultText k Memory text = ⊥
 
-abbrev pub wrong_shape_text : ℕ → List ℕ
-wrong_shape_text at = record_refused_text (codes "WrongShape") at
+abbrev pub wrong_shape_text : (k at : ℕ) → List ℕ
+wrong_shape_text k at = record_refused_text k (codes "WrongShape") at
 
 abbrev pub cannot_read_text : List ℕ → List ℕ
 cannot_read_text name = codes "cannot read " ++ (name ++ newline)

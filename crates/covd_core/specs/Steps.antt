@@ -14,21 +14,15 @@ use Rattle.design_data.specs.declared.design.Design.{Design}
 use Rattle.vcd_reader.specs.declared.fault.DumpFault.{DumpFault}
 use Rattle.covd_core.specs.declared.status.Status.{Status}
 use Rattle.covd_core.specs.declared.status.Status.TheVariants as status
-use Rattle.cov_ground.specs.Limits.{longest_design}
 use Rattle.sampler.specs.Shape.{Fits}
 use Rattle.covd_core.specs.Lines.{IsDumpFaultText}
 use Rattle.covd_core.specs.Dumps.{HasText, made_of}
-use Rattle.covd_core.specs.Command.{Files, NotLoaded, HasDesign, HasNoDesign, IsCountText, IsRefusedText}
+use Rattle.covd_core.specs.Command.{Files, NotLoaded, NoDesign, HasDesign, IsCountText, IsRefusedText}
 
 -- a file's bytes, or the answer that it can't be had
 abbrev pub IsLoaded : Files → ℕ → ℕ → List ℕ → ℕ → Loaded → Type 0
 IsLoaded files before now name most (Bytes bytes) = HasFile files name bytes.items × (length bytes.items ≤ most)
 IsLoaded files before now name most (Refused a) = NotLoaded files before now name most a.status a.text.items
-
--- status and text where the design of that name can't be had
-abbrev pub NoDesign : Files → ℕ → ℕ → List ℕ → Status → List ℕ → Type 0
-NoDesign files before now name status.DesignRefused text = HasNoDesign files name text
-NoDesign files before now name s text = NotLoaded files before now name longest_design s text
 
 -- a design from its file, or the answer that it can't be had
 abbrev pub IsHad : Files → ℕ → ℕ → List ℕ → HadDesign → Type 0
@@ -38,7 +32,7 @@ IsHad files before now name (had.Refused a) = NoDesign files before now name a.s
 -- the answer to a record's bytes
 abbrev pub CountsRecord : Design → List ℕ → Status → List ℕ → Type 0
 CountsRecord d bytes status.Done text = (r : Record) × Encodes r bytes × Fits d r × IsCountText d r text
-CountsRecord d bytes status.RecordRefused text = ((r : Record) → Encodes r bytes → Fits d r → ⊥) × IsRefusedText d bytes text
+CountsRecord d bytes status.RecordRefused text = ((r : Record) → Encodes r bytes → Fits d r → ⊥) × IsRefusedText 1 d bytes text
 CountsRecord d bytes other text = ⊥
 
 -- a design with its text's declarations from its file, or the answer that it can't be had

@@ -19,27 +19,28 @@ use record_codec::{Record, RecordFault, decode};
 use sampler::{Plan, counts_under, shape_fits};
 use std::alloc::Global;
 
-fn refused(alloc: Global, kind: &str, number: u64) -> Result<Answer, Memory>
-    ensures { IfOk result (λ a. (a.status ≡ RecordRefused) × (a.text.items ≡ record_refused_text kind.now number)) }
+/// The answer to the k-th record, which is refused.
+pub(crate) fn refused(alloc: Global, k: u64, kind: &str, number: u64) -> Result<Answer, Memory>
+    ensures { IfOk result (λ a. (a.status ≡ RecordRefused) × (a.text.items ≡ record_refused_text k kind.now number)) }
 {
-    let text = record_refused(alloc, kind, number)?;
+    let text = record_refused(alloc, k, kind, number)?;
     Ok(Answer {
         status: Status::RecordRefused,
         text,
     })
 }
 
-// The answer to bytes that are no record.
-fn undecoded(alloc: Global, fault: RecordFault) -> Result<Answer, Memory>
-    ensures { IfOk result (λ a. (a.status ≡ RecordRefused) × IsFaultText fault a.text.items) }
+/// The answer to the bytes of the k-th record, which are none.
+pub(crate) fn undecoded(alloc: Global, k: u64, fault: RecordFault) -> Result<Answer, Memory>
+    ensures { IfOk result (λ a. (a.status ≡ RecordRefused) × IsFaultText k fault a.text.items) }
 {
     match fault {
-        RecordFault::Short { at } => refused(alloc, "Short", at as u64),
-        RecordFault::BadMagic => refused(alloc, "BadMagic", 0),
-        RecordFault::BadVersion { v } => refused(alloc, "BadVersion", v as u64),
-        RecordFault::BadField { at } => refused(alloc, "BadField", at as u64),
-        RecordFault::TooManyEvents { n } => refused(alloc, "TooManyEvents", n),
-        RecordFault::Trailing { at } => refused(alloc, "Trailing", at as u64),
+        RecordFault::Short { at } => refused(alloc, k, "Short", at as u64),
+        RecordFault::BadMagic => refused(alloc, k, "BadMagic", 0),
+        RecordFault::BadVersion { v } => refused(alloc, k, "BadVersion", v as u64),
+        RecordFault::BadField { at } => refused(alloc, k, "BadField", at as u64),
+        RecordFault::TooManyEvents { n } => refused(alloc, k, "TooManyEvents", n),
+        RecordFault::Trailing { at } => refused(alloc, k, "Trailing", at as u64),
         RecordFault::Memory => Err(Memory),
     }
 }
@@ -66,9 +67,9 @@ fn count_record(alloc: Global, design: &Design, bytes: &[u8]) -> Result<Answer, 
     match decode(alloc, bytes) {
         Ok(decoded) => match shape_fits(design, &decoded) {
             Ok(()) => counted(alloc, design, &decoded),
-            Err(wrong) => refused(alloc, "WrongShape", wrong.at as u64),
+            Err(wrong) => refused(alloc, 1, "WrongShape", wrong.at as u64),
         },
-        Err(fault) => undecoded(alloc, fault),
+        Err(fault) => undecoded(alloc, 1, fault),
     }
 }
 

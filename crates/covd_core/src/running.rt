@@ -1,103 +1,57 @@
 //! The program's one call.
-ghost use Rattle.std.specs.Prelude.{◌≡◌, ◌≤◌, map, string_bytes, IfOk, MatchOption};
-ghost use Rattle.covd_core.specs.Command.{Answers, IsCheckCommand, IsNoCheck, IsCountCommand, IsNoCount, Leaves, HasOneAnswer};
+ghost use Rattle.std.specs.Prelude.{◌≡◌, ◌≤◌, map, string_bytes};
+ghost use Rattle.covd_core.specs.Command.{HasOneAnswer};
+ghost use Rattle.covd_core.specs.Sessions.{Runs, HasOneDesign};
 
 use crate::Status;
-use crate::answer::Answer;
-use crate::check::check;
-use crate::count::count;
-use crate::record::{record_dump, record_words};
-use crate::texts::bad_words;
-use crate::writing::write_all;
-use cov_base::{Memory, Shelf, Sink, Source};
+use crate::printing::print;
+use crate::session::{serve, session_words};
+use cov_base::{Link, Shelf};
 use std::alloc::Global;
 use std::thread::Threads;
 
-// The name behind `check`.
-fn check_words(words: &[String]) -> Option<&str>
-    ensures { MatchOption result (IsNoCheck (map string_bytes words.now)) (λ name. IsCheckCommand (map string_bytes words.now) name.now) }
-{
-    match words {
-        [command, design] => {
-            if command.as_str() == "check" {
-                Some(design.as_str())
-            } else {
-                None
-            }
-        }
-        _ => None,
-    }
-}
-
-// The two names behind `count`.
-fn count_words(words: &[String]) -> Option<(&str, &str)>
-    ensures { MatchOption result (IsNoCount (map string_bytes words.now)) (λ names. IsCountCommand (map string_bytes words.now) names.0.now names.1.now) }
-{
-    match words {
-        [command, design, rec] => {
-            if command.as_str() == "count" {
-                Some((design.as_str(), rec.as_str()))
-            } else {
-                None
-            }
-        }
-        _ => None,
-    }
-}
-
-fn answer<F: Shelf>(alloc: Global, words: &[String], shelf: &mut F) -> Result<Answer, Memory>
-    ensures same { F.files shelf.new ≡ F.files shelf.old }
-    ensures later { F.faults shelf.old ≤ F.faults shelf.new }
-    ensures answer { IfOk result (λ a. Answers (map string_bytes words.now) (F.files shelf.old) (F.faults shelf.old) (F.faults shelf.new) a.status a.text.items) }
-{
-    if let Some(design) = check_words(words) {
-        return check(alloc, design, shelf);
-    }
-    if let Some(words) = record_words(words) {
-        return record_dump(alloc, words, shelf);
-    }
-    match count_words(words) {
-        Some((design, rec)) => count(alloc, design, rec, shelf),
-        None => {
-            let text = bad_words(alloc)?;
-            Ok(Answer {
-                status: Status::BadWords,
-                text,
-            })
-        }
-    }
-}
-
-/// Does what the words say over the files of the shelf, and writes its text to the sink.
+/// Does what the words say over the files of the shelf and the link.
 ///
-/// The words are those after the program's name. The commands are `check DESIGN`, which prints the bins of the design;
-/// `count DESIGN RECORD`, which prints how often the record hits each of them; and `record DESIGN DUMP SCOPE ID`, which
-/// writes the bytes of the record of a value change dump. What is written is built whole before its first byte is
-/// written. The source isn't touched, and no thread is started.
-pub fn run<R: Threads + Sync, F: Shelf, S: Source, K: Sink>(
+/// The words are those after the program's name. The commands that print are `check DESIGN`, which prints the bins of the
+/// design; `count DESIGN RECORD`, which prints how often the record hits each of them; `report DESIGN RECORD ..` and
+/// `make DESIGN SEED EVENTS TESTS`, which print the report of a store that is filled with the records of files or of a
+/// generator; and `record DESIGN DUMP SCOPE ID`, which writes the bytes of the record of a value change dump. What they
+/// write is built whole before its first byte is written, and nothing is read. `session DESIGN` answers the requests that come over the link, over a store that begins
+/// without tests, until a Bye or the end of what comes. Threads are started to rank tests.
+pub fn run<R: Threads + Sync, F: Shelf, L: Link>(
     rt: &R,
     alloc: Global,
     words: &[String],
     shelf: &mut F,
-    source: &mut S,
-    sink: &mut K,
+    link: &mut L,
 ) -> Status
-    // Status and text are those of the words and files; memory alone is free.
-    ensures leaves { Leaves (map string_bytes words.now) (F.files shelf.old) (F.faults shelf.old) (F.faults shelf.new) (K.faults sink.old) (K.faults sink.new) (K.written sink.old) (K.written sink.new) result }
-    ensures one_answer { HasOneAnswer (map string_bytes words.now) (F.files shelf.old) (F.faults shelf.old) (F.faults shelf.new) }
+    // Status and text are those of the words and files, and replies those of the requests; memory alone is free.
+    ensures leaves { Runs (map string_bytes words.now)
+        (F.files shelf.old) (F.faults shelf.old) (F.faults shelf.new)
+        (record {
+          left = L.left link.old;
+          written = L.written link.old;
+          read_faults = L.read_faults link.old;
+          write_faults = L.write_faults link.old;
+        })
+        (record {
+          left = L.left link.new;
+          written = L.written link.new;
+          read_faults = L.read_faults link.new;
+          write_faults = L.write_faults link.new;
+        })
+        result }
+    ensures one_answer { HasOneAnswer (map string_bytes words.now)
+        (F.files shelf.old) (F.faults shelf.old) (F.faults shelf.new) }
+    ensures one_design { HasOneDesign (F.files shelf.old) (F.faults shelf.old) (F.faults shelf.new) }
     // What the call leaves alone.
     ensures files { F.files shelf.new ≡ F.files shelf.old }
     ensures shelf_faults { F.faults shelf.old ≤ F.faults shelf.new }
-    ensures source { source.new ≡ source.old }
-    ensures sink_faults { K.faults sink.old ≤ K.faults sink.new }
+    ensures read_faults { L.read_faults link.old ≤ L.read_faults link.new }
+    ensures write_faults { L.write_faults link.old ≤ L.write_faults link.new }
 {
-    let _runtime = rt;
-    let _source = source;
-    match answer(alloc, words, shelf) {
-        Err(_) => Status::Memory,
-        Ok(Answer { status, text }) => match write_all(sink, &text) {
-            Ok(()) => status,
-            Err(_) => Status::WriteFault,
-        },
+    match session_words(words) {
+        Some(design) => serve(rt, alloc, design, shelf, link),
+        None => print(rt, alloc, words, shelf, link),
     }
 }

@@ -15,10 +15,20 @@ pub enum Status {
     DesignRefused,
     /// A record is refused: it doesn't decode, or doesn't fit the design.
     RecordRefused,
-    /// The text could not be written whole.
+    /// A record is not admitted: its id is taken, or a limit would be passed.
+    AdmitRefused,
+    /// The input could not be read.
+    ReadFault,
+    /// The text, or a reply, could not be written whole.
     WriteFault,
     /// A file could not be read.
     ShelfFault,
+    /// The input ended inside a frame.
+    TornFrame,
+    /// A frame states a length that no body has.
+    FrameTooLong,
+    /// A session took as many bytes as it may, and more were wanted.
+    SessionTooLong,
     /// A file is longer than its limit.
     FileTooLong,
     /// A dump is refused: it can't be read, or gives no record.
@@ -36,8 +46,13 @@ impl Status {
             Status::BadWords => 2,
             Status::DesignRefused => 3,
             Status::RecordRefused => 4,
+            Status::AdmitRefused => 5,
+            Status::ReadFault => 6,
             Status::WriteFault => 7,
             Status::ShelfFault => 8,
+            Status::TornFrame => 9,
+            Status::FrameTooLong => 10,
+            Status::SessionTooLong => 11,
             Status::FileTooLong => 12,
             Status::DumpRefused => 13,
         }

@@ -1,6 +1,6 @@
 //! What no worked row of `covd_rows` can show: files at their limits, and ends that fail.
 use super::*;
-use cov_base::{MemShelf, MemSink, MemSource};
+use cov_base::{MemLink, MemShelf};
 use std::alloc::Global;
 use std::process::Abort;
 use std::test::Fail;
@@ -13,7 +13,7 @@ fn shelf_of(alloc: Global, design: Vec<u8>, failing: &[u64]) -> Result<MemShelf,
     Ok(MemShelf::new(files, Vec::from_slice(alloc, failing)?))
 }
 
-// Runs the words, with a sink that takes three bytes a call, and whose calls of these numbers fail.
+// Runs the words, with a link that takes three bytes a call, and whose writes of these numbers fail.
 fn expect(
     rt: &(impl Abort + AllocGlobal + Threads + Sync),
     line: &str,
@@ -26,11 +26,11 @@ fn expect(
     for word in line.split_whitespace() {
         words.push(String::from_str(alloc, word)?)?;
     }
-    let mut source = MemSource::new(Vec::new(alloc), 1, Vec::new(alloc));
-    let mut sink = MemSink::new(alloc, 3, Vec::from_slice(alloc, failing)?);
-    let status = run(rt, alloc, &words, &mut shelf, &mut source, &mut sink);
+    let failing = Vec::from_slice(alloc, failing)?;
+    let mut link = MemLink::new(alloc, Vec::new(alloc), 3, Vec::new(alloc), failing);
+    let status = run(rt, alloc, &words, &mut shelf, &mut link);
     assert_eq!(rt; status, expected.0);
-    assert_eq!(rt; sink.contents(), expected.1.as_bytes());
+    assert_eq!(rt; link.contents(), expected.1.as_bytes());
     Ok(())
 }
 

@@ -48,11 +48,18 @@ pub(crate) fn design_refused(alloc: Global, kind: &str, at: u32) -> Result<Vec<u
     Ok(text)
 }
 
-pub(crate) fn record_refused(alloc: Global, kind: &str, number: u64) -> Result<Vec<u8>, Memory>
-    ensures { IfOk result (λ text. text.items ≡ record_refused_text kind.now number) }
+pub(crate) fn record_refused(
+    alloc: Global,
+    k: u64,
+    kind: &str,
+    number: u64,
+) -> Result<Vec<u8>, Memory>
+    ensures { IfOk result (λ text. text.items ≡ record_refused_text k kind.now number) }
 {
     let mut text = Vec::new(alloc);
-    append(&mut text, b"record 1 refused ")?;
+    append(&mut text, b"record ")?;
+    append_number(&mut text, k)?;
+    append(&mut text, b" refused ")?;
     append(&mut text, kind.as_bytes())?;
     append(&mut text, b" ")?;
     append_number(&mut text, number)?;

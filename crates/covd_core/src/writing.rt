@@ -1,19 +1,21 @@
-//! All of a text to a sink.
-ghost use Rattle.std.specs.Prelude.{OnOk, OnErr};
+//! All of a text to a link.
+ghost use Rattle.std.specs.Prelude.{◌≡◌, OnOk, OnErr};
 ghost use Rattle.cov_spec.specs.Causes.{HasCause};
 ghost use Rattle.cov_spec.specs.Told.{Grows, GrowsByFront};
 
-use cov_base::{Failed, Sink};
+use cov_base::{Failed, Link};
 
-/// Writes all of the bytes, or a part of them from the front where the sink fails.
-pub(crate) fn write_all<K: Sink>(sink: &mut K, bytes: &[u8]) -> Result<(), Failed>
-    ensures ok { OnOk result (Grows (K.written sink.old) (K.written sink.new) bytes.now) }
-    ensures err { OnErr result (GrowsByFront (K.written sink.old) (K.written sink.new) bytes.now) }
-    ensures cause { HasCause (K.faults sink.old) (K.faults sink.new) result }
+/// Writes all of the bytes, or a part of them from the front where the link fails.
+pub(crate) fn write_all<L: Link>(link: &mut L, bytes: &[u8]) -> Result<(), Failed>
+    ensures ok { OnOk result (Grows (L.written link.old) (L.written link.new) bytes.now) }
+    ensures err { OnErr result (GrowsByFront (L.written link.old) (L.written link.new) bytes.now) }
+    ensures left { L.left link.new ≡ L.left link.old }
+    ensures cause { HasCause (L.write_faults link.old) (L.write_faults link.new) result }
+    ensures read_faults { L.read_faults link.new ≡ L.read_faults link.old }
 {
     let mut at = 0;
     while at < bytes.len() {
-        at += sink.write(&bytes[at..])?;
+        at += link.write(&bytes[at..])?;
     }
     Ok(())
 }

@@ -1,12 +1,12 @@
 //! Worked rows of whole commands. A line `design TEXT` makes the file `d`, where `\n` stands for a newline; a line
 //! `record HEX` makes the file `r`, and a line `with FROM TO HEX` that record with other bytes in place of those from
-//! FROM up to TO. Every other line is the words of a `covd` over these two files. Each line is written again; behind a
-//! command follow its text and its status.
+//! FROM up to TO. A line `as NAME` keeps the record as the file NAME too. Every other line is the words of a `covd` over
+//! these files. Each line is written again; behind a command follow its text and its status.
 #![tactic(auto)]
 
 mod hex;
 
-use cov_base::{Memory, SureShelf, SureSource};
+use cov_base::{Memory, Pair, SureShelf, SureSource};
 use cov_net::StdSink;
 use covd_core::{Status, run};
 use hex::bytes_of;
@@ -16,12 +16,13 @@ use std::io::{Input, Print};
 use std::process::ExitCode;
 use std::thread::Threads;
 
-/// The two files, and the record before other bytes were put in.
+/// The two files, the record before other bytes were put in, and the files that are kept.
 #[derive(Drop)]
 struct Files {
     design: Vec<u8>,
     record: Vec<u8>,
     whole: Vec<u8>,
+    kept: Vec<(String, Vec<u8>)>,
 }
 
 /// Why a row isn't done.
@@ -52,6 +53,9 @@ fn shelf_of(alloc: Global, files: &Files) -> Result<SureShelf, Memory> {
     let mut all = Vec::new(alloc);
     all.push(file(alloc, "d", &files.design)?)?;
     all.push(file(alloc, "r", &files.record)?)?;
+    for (name, bytes) in &files.kept {
+        all.push(file(alloc, name.as_str(), bytes)?)?;
+    }
     Ok(SureShelf::new(all))
 }
 
@@ -98,7 +102,11 @@ fn status_of<R: Threads + Sync + Print>(
     let mut shelf = shelf_of(alloc, files)?;
     let mut source = SureSource::new(Vec::new(alloc), 1);
     let mut sink = StdSink::new(io::writer(rt));
-    Ok(run(rt, alloc, words, &mut shelf, &mut source, &mut sink))
+    let mut link = Pair {
+        source: &mut source,
+        sink: &mut sink,
+    };
+    Ok(run(rt, alloc, words, &mut shelf, &mut link))
 }
 
 /// Writes the row of a command with its answer.
@@ -137,6 +145,11 @@ fn row<R: Threads + Sync + Print>(
             files.record = changed(alloc, &files.whole, text).map_err(out_of_memory)?;
             println!(rt; "{line}")
         }
+        Some(("as", name)) => {
+            let kept = file(alloc, name, &files.record).map_err(out_of_memory)?;
+            files.kept.push(kept)?;
+            println!(rt; "{line}")
+        }
         _ => command(rt, alloc, files, line),
     }
 }
@@ -147,6 +160,7 @@ fn rows<R: Threads + Sync + Input + Print>(rt: &R, alloc: Global) -> io::Result<
         design: Vec::new(alloc),
         record: Vec::new(alloc),
         whole: Vec::new(alloc),
+        kept: Vec::new(alloc),
     };
     for line in rt.lines(alloc) {
         row(rt, alloc, &mut files, line?.as_str())?;

@@ -2,6 +2,7 @@
 //! follows, and a line with its status. The program ends with the last of these.
 #![tactic(auto)]
 
+use cov_base::Pair;
 use cov_net::{FileShelf, StdSink, StdSource};
 use covd_core::{Status, run};
 use std::io;
@@ -32,5 +33,9 @@ fn run_line(
     let mut shelf = FileShelf::new(rt);
     let mut source = StdSource::new(io::empty());
     let mut sink = StdSink::new(io::writer(rt));
-    Ok(run(rt, rt.alloc(), &words, &mut shelf, &mut source, &mut sink))
+    let mut link = Pair {
+        source: &mut source,
+        sink: &mut sink,
+    };
+    Ok(run(rt, rt.alloc(), &words, &mut shelf, &mut link))
 }

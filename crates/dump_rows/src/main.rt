@@ -60,7 +60,8 @@ fn show_dump<R: Print>(rt: &R, alloc: Global, dump: &Dump) -> Option<()> {
     for var in dump.vars.as_slice() {
         show_var(rt, alloc, var)?;
     }
-    for step in dump.steps.as_slice() {
+    let steps = dump.steps.to_list(alloc).ok()?;
+    for step in steps.as_slice() {
         show_step(rt, step)?;
     }
     Some(())

@@ -7,7 +7,7 @@
 mod files;
 mod hex;
 
-use cov_base::{MemSink, MemSource, Memory};
+use cov_base::{MemLink, MemSource, Memory, Pair};
 use cov_net::StdSink;
 use covd_core::{Status, run};
 use files::{Files, real_file, shelf_of, text_of};
@@ -42,7 +42,11 @@ fn status_shown<R: Threads + Sync + Print>(
     let mut shelf = shelf_of(alloc, files)?;
     let mut source = MemSource::new(Vec::new(alloc), 1, Vec::new(alloc));
     let mut sink = StdSink::new(io::writer(rt));
-    Ok(run(rt, alloc, words, &mut shelf, &mut source, &mut sink))
+    let mut link = Pair {
+        source: &mut source,
+        sink: &mut sink,
+    };
+    Ok(run(rt, alloc, words, &mut shelf, &mut link))
 }
 
 /// Runs the words over the files, and keeps what they write as the record.
@@ -53,10 +57,15 @@ fn status_kept<R: Threads + Sync>(
     words: &[String],
 ) -> Result<Status, Memory> {
     let mut shelf = shelf_of(alloc, files)?;
-    let mut source = MemSource::new(Vec::new(alloc), 1, Vec::new(alloc));
-    let mut sink = MemSink::new(alloc, 1_000, Vec::new(alloc));
-    let status = run(rt, alloc, words, &mut shelf, &mut source, &mut sink);
-    files.record = Vec::from_slice(alloc, sink.contents())?;
+    let mut link = MemLink::new(
+        alloc,
+        Vec::new(alloc),
+        1_000,
+        Vec::new(alloc),
+        Vec::new(alloc),
+    );
+    let status = run(rt, alloc, words, &mut shelf, &mut link);
+    files.record = Vec::from_slice(alloc, link.contents())?;
     Ok(status)
 }
 

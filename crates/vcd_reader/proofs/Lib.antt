@@ -1,8 +1,10 @@
 pub mod Found
+pub mod Unpacked
 pub mod Widths
 pub mod Loops
 pub mod Each
 pub mod Tables
+pub mod Begun
 pub mod Pushes
 pub mod Limited
 pub mod Instances

@@ -4,6 +4,8 @@ use Rattle.vcd_reader.specs.declared.fault.Fault.{Fault}
 use Rattle.vcd_reader.specs.declared.fault.Fault.TheVariants.{TimeBack}
 use Rattle.vcd_reader.specs.declared.dump.Change.{Change}
 use Rattle.vcd_reader.specs.declared.dump.DumpStep.{DumpStep}
+use Rattle.vcd_reader.specs.declared.packing.Item.{Item}
+use Rattle.vcd_reader.specs.declared.packing.Item.TheVariants.{Begins, Changes}
 use Rattle.vcd_reader.specs.declared.body.Body.{Body}
 use Rattle.vcd_reader.specs.declared.body.Kind.{Kind}
 use Rattle.vcd_reader.specs.declared.body.Kind.TheVariants.{Time, Vector, Skipped, Scalar, Mark, Comment, Other}
@@ -30,21 +32,35 @@ unfoldable pub kind_of : List ℕ → Kind
 kind_of [] = Other
 kind_of (first ∷ text) = kind_by first (first ∷ text)
 
--- the step that stands open
-abbrev pub last_step : Body → DumpStep
-last_step b = record { time = b.time; changes = b.changes }
-
--- all steps
-unfoldable pub steps_of : Body → List DumpStep
-steps_of b = if b.begun then b.steps ++ last_step b ∷ [] else b.steps
+-- a step of this time stands open
+abbrev pub begun_at : ℕ → Body → Body
+begun_at time b = record { items = b.items ++ Begins time ∷ []; begun = true; time = time }
 
 -- a time begins a step where it is above that of the step before; it stands in a word with so many bytes left
 unfoldable pub at_time : ℕ → ℕ → Body → Result Body Fault
 at_time left time b =
     if b.begun
-    then if nat_lt time b.time then Err (TimeBack left) else if time == b.time then Ok b else Ok (record { steps = b.steps ++ last_step b ∷ []; begun = true; time = time; changes = [] })
-    else Ok (record b { begun = true; time = time })
+    then if nat_lt time b.time then Err (TimeBack left) else if time == b.time then Ok b else Ok (begun_at time b)
+    else Ok (begun_at time b)
 
 -- a change in the step that stands open, which is that at time 0 before the first time
 unfoldable pub with_change : Change → Body → Body
-with_change change b = record b { begun = true; changes = b.changes ++ change ∷ [] }
+with_change change b = record b { items = b.items ++ Changes change ∷ []; begun = true }
+
+-- the changes before the next time
+abbrev pub changes_of : List Item → List Change
+changes_of [] = []
+changes_of (Begins time ∷ items) = []
+changes_of (Changes change ∷ items) = change ∷ changes_of items
+
+-- a step for each time
+abbrev pub steps_begun : List Item → List DumpStep
+steps_begun [] = []
+steps_begun (Begins time ∷ items) = record { time = time; changes = changes_of items } ∷ steps_begun items
+steps_begun (Changes change ∷ items) = steps_begun items
+
+-- all steps: changes before the first time are a step at time 0
+unfoldable pub steps_of : List Item → List DumpStep
+steps_of [] = []
+steps_of (Begins time ∷ items) = steps_begun (Begins time ∷ items)
+steps_of (Changes change ∷ items) = record { time = 0; changes = change ∷ changes_of items } ∷ steps_begun items

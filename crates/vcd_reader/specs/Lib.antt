@@ -3,6 +3,7 @@ pub mod Numbers
 pub mod Values
 pub mod Gives
 pub mod Header
+pub mod Packing
 pub mod Body
 pub mod Reading
 pub mod Refusals

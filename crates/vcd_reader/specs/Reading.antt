@@ -141,10 +141,10 @@ read_words (w ∷ ws) r = do
 
 -- nothing is read yet
 abbrev pub nothing_read : Reading
-nothing_read = record { expected = Declaration; header = record { vars = []; codes = []; scopes = [] }; kept = []; body = record { steps = []; begun = false; time = 0; changes = [] } }
+nothing_read = record { expected = Declaration; header = record { vars = []; codes = []; scopes = [] }; kept = []; body = record { items = []; begun = false; time = 0 } }
 
 abbrev pub dump_of : Reading → Dump
-dump_of r = record { vars = r.header.vars; steps = steps_of r.body }
+dump_of r = record { vars = r.header.vars; steps = steps_of r.body.items }
 
 -- the text may end between statements alone
 abbrev pub ended_as : Expected → Reading → Result Dump Fault

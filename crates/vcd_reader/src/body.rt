@@ -1,27 +1,23 @@
 //! The changes of a dump, in steps of equal time.
 ghost use Rattle.std.specs.Prelude.{◌≡◌, OnOk, IfOk};
 ghost use Rattle.vcd_reader.specs.Gives.{Makes};
-ghost use Rattle.vcd_reader.specs.Body.{is_mark, command, kind_of, steps_of, at_time, with_change, last_step};
+ghost use Rattle.vcd_reader.specs.Body.{is_mark, command, kind_of, at_time, with_change, steps_of};
 
 use crate::fault::Fault;
-use crate::values::is_digit;
-use crate::{Change, DumpStep};
+use crate::packed::Packed;
+use crate::packing::Item;
+use crate::{Change, Steps};
 use cov_ground::Memory;
-use cov_tree::List;
 use std::alloc::Global;
-use std::mem;
 
-/// The steps so far, of which the last stands open.
+/// The times and changes so far.
 #[derive(Drop)]
 pub(crate) struct Body {
-    /// The steps before the last.
-    pub(crate) steps: List<DumpStep>,
-    /// Whether there is a last step.
+    pub(crate) items: Packed,
+    /// Whether a step stands open.
     pub(crate) begun: bool,
-    /// The time of the last step.
+    /// The time of the step that stands open, or 0.
     pub(crate) time: u64,
-    /// The changes of the last step.
-    pub(crate) changes: List<Change>,
 }
 
 /// What a word among the changes begins with.
@@ -94,18 +90,28 @@ pub(crate) fn kind_of(text: &[u8]) -> Kind
 impl Body {
     ghost use Rattle.std.specs.Prelude.{◌≡◌, [], false, OnOk, IfOk};
     ghost use Rattle.vcd_reader.specs.Gives.{Makes};
-    ghost use Rattle.vcd_reader.specs.Body.{steps_of, at_time, with_change, last_step};
+    ghost use Rattle.vcd_reader.specs.Body.{begun_at, at_time, with_change, steps_of};
 
-    /// No steps. It takes no memory.
-    pub(crate) fn new(alloc: Global) -> Body
-        ensures { result ≡ record { steps = []; begun = false; time = 0; changes = [] } }
+    /// No steps, with room for those of a dump of so many bytes.
+    pub(crate) fn with_room(alloc: Global, room: usize) -> Result<Body, Memory>
+        ensures { IfOk result (λ body. body ≡ record { items = []; begun = false; time = 0 }) }
     {
-        Body {
-            steps: List::new(alloc),
+        let items = Packed::with_room(alloc, room)?;
+        Ok(Body {
+            items,
             begun: false,
             time: 0,
-            changes: List::new(alloc),
-        }
+        })
+    }
+
+    /// A step of this time stands open.
+    fn begin(&mut self, alloc: Global, time: u64) -> Result<(), Memory>
+        ensures { OnOk result (self.new ≡ begun_at time self.old) }
+    {
+        self.items.push(alloc, Item::Begins { time })?;
+        self.begun = true;
+        self.time = time;
+        Ok(())
     }
 
     /// A time, in a word with so many bytes left.
@@ -114,8 +120,7 @@ impl Body {
         ensures { Makes result self.new (at_time left time self.old) }
     {
         if !self.begun {
-            self.begun = true;
-            self.time = time;
+            self.begin(alloc, time)?;
             return Ok(());
         }
         if time < self.time {
@@ -124,39 +129,24 @@ impl Body {
         if time == self.time {
             return Ok(());
         }
-        let changes = mem::replace(&mut self.changes, List::new(alloc));
-        self.steps.push(DumpStep {
-            time: self.time,
-            changes,
-        })?;
-        self.time = time;
+        self.begin(alloc, time)?;
         Ok(())
     }
 
-    /// A change in the last step.
+    /// A change in the step that stands open.
     #[tactic(auto, unfolding(crate::specs::Body::with_change))]
-    pub(crate) fn add(&mut self, change: Change) -> Result<(), Memory>
+    pub(crate) fn add(&mut self, alloc: Global, change: Change) -> Result<(), Memory>
         ensures { OnOk result (self.new ≡ with_change change self.old) }
     {
-        self.changes.push(change)?;
+        self.items.push(alloc, Item::Changes { change })?;
         self.begun = true;
         Ok(())
     }
 
     /// All steps.
-    #[tactic(auto, unfolding(crate::specs::Body::steps_of))]
-    pub(crate) fn into_steps(self) -> Result<List<DumpStep>, Memory>
-        ensures { IfOk result (λ steps. steps ≡ steps_of self) }
+    pub(crate) fn into_steps(self) -> Steps
+        ensures { result ≡ steps_of self.items }
     {
-        let Body {
-            mut steps,
-            begun,
-            time,
-            changes,
-        } = self;
-        if begun {
-            steps.push(DumpStep { time, changes })?;
-        }
-        Ok(steps)
+        Steps::of(self.items)
     }
 }

@@ -1,11 +1,12 @@
 //! What a dump holds.
+use crate::Steps;
 use cov_tree::{List, Name, Shared};
 
 /// A value change dump: its variables in order of declaration, and its steps in order of time.
 #[derive(Drop, Debug)]
 pub struct Dump {
     pub vars: List<DumpVar>,
-    pub steps: List<DumpStep>,
+    pub steps: Steps,
 }
 
 /// A declared variable.

@@ -1,7 +1,10 @@
 //! What codes hold after changes.
 ghost use Rattle.std.specs.Prelude.{◌≡◌, slice_set};
+ghost use Rattle.vcd_reader.specs.Packing.{items_in};
+ghost use Rattle.vcd_reader.specs.Body.{changes_of};
 ghost use Rattle.vcd_reader.specs.Held.{held_by, applied};
 
+use crate::steps::next_change;
 use crate::{Bit4, Change};
 
 /// What a code holds: its value, which is None where it is Unknown, and its lowest bit.
@@ -30,13 +33,13 @@ fn put(change: Change, table: &mut [Held])
     }
 }
 
-/// All changes of a step, in a table by code.
-pub(crate) fn apply(changes: &[Change], table: &mut [Held])
-    ensures { table.new ≡ applied changes.now table.old }
+/// All changes of a step, with which the bytes begin, in a table by code.
+pub(crate) fn apply(changes: &[u8], table: &mut [Held])
+    ensures { table.new ≡ applied (changes_of (items_in changes.now)) table.old }
 {
     let mut rest = changes;
-    while let Some((change, later)) = rest.split_first() {
-        put(*change, table);
+    while let Some((change, later)) = next_change(rest) {
+        put(change, table);
         rest = later;
     }
 }

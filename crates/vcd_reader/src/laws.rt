@@ -11,8 +11,8 @@ ghost use Rattle.vcd_reader.specs.Laws.{moments_of};
 /// The samples of each instance are its moments, in order, each with the values before the moment's step.
 #[tactic(auto, using(crate::proofs::Sampled::samples_are_moments))]
 pub fn samples_are_moments()
-    ensures { (rows : List SignalRow) (args : List ArgRow) (codes : List ℕ) (events : List (List Watch))
-        (steps : List DumpStep) (instance : ℕ)
+    ensures { (rows : List SignalRow) (args : List ArgRow) (codes : List ℕ)
+        (events : List (List Watch)) (steps : List DumpStep) (instance : ℕ)
         → envs_after rows args instance [] (events_of rows codes events steps)
         ≡ moments_of rows args codes (slice_index_or events instance []) steps }
 {}

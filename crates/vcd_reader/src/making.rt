@@ -42,7 +42,9 @@ fn refused(fault: MakeFault) -> DumpFault
 
 /// The record of what was pushed, or that it is above a limit.
 fn finish(builder: RecordBuilder) -> Result<Record, DumpFault>
-    ensures { (start : AnyStart) (events : List AnyEvent) → HasPushed builder start events → Gives fields_of result (limited (with_events start events) (size_with start events)) }
+    ensures { (start : AnyStart) (events : List AnyEvent) → HasPushed builder start events
+        → Gives fields_of result
+        (limited (with_events start events) (size_with start events)) }
 {
     match builder.finish() {
         Ok(made) => Ok(made),
@@ -60,11 +62,12 @@ fn filled(
 ) -> Result<RecordBuilder, Memory>
     requires events { length plan.now.events ≤ most_instances }
     requires signals { length plan.now.codes ≤ most_signals }
-    ensures { IfOk result (λ builder. HasPushed builder (start_of design.now dump.now id.now) (events_of plan.now.rows plan.now.codes plan.now.events dump.now.steps)) }
+    ensures { IfOk result (λ builder. HasPushed builder (start_of design.now dump.now id.now)
+        (events_of plan.now.rows plan.now.codes plan.now.events dump.now.steps)) }
 {
     let start = start_of(alloc, design, dump, id)?;
     let mut builder = begin(alloc, start)?;
-    push_events(alloc, plan, dump.steps.as_slice(), &mut builder)?;
+    push_events(alloc, plan, &dump.steps, &mut builder)?;
     Ok(builder)
 }
 
@@ -78,7 +81,11 @@ pub(crate) fn record_by(
 ) -> Result<Record, DumpFault>
     requires events { length plan.now.events ≤ most_instances }
     requires signals { length plan.now.codes ≤ most_signals }
-    ensures { Gives fields_of result (limited (with_events (start_of design.now dump.now id.now) (events_of plan.now.rows plan.now.codes plan.now.events dump.now.steps)) (size_with (start_of design.now dump.now id.now) (events_of plan.now.rows plan.now.codes plan.now.events dump.now.steps))) }
+    ensures { Gives fields_of result (limited
+        (with_events (start_of design.now dump.now id.now)
+        (events_of plan.now.rows plan.now.codes plan.now.events dump.now.steps))
+        (size_with (start_of design.now dump.now id.now)
+        (events_of plan.now.rows plan.now.codes plan.now.events dump.now.steps))) }
 {
     let builder = filled(alloc, design, dump, id, plan)?;
     finish(builder)

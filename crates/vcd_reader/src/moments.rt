@@ -343,8 +343,18 @@ pub(crate) fn moment(
 ) -> Result<Vec<Event>, Memory>
     requires events { length events.now ≤ most_instances }
     requires signals { length step.now.codes.now ≤ most_signals }
-    ensures events { IfOk result (λ made. made.items ≡ (moment_of rows.now events.now last.old.items (map (λ code. (slice_index_or step.now.before.now code unknown).value) step.now.codes.now) (shown step.now.codes.now step.now.before.now) (shown step.now.codes.now step.now.after.now)).events) }
-    ensures last { OnOk result (last.new.items ≡ (moment_of rows.now events.now last.old.items (map (λ code. (slice_index_or step.now.before.now code unknown).value) step.now.codes.now) (shown step.now.codes.now step.now.before.now) (shown step.now.codes.now step.now.after.now)).last) }
+    ensures events { IfOk result (λ made. made.items
+        ≡ (moment_of rows.now events.now last.old.items
+        (map (λ code. (slice_index_or step.now.before.now code unknown).value)
+        step.now.codes.now)
+        (shown step.now.codes.now step.now.before.now)
+        (shown step.now.codes.now step.now.after.now)).events) }
+    ensures last { OnOk result (last.new.items
+        ≡ (moment_of rows.now events.now last.old.items
+        (map (λ code. (slice_index_or step.now.before.now code unknown).value)
+        step.now.codes.now)
+        (shown step.now.codes.now step.now.before.now)
+        (shown step.now.codes.now step.now.after.now)).last) }
 {
     if !has_edge(step, events) {
         return Ok(Vec::new(alloc));

@@ -14,6 +14,7 @@ use crate::scopes::Scopes;
 use crate::values::{are_digits, change_of};
 use crate::words::next_word;
 use crate::{Dump, DumpFault};
+use cov_ground::Memory;
 use cov_tree::List;
 use name_map::NameMap;
 use std::alloc::Global;
@@ -65,7 +66,7 @@ fn is_end(text: &[u8]) -> bool
 }
 
 impl Reading {
-    ghost use Rattle.std.specs.Prelude.{◌≡◌, [], length, drop, Ok, if◌then◌else◌};
+    ghost use Rattle.std.specs.Prelude.{◌≡◌, [], length, drop, Ok, IfOk, if◌then◌else◌};
     ghost use Rattle.vcd_reader.specs.Words.{Word};
     ghost use Rattle.vcd_reader.specs.Gives.{Gives, Makes};
     ghost use Rattle.vcd_reader.specs.Numbers.{number_in};
@@ -74,11 +75,12 @@ impl Reading {
     ghost use Rattle.vcd_reader.specs.declared.header.Keyword.TheVariants as keyword;
     ghost use Rattle.vcd_reader.specs.Reading.{is_end, declaration, leave, skipped, scope_named, closed, var_sized, var_coded, var_named, var_selected, timed, scalar, vector, statement, vector_coded, unless_end, next, read_word, nothing_read, ended};
 
-    /// Nothing is read yet. It takes no memory.
-    fn new(alloc: Global) -> Reading
-        ensures { result ≡ nothing_read }
+    /// Nothing is read yet, with room for the changes of a dump of so many bytes.
+    fn with_room(alloc: Global, room: usize) -> Result<Reading, Memory>
+        ensures { IfOk result (λ all. all ≡ nothing_read) }
     {
-        Reading {
+        let body = Body::with_room(alloc, room)?;
+        Ok(Reading {
             expected: Expected::Declaration,
             header: Header {
                 vars: List::new(alloc),
@@ -86,8 +88,8 @@ impl Reading {
                 scopes: Scopes::new(alloc),
             },
             kept: Kept::new(alloc),
-            body: Body::new(alloc),
-        }
+            body,
+        })
     }
 
     /// The innermost scope ends.
@@ -245,7 +247,7 @@ impl Reading {
     }
 
     /// A digit and its code.
-    fn scalar(&mut self, left: usize, text: &[u8]) -> Result<(), Fault>
+    fn scalar(&mut self, alloc: Global, left: usize, text: &[u8]) -> Result<(), Fault>
         ensures { Makes result self.new (scalar (record { left = left; text = text.now }) self.old) }
     {
         if text.len() < 2 {
@@ -255,7 +257,7 @@ impl Reading {
         let Some(code) = self.header.codes.get(letters) else {
             return Err(Fault::UnknownCode { left });
         };
-        self.body.add(change_of(*code, digit))?;
+        self.body.add(alloc, change_of(*code, digit))?;
         self.expected = Expected::Statement;
         Ok(())
     }
@@ -274,7 +276,7 @@ impl Reading {
     }
 
     /// The code of a vector.
-    fn vector_code(&mut self, left: usize, text: &[u8]) -> Result<(), Fault>
+    fn vector_code(&mut self, alloc: Global, left: usize, text: &[u8]) -> Result<(), Fault>
         ensures { Makes result self.new (vector_coded (record { left = left; text = text.now }) self.old) }
     {
         if is_end(text) {
@@ -283,7 +285,8 @@ impl Reading {
         let Some(code) = self.header.codes.get(text) else {
             return Err(Fault::UnknownCode { left });
         };
-        self.body.add(change_of(*code, self.kept.as_slice()))?;
+        self.body
+            .add(alloc, change_of(*code, self.kept.as_slice()))?;
         self.expected = Expected::Statement;
         Ok(())
     }
@@ -294,7 +297,7 @@ impl Reading {
     {
         match kind_of(text) {
             Kind::Time => self.time(alloc, left, text),
-            Kind::Scalar => self.scalar(left, text),
+            Kind::Scalar => self.scalar(alloc, left, text),
             Kind::Vector => self.vector(left, text),
             Kind::Skipped => {
                 self.expected = Expected::SkippedCode;
@@ -334,7 +337,7 @@ impl Reading {
                 self.skip(Expected::Statement, Expected::Comment, text);
                 Ok(())
             }
-            Expected::VectorCode => self.vector_code(left, text),
+            Expected::VectorCode => self.vector_code(alloc, left, text),
             Expected::SkippedCode => self.pass(Expected::Statement, left, text),
         }
     }
@@ -351,10 +354,9 @@ impl Reading {
         } = self;
         match expected {
             Expected::Statement => {
-                let steps = body.into_steps()?;
                 Ok(Dump {
                     vars: header.vars,
-                    steps,
+                    steps: body.into_steps(),
                 })
             }
             _ => Err(Fault::Syntax { left: 0 }),
@@ -399,7 +401,7 @@ fn read_words(alloc: Global, bytes: &[u8], all: &mut Reading) -> Result<(), Faul
 fn whole(alloc: Global, bytes: &[u8]) -> Result<Dump, Fault>
     ensures { Gives result (whole bytes.now) }
 {
-    let mut all = Reading::new(alloc);
+    let mut all = Reading::with_room(alloc, bytes.len())?;
     read_words(alloc, bytes, &mut all)?;
     all.finish()
 }

@@ -105,7 +105,8 @@ pub(crate) fn codes_of(
     vars: &[DumpVar],
     signals: &[Signal],
 ) -> Result<List<u32>, DumpFault>
-    ensures { Gives (λ x. x) result (codes_of (meaning_of (vars_in scope.now vars.now)) signals.now) }
+    ensures { Gives (λ x. x) result
+        (codes_of (meaning_of (vars_in scope.now vars.now)) signals.now) }
 {
     let vars = vars_in(alloc, scope, vars)?;
     let mut found = List::new(alloc);

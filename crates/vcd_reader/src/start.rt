@@ -2,7 +2,8 @@
 ghost use Rattle.std.specs.Prelude.{◌≡◌, map, slice_get, IfOk};
 ghost use Rattle.vcd_reader.specs.Starting.{signal_row, group_name, instance_row, last_time, start_of};
 
-use crate::{Dump, DumpStep};
+use crate::steps::next_time;
+use crate::{Dump, Steps};
 use cov_ground::Memory;
 use cov_tree::{List, Name};
 use design_data::{Design, GroupInfo, InstInfo, Signal};
@@ -71,13 +72,13 @@ fn instance_rows(
 }
 
 /// The time of the last step, or 0.
-fn last_time(steps: &[DumpStep]) -> u64
+fn last_time(steps: &Steps) -> u64
     ensures { result ≡ last_time 0 steps.now }
 {
     let mut time = 0;
-    let mut rest = steps;
-    while let Some((step, later)) = rest.split_first() {
-        time = step.time;
+    let mut rest = steps.as_bytes();
+    while let Some((next, later)) = next_time(rest) {
+        time = next;
         rest = later;
     }
     time
@@ -100,7 +101,7 @@ pub(crate) fn start_of(
         id: id.copy(alloc)?,
         status: 0,
         seed: 0,
-        time: last_time(dump.steps.as_slice()),
+        time: last_time(&dump.steps),
         user: Name::of(alloc, b"vcd")?,
         signals,
         instances,

@@ -2,14 +2,17 @@
 ghost use Rattle.std.specs.Prelude.{◌≡◌, ◌≤◌, ◌<◌, ◌∷◌, [], None, map, length, replicate, slice_index_or, IfOk, OnOk};
 ghost use Rattle.std.specs.List.{AllByRecursion};
 ghost use Rattle.cov_ground.specs.Limits.{most_signals, most_instances};
+ghost use Rattle.vcd_reader.specs.Packing.{items_in};
+ghost use Rattle.vcd_reader.specs.Body.{changes_of, steps_begun};
 ghost use Rattle.vcd_reader.specs.Held.{unknown, shown, applied};
 ghost use Rattle.vcd_reader.specs.Moments.{moment_of, table_events, events_of};
 ghost use Rattle.vcd_reader.specs.Pushing.{Pushed};
 
+use crate::Steps;
 use crate::held::{Held, UNKNOWN, apply};
 use crate::moments::{Step, moment};
+use crate::steps::{first_time, next_time};
 use crate::watching::Watch;
-use crate::{Change, DumpStep};
 use cov_ground::Memory;
 use cov_tree::List;
 use record_codec::{Event, RecordBuilder, SignalRow};
@@ -31,26 +34,26 @@ pub(crate) struct Walk {
     pub(crate) last: Vec<Option<u64>>,
 }
 
-/// All changes of a step, in a table by code.
-fn apply_all(changes: &[Change], table: &mut Vec<Held>)
-    ensures { table.new.items ≡ applied changes.now table.old.items }
+/// All changes of a step, with which the bytes begin, in a table by code.
+fn apply_all(changes: &[u8], table: &mut Vec<Held>)
+    ensures { table.new.items ≡ applied (changes_of (items_in changes.now)) table.old.items }
 {
     apply(changes, table.as_mut_slice());
 }
 
-/// The events of a step.
+/// The events of a step, with whose changes the bytes begin.
 fn step_events(
     alloc: Global,
     plan: &Plan,
-    changes: &[Change],
+    changes: &[u8],
     walk: &mut Walk,
 ) -> Result<Vec<Event>, Memory>
     requires events { length plan.now.events ≤ most_instances }
     requires signals { length plan.now.codes ≤ most_signals }
-    ensures events { IfOk result (λ made. made.items ≡ (moment_of plan.now.rows plan.now.events walk.old.last.items (map (λ code. (slice_index_or walk.old.before.items code unknown).value) plan.now.codes) (shown plan.now.codes walk.old.before.items) (shown plan.now.codes (applied changes.now walk.old.after.items))).events) }
-    ensures last { OnOk result (walk.new.last.items ≡ (moment_of plan.now.rows plan.now.events walk.old.last.items (map (λ code. (slice_index_or walk.old.before.items code unknown).value) plan.now.codes) (shown plan.now.codes walk.old.before.items) (shown plan.now.codes (applied changes.now walk.old.after.items))).last) }
-    ensures before { OnOk result (walk.new.before.items ≡ applied changes.now walk.old.before.items) }
-    ensures after { OnOk result (walk.new.after.items ≡ applied changes.now walk.old.after.items) }
+    ensures events { IfOk result (λ made. made.items ≡ (moment_of plan.now.rows plan.now.events walk.old.last.items (map (λ code. (slice_index_or walk.old.before.items code unknown).value) plan.now.codes) (shown plan.now.codes walk.old.before.items) (shown plan.now.codes (applied (changes_of (items_in changes.now)) walk.old.after.items))).events) }
+    ensures last { OnOk result (walk.new.last.items ≡ (moment_of plan.now.rows plan.now.events walk.old.last.items (map (λ code. (slice_index_or walk.old.before.items code unknown).value) plan.now.codes) (shown plan.now.codes walk.old.before.items) (shown plan.now.codes (applied (changes_of (items_in changes.now)) walk.old.after.items))).last) }
+    ensures before { OnOk result (walk.new.before.items ≡ applied (changes_of (items_in changes.now)) walk.old.before.items) }
+    ensures after { OnOk result (walk.new.after.items ≡ applied (changes_of (items_in changes.now)) walk.old.after.items) }
 {
     apply_all(changes, &mut walk.after);
     let step = Step {
@@ -84,22 +87,24 @@ fn push(builder: &mut RecordBuilder, event: Event) -> Result<(), Memory>
     }
 }
 
-/// Pushes the events of steps in order.
+/// Pushes the events of the steps that begin in these bytes, in order.
 pub(crate) fn walk_steps(
     alloc: Global,
     plan: &Plan,
-    steps: &[DumpStep],
+    steps: &[u8],
     walk: &mut Walk,
     builder: &mut RecordBuilder,
 ) -> Result<(), Memory>
     requires events { length plan.now.events ≤ most_instances }
     requires signals { length plan.now.codes ≤ most_signals }
     requires tables { walk.old.before.items ≡ walk.old.after.items }
-    ensures { OnOk result (Pushed builder.old builder.new (table_events plan.now.rows plan.now.codes plan.now.events walk.old.last.items walk.old.before.items steps.now)) }
+    ensures { OnOk result (Pushed builder.old builder.new
+        (table_events plan.now.rows plan.now.codes plan.now.events walk.old.last.items
+        walk.old.before.items (steps_begun (items_in steps.now)))) }
 {
     let mut rest = steps;
-    while let Some((step, later)) = rest.split_first() {
-        let made = step_events(alloc, plan, step.changes.as_slice(), walk)?;
+    while let Some((_, later)) = next_time(rest) {
+        let made = step_events(alloc, plan, later, walk)?;
         push_all(builder, made)?;
         rest = later;
     }
@@ -150,9 +155,9 @@ fn none_set(alloc: Global, codes: &[u32]) -> Result<Vec<Option<u64>>, Memory>
 }
 
 /// The walk behind the first step.
-fn walk_behind(alloc: Global, codes: &[u32], len: usize, changes: &[Change]) -> Result<Walk, Memory>
-    ensures before { IfOk result (λ walk. walk.before.items ≡ applied changes.now (replicate len unknown)) }
-    ensures after { IfOk result (λ walk. walk.after.items ≡ applied changes.now (replicate len unknown)) }
+fn walk_behind(alloc: Global, codes: &[u32], len: usize, changes: &[u8]) -> Result<Walk, Memory>
+    ensures before { IfOk result (λ walk. walk.before.items ≡ applied (changes_of (items_in changes.now)) (replicate len unknown)) }
+    ensures after { IfOk result (λ walk. walk.after.items ≡ applied (changes_of (items_in changes.now)) (replicate len unknown)) }
     ensures last { IfOk result (λ walk. walk.last.items ≡ map (λ code. None) codes.now) }
 {
     let mut before = unknown_table(alloc, len)?;
@@ -171,18 +176,19 @@ fn walk_behind(alloc: Global, codes: &[u32], len: usize, changes: &[Change]) -> 
 pub(crate) fn push_events(
     alloc: Global,
     plan: &Plan,
-    steps: &[DumpStep],
+    steps: &Steps,
     builder: &mut RecordBuilder,
 ) -> Result<(), Memory>
     requires events { length plan.now.events ≤ most_instances }
     requires signals { length plan.now.codes ≤ most_signals }
-    ensures { OnOk result (Pushed builder.old builder.new (events_of plan.now.rows plan.now.codes plan.now.events steps.now)) }
+    ensures { OnOk result (Pushed builder.old builder.new
+        (events_of plan.now.rows plan.now.codes plan.now.events steps.now)) }
 {
-    let Some((step, later)) = steps.split_first() else {
+    let Some((_, changes)) = first_time(steps.as_bytes()) else {
         return Ok(());
     };
     let codes = plan.codes.as_slice();
-    let mut walk = walk_behind(alloc, codes, table_len(codes), step.changes.as_slice())?;
-    walk_steps(alloc, plan, later, &mut walk, builder)?;
+    let mut walk = walk_behind(alloc, codes, table_len(codes), changes)?;
+    walk_steps(alloc, plan, changes, &mut walk, builder)?;
     Ok(())
 }

@@ -27,7 +27,8 @@ fn word_end(bytes: &[u8]) -> usize
 /// The first word, and the bytes behind it.
 #[tactic(auto, using(crate::proofs::Found::begins_word, crate::proofs::Found::skips))]
 pub(crate) fn next_word(bytes: &[u8]) -> Option<(&[u8], &[u8])>
-    ensures word { MatchOption result (words bytes.now ≡ []) (λ x. words bytes.now ≡ record { left = length x.0.now + length x.1.now; text = x.0.now } ∷ words x.1.now) }
+    ensures word { MatchOption result (words bytes.now ≡ []) (λ x. words bytes.now
+        ≡ record { left = length x.0.now + length x.1.now; text = x.0.now } ∷ words x.1.now) }
     ensures shorter { IfSome result (λ x. length x.1.now < length bytes.now) }
 {
     let mut rest = bytes;

@@ -1,8 +1,7 @@
-use Rattle.std.proofs.Common.{ℕ, List, subst, sym}
+use Rattle.std.proofs.Common.{subst}
 use Rattle.std.proofs.lemmas.Result.{IfOk-weaker}
 use Rattle.cov_base.specs.Loads.{HasFile}
 use Rattle.covd_core.specs.Command.{Files}
-use Rattle.covd_core.specs.Steps.{RecordsDump}
 use Rattle.covd_core.proofs.Dumping.{has_design, records}
 use Rattle.covd_core.proofs.Unread.{no_dump_file}
 use Rattle.covd_core.proofs.record.record_dump.Goals as goal

@@ -1,12 +1,14 @@
-use Rattle.std.proofs.Common.{◌≤◌, ◌-◌, length, take}
+use Rattle.std.proofs.Common.{◌≡◌, ◌≤◌, ◌-◌, length, take}
 use Rattle.cov_spec.specs.Told.{Grows}
 use Rattle.covd_core.proofs.writing.write_all.Given as goal
 
 abbrev pub invariant-loop-at : goal.invariant-loop-at
 invariant-loop-at g l = record {
   within : l.at ≤ length l.bytes;
-  grown : Grows (g.K.Sink.written l.initial.sink) (g.K.Sink.written l.sink) (take l.at l.bytes);
-  later : g.K.Sink.faults l.initial.sink ≤ g.K.Sink.faults l.sink;
+  grown : Grows (g.L.Link.written l.initial.link) (g.L.Link.written l.link) (take l.at l.bytes);
+  left : g.L.Link.left l.link ≡ g.L.Link.left l.initial.link;
+  later : g.L.Link.write_faults l.initial.link ≤ g.L.Link.write_faults l.link;
+  read_faults : g.L.Link.read_faults l.link ≡ g.L.Link.read_faults l.initial.link;
 }
 
 abbrev pub decreases-loop-at : goal.decreases-loop-at

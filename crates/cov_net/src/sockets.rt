@@ -1,0 +1,174 @@
+//! Connections of a network, or any other streams that go both ways, and where they come from.
+ghost use Rattle.std.specs.Prelude.{◌≡◌, ◌≢◌, ◌<◌, ◌≤◌, None, IfOk, IfErr, length, is_ok, if◌then◌else◌};
+ghost use Rattle.std.specs.Io.{ReadsAtMost};
+ghost use Rattle.std.specs.Io.KnownBytes.{ReadConsumes, WriteAppends};
+ghost use Rattle.std.specs.IoError.{error_kind};
+ghost use Rattle.cov_base.specs.Causes.{HasCause};
+ghost use Rattle.cov_base.specs.Plan.{one_more};
+ghost use Rattle.cov_base.specs.Told.{Reads, Writes};
+ghost use Rattle.cov_net.specs.Counted.{Counted};
+
+use crate::again::{read_again, write_again};
+use cov_base::{Door, Failed, Link};
+use std::io;
+use std::io::{ErrorKind, Read, Write};
+use std::marker::Model;
+use std::net::{OpenListener, OpenStream};
+
+/// A connection as a link. An interrupted call is made again, and a write that takes no byte is a failure.
+#[derive(Drop)]
+pub struct TcpLink<S> {
+    inner: S,
+    read_faults: u64,
+    write_faults: u64,
+}
+
+impl<S> Model for TcpLink<S> {
+    ghost use Rattle.cov_net.specs.Edge.{Wire, wire_code};
+
+    ghost Value = { Wire S };
+
+    ghost coded = { wire_code S.code };
+
+    ghost view = { λ l. record { inner = l.inner; read_faults = l.read_faults; write_faults = l.write_faults } };
+}
+
+impl<S> TcpLink<S> {
+    /// A link that hasn't failed yet.
+    pub fn new(inner: S) -> Self
+        ensures inner { result.inner ≡ inner }
+        ensures read_faults { result.read_faults ≡ 0 }
+        ensures write_faults { result.write_faults ≡ 0 }
+    {
+        TcpLink {
+            inner,
+            read_faults: 0,
+            write_faults: 0,
+        }
+    }
+}
+
+impl<S: Read + Write> Link for TcpLink<S> {
+    ghost left = { λ l. None };
+
+    ghost written = { λ l. None };
+
+    ghost read_faults = { λ l. l.read_faults };
+
+    ghost write_faults = { λ l. l.write_faults };
+
+    fn read(&mut self, into: &mut [u8]) -> Result<usize, Failed>
+        requires { 0 < length into.old }
+        ensures bound { ReadsAtMost result into.new }
+        ensures bytes { Reads None None result into.new }
+        ensures cause { HasCause self.old.read_faults self.new.read_faults result }
+        ensures count { Counted self.old.read_faults self.new.read_faults result }
+        ensures same_faults { self.new.write_faults ≡ self.old.write_faults }
+        ensures inner { ReadConsumes (S.remaining self.old.inner) (S.remaining self.new.inner) result into.new }
+    {
+        match read_again(&mut self.inner, into) {
+            Ok(count) => Ok(count),
+            Err(_) => {
+                self.read_faults = self.read_faults.saturating_add(1);
+                Err(Failed)
+            }
+        }
+    }
+
+    fn write(&mut self, bytes: &[u8]) -> Result<usize, Failed>
+        requires { 0 < length bytes.now }
+        ensures bound { IfOk result (λ n. (0 < n) × (n ≤ length bytes.now)) }
+        ensures bytes { Writes None None result bytes.now }
+        ensures cause { HasCause self.old.write_faults self.new.write_faults result }
+        ensures count { Counted self.old.write_faults self.new.write_faults result }
+        ensures same_faults { self.new.read_faults ≡ self.old.read_faults }
+        ensures inner { WriteAppends (S.contents self.old.inner) (S.contents self.new.inner) result bytes.now }
+    {
+        match write_again(&mut self.inner, bytes) {
+            Ok(count) if count > 0 => Ok(count),
+            _ => {
+                self.write_faults = self.write_faults.saturating_add(1);
+                Err(Failed)
+            }
+        }
+    }
+}
+
+/// The next connection. An interrupted call is made again, and so is one whose connection was given up before it was
+/// taken.
+fn accept_again<L: OpenListener>(listener: &L) -> io::Result<L::Stream>
+    ensures interrupted { IfErr result (λ e. error_kind e ≢ ErrorKind.Interrupted) }
+    ensures given_up { IfErr result (λ e. error_kind e ≢ ErrorKind.ConnectionAborted) }
+{
+    for _ in 0..u64::MAX {
+        match listener.accept() {
+            Ok((stream, _)) => return Ok(stream),
+            Err(error) if error.kind() == ErrorKind::Interrupted => {}
+            Err(error) if error.kind() == ErrorKind::ConnectionAborted => {}
+            Err(error) => return Err(error),
+        }
+    }
+    Err(io::Error::from(ErrorKind::TimedOut))
+}
+
+/// A listener as a door. Contracts see how many links it has handed out, and how often it has failed.
+#[derive(Drop)]
+pub struct TcpDoor<'a, L> {
+    listener: &'a L,
+    handed: u64,
+    faults: u64,
+}
+
+impl<'a, L> Model for TcpDoor<'a, L> {
+    ghost use Rattle.cov_net.specs.Edge.{Entrance};
+
+    ghost Value = { Entrance };
+
+    ghost view = { λ d. record { handed = d.handed; faults = d.faults } };
+}
+
+impl<'a, L> TcpDoor<'a, L> {
+    /// A door that has handed out nothing, and hasn't failed yet.
+    pub fn new(listener: &'a L) -> Self
+        ensures { result ≡ record { handed = 0; faults = 0 } }
+    {
+        TcpDoor {
+            listener,
+            handed: 0,
+            faults: 0,
+        }
+    }
+}
+
+impl<L> Door for TcpDoor<'_, L>
+where
+    L: OpenListener,
+    L::Stream: Read + Write + OpenStream,
+{
+    type Wire = TcpLink<L::Stream>;
+
+    ghost handed = { λ d. d.handed };
+
+    ghost faults = { λ d. d.faults };
+
+    fn accept(&mut self) -> Result<TcpLink<L::Stream>, Failed>
+        ensures handed { self.new.handed ≡ (if is_ok result then one_more self.old.handed else self.old.handed) }
+        ensures cause { HasCause self.old.faults self.new.faults result }
+        ensures count { Counted self.old.faults self.new.faults result }
+        ensures read_faults { IfOk result (λ link. link.read_faults ≡ 0) }
+        ensures write_faults { IfOk result (λ link. link.write_faults ≡ 0) }
+    {
+        match accept_again(self.listener) {
+            Ok(stream) => {
+                // replies are written whole, so none has to wait for more bytes; where this is refused they come later
+                let _ = stream.set_nodelay(true);
+                self.handed = self.handed.saturating_add(1);
+                Ok(TcpLink::new(stream))
+            }
+            Err(_) => {
+                self.faults = self.faults.saturating_add(1);
+                Err(Failed)
+            }
+        }
+    }
+}

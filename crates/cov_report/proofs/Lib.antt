@@ -1,0 +1,4 @@
+pub mod Inside
+pub mod Mapped
+pub mod Pages
+pub mod Ranked

@@ -1,0 +1,81 @@
+-- The report of a history: how many tests it has and which, the coverage of all, of each type, of its instances and of
+-- their items, the illegal bins that were hit, and the ranking of the tests.
+use Rattle.std.specs.Prelude.{ℕ, List, [], ◌∷◌, ◌++◌, codes, length, map, filter, Bool, ◌&&◌, if◌then◌else◌, nat_lt, bytes_eq}
+use Rattle.std.specs.List.{flat_map, list_any}
+use Rattle.tally.specs.Rows.{rows_from}
+use Rattle.tally.specs.declared.ranked.Ranked.{Ranked}
+use Rattle.rank_report.specs.Lines.{rank_text}
+use Rattle.design_data.specs.declared.design.Design.{Design}
+use Rattle.design_data.specs.declared.infos.InstInfo.{InstInfo}
+use Rattle.ucis_model.specs.declared.node.Node.{Node}
+use Rattle.ucis_model.specs.declared.answers.CoverRow.{CoverRow}
+use Rattle.ucis_model.specs.Paths.{node_at, path_of}
+use Rattle.cov_history.specs.declared.entry.Entry.{Entry}
+use Rattle.cov_history.specs.Tallies.{tally}
+use Rattle.cov_history.specs.Nodes.{children, bins_under, kind_of_bin, is_illegal}
+use Rattle.cov_history.specs.Coverage.{count_at, coverage}
+use Rattle.cov_history.specs.Ranking.{ranking}
+use Rattle.cov_history.specs.History.{Test, design_of, tests_of, count_of}
+use Rattle.cov_history.specs.Answers.{cover_row, nodes_at, excluded_at, wanted_at}
+use Rattle.cov_report.specs.Lines.{merge_line, test_line, overall_line, cover_line, item_line, item_word, illegal_line}
+
+-- ---- tests
+
+abbrev pub line_of_test : Test → List ℕ
+line_of_test t = test_line t.point t.content.status t.content.id
+
+abbrev pub tests_text : List Test → List ℕ
+tests_text tests = merge_line (length tests) ++ flat_map line_of_test tests
+
+-- ---- coverage; `row` is that of each node
+
+-- `option.per_instance` of the instance of this name (IEEE 1800-2017, 19.7)
+abbrev pub is_printed : List InstInfo → (name : List ℕ) → Bool
+is_printed instances name = list_any (λ inst. bytes_eq inst.name name && inst.print) instances
+
+abbrev pub line_of_item : List Node → (row : ℕ → CoverRow) → ℕ → List ℕ
+line_of_item nodes row n = item_line (item_word (node_at nodes n).kind) (path_of nodes n) (row n)
+
+-- its own line, where it is printed, and one for each item
+abbrev pub lines_of_instance : List InstInfo → List Node → (row : ℕ → CoverRow) → ℕ → List ℕ
+lines_of_instance instances nodes row n =
+    (if is_printed instances (node_at nodes n).name then cover_line (codes "instance") (path_of nodes n) (row n) else []) ++ flat_map (line_of_item nodes row) (children nodes n)
+
+abbrev pub lines_of_type : List InstInfo → List Node → (row : ℕ → CoverRow) → ℕ → List ℕ
+lines_of_type instances nodes row n =
+    cover_line (codes "type") (path_of nodes n) (row n) ++ flat_map (lines_of_instance instances nodes row) (children nodes n)
+
+-- the coverage of all, and each type that has an instance
+abbrev pub coverage_text : List InstInfo → List Node → (row : ℕ → CoverRow) → List ℕ
+coverage_text instances nodes row = overall_line (row 0).millionths ++ flat_map (lines_of_type instances nodes row) (children nodes 0)
+
+-- ---- illegal bins
+
+abbrev pub is_illegal_hit : List Node → (count : ℕ → ℕ) → ℕ → Bool
+is_illegal_hit nodes count n = is_illegal (kind_of_bin nodes n) && nat_lt 0 (count_at nodes count n)
+
+abbrev pub line_of_illegal : List Node → (count : ℕ → ℕ) → ℕ → List ℕ
+line_of_illegal nodes count n = if is_illegal_hit nodes count n then illegal_line (count_at nodes count n) (path_of nodes n) else []
+
+-- a line for each illegal bin that was hit
+abbrev pub illegal_text : List Node → (count : ℕ → ℕ) → List ℕ
+illegal_text nodes count = flat_map (line_of_illegal nodes count) (bins_under nodes 0)
+
+-- ---- the whole
+
+abbrev pub ids_of : List Test → List (List ℕ)
+ids_of tests = map (λ t. t.content.id) tests
+
+-- the ranking of the tests by the live bins that they cover
+abbrev pub ranked_at : (opening : Design) → List Entry → List Ranked
+ranked_at opening h = ranking (map (λ t. rows_from 0 (tally (design_of opening h) t.content)) (tests_of h)) (wanted_at opening h)
+
+abbrev pub rows_at : (opening : Design) → List Entry → ℕ → CoverRow
+rows_at opening h = cover_row (nodes_at opening h) (count_of opening h) (excluded_at opening h)
+
+unfoldable pub report_text : (opening : Design) → List Entry → List ℕ
+report_text opening h =
+    tests_text (tests_of h)
+    ++ (coverage_text (design_of opening h).instances (nodes_at opening h) (rows_at opening h)
+    ++ (illegal_text (nodes_at opening h) (count_of opening h)
+    ++ rank_text 1 (ranked_at opening h) (ids_of (tests_of h))))

@@ -1,0 +1,45 @@
+//! The text of a report.
+ghost use Rattle.std.specs.Prelude.{◌≡◌, ◌++◌, length, map, IfOk, OnOk};
+ghost use Rattle.cov_history.specs.History.{tests_of};
+ghost use Rattle.merge_store.specs.Stores.{opening_of, entries_of};
+ghost use Rattle.cov_report.specs.Report.{tests_text, ids_of as ids_meant, report_text};
+
+use crate::coverage::append_coverage;
+use crate::illegal::append_all_illegal;
+use crate::ranking::append_ranking;
+use crate::tests::{all_tests, append_tests, ids_of};
+use cov_base::Memory;
+use cov_tree::Name;
+use merge_store::Store;
+use std::alloc::Global;
+use std::thread::Threads;
+
+/// The lines of the tests; their ids.
+fn append_all_tests(alloc: Global, text: &mut Vec<u8>, store: &Store) -> Result<Vec<Name>, Memory>
+    ensures text { OnOk result (text.new.items ≡ text.old.items ++ tests_text (tests_of (entries_of store.now))) }
+    ensures ids { IfOk result (λ ids. ids.items ≡ ids_meant (tests_of (entries_of store.now))) }
+{
+    let tests = all_tests(alloc, store)?;
+    append_tests(text, tests.as_slice())?;
+    let ids = ids_of(alloc, tests.as_slice())?;
+    Ok(ids)
+}
+
+/// The text of the report of a store: its tests, the coverage of all, of each type that has an instance, of the instances
+/// that are printed and of all their items, the illegal bins that were hit, and the ranking of the tests. It is built in
+/// one buffer. The tests are ranked by all processors.
+#[tactic(auto, unfolding(crate::specs::Report::report_text))]
+pub fn report_lines<R: Threads + Sync>(
+    rt: &R,
+    alloc: Global,
+    store: &Store,
+) -> Result<Vec<u8>, Memory>
+    ensures { IfOk result (λ text. text.items ≡ report_text (opening_of store.now) (entries_of store.now)) }
+{
+    let mut text = Vec::new(alloc);
+    let ids = append_all_tests(alloc, &mut text, store)?;
+    append_coverage(&mut text, store)?;
+    append_all_illegal(&mut text, store)?;
+    append_ranking(rt, alloc, &mut text, store, ids.as_slice())?;
+    Ok(text)
+}

@@ -1,0 +1,11 @@
+//! One history behind a lock, served to many callers: each connection is a session over the port of a seat.
+#![tactic(auto)]
+
+mod port;
+mod serving;
+mod shared;
+mod turns;
+
+pub use port::SharedPort;
+pub use serving::{serve_connection, serve_rounds};
+pub use shared::Shared;

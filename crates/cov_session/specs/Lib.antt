@@ -1,0 +1,12 @@
+pub mod Streams
+pub mod Moments
+pub mod Ends
+pub mod Fills
+pub use Rattle.cov_history.specs.Turns
+pub use Rattle.cov_proto.specs.Frames
+pub use Rattle.cov_proto.specs.Spelled
+pub use Rattle.cov_spec.specs.Told
+pub use Rattle.session_table.specs.Contents
+pub use Rattle.session_table.specs.Faults
+pub use Rattle.session_table.specs.Serves
+pub use Rattle.session_table.specs.Table

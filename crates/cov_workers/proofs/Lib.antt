@@ -1,0 +1,4 @@
+mod Expressions
+mod Designs
+mod StoreParts
+mod Sharing

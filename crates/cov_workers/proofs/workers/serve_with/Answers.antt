@@ -1,0 +1,30 @@
+use denote.Builtin.{u64}
+use denote.Param.{param}
+use denote.Param.Send.{IsSync, sendable}
+use Rattle.std.proofs.Crossing.{sync}
+use Rattle.std.proofs.net.tcp.TcpListener.TheSendSync as listener
+use Rattle.cov_workers.proofs.Sharing.{shared_sync}
+use Rattle.cov_workers.proofs.workers.serve_with.Goals as goal
+
+number_sync : IsSync u64
+number_sync = search sendable
+
+pub for_each_mut-requires-sync-F : goal.for_each_mut-requires-sync-F
+for_each_mut-requires-sync-F g c κs within = record {
+  shared = λ x b o κ. (
+    (
+      ((λ q. tt), c.type_bounds.sync-R.shared x.0.now x.0.ref_ptr.0 x.0.ref_ptr.1 _),
+      (
+        ((λ q. tt), sync.shared x.1.now x.1.ref_ptr.0 x.1.ref_ptr.1 κ),
+        (
+          ((λ q. tt), listener.the_sync.shared x.2.now x.2.ref_ptr.0 x.2.ref_ptr.1 κ),
+          (
+            ((λ q. tt), (shared_sync (param 0 g.row.C) g.C.Book c.type_bounds.send-C).shared x.3.now x.3.ref_ptr.0 x.3.ref_ptr.1 _),
+            (((λ q. tt), number_sync.shared x.4.now x.4.ref_ptr.0 x.4.ref_ptr.1 κ), tt),
+          ),
+        ),
+      ),
+    ),
+    λ q. tt,
+  );
+}

@@ -1,0 +1,11 @@
+//! A store behind a lock, and the workers of its server: each serves the connections of one listener, one after another,
+//! over a seat of its own.
+#![tactic(auto)]
+
+mod opening;
+mod stores;
+mod workers;
+
+pub use opening::open;
+pub use stores::serve_store;
+pub use workers::serve_with;

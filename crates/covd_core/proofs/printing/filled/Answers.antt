@@ -1,0 +1,13 @@
+use Rattle.std.proofs.Common.{map, inl, inr}
+use Rattle.std.proofs.lemmas.Result.{IfOk-weaker}
+use Rattle.std.specs.Prelude.{string_bytes}
+use Rattle.covd_core.proofs.printing.filled.Goals as goal
+
+pub returns-in-Some-clause-answer : goal.returns-in-Some-clause-answer
+returns-in-Some-clause-answer g c =
+    IfOk-weaker c.report.result _ _ (λ a h. inl (c.in-Some.design.now, map string_bytes c.in-Some.names.now, c.in-Some.ensures, h)) c.report.ensures.answer
+
+pub returns-in-Some-make_words-clause-answer : goal.returns-in-Some-make_words-clause-answer
+returns-in-Some-make_words-clause-answer g c =
+    let n = c.in-Some-make_words.numbers in
+    IfOk-weaker c.make.result _ _ (λ a h. inr (c.in-Some-make_words.design.now, n.seed, n.rounds, n.tests, c.in-Some-make_words.ensures, h)) c.make.ensures.answer

@@ -1,0 +1,128 @@
+//! The commands that print.
+ghost use Rattle.std.specs.Prelude.{◌≡◌, ◌≤◌, map, string_bytes, IfOk, IfNone, MatchOption};
+ghost use Rattle.covd_core.specs.Command.{FillAnswers, Answers, IsCheckCommand, IsNoCheck, IsCountCommand, IsNoCount, Leaves, HasOneAnswer};
+ghost use Rattle.covd_core.specs.Forms.{IsNoReport, IsNoMake};
+
+use crate::Status;
+use crate::answer::Answer;
+use crate::check::check;
+use crate::count::count;
+use crate::forms::{make_words, report_words};
+use crate::record::{record_dump, record_words};
+use crate::report::{make, report};
+use crate::texts::bad_words;
+use crate::writing::write_all;
+use cov_base::{Link, Memory, Shelf};
+use std::alloc::Global;
+use std::thread::Threads;
+
+// The name behind `check`.
+fn check_words(words: &[String]) -> Option<&str>
+    ensures { MatchOption result (IsNoCheck (map string_bytes words.now)) (λ name. IsCheckCommand (map string_bytes words.now) name.now) }
+{
+    match words {
+        [command, design] => {
+            if command.as_str() == "check" {
+                Some(design.as_str())
+            } else {
+                None
+            }
+        }
+        _ => None,
+    }
+}
+
+// The two names behind `count`.
+fn count_words(words: &[String]) -> Option<(&str, &str)>
+    ensures { MatchOption result (IsNoCount (map string_bytes words.now)) (λ names. IsCountCommand (map string_bytes words.now) names.0.now names.1.now) }
+{
+    match words {
+        [command, design, rec] => {
+            if command.as_str() == "count" {
+                Some((design.as_str(), rec.as_str()))
+            } else {
+                None
+            }
+        }
+        _ => None,
+    }
+}
+
+// The answer of a command that fills a store; None where the words are none.
+fn filled<R: Threads + Sync, F: Shelf>(
+    rt: &R,
+    alloc: Global,
+    words: &[String],
+    shelf: &mut F,
+) -> Option<Result<Answer, Memory>>
+    ensures same { F.files shelf.new ≡ F.files shelf.old }
+    ensures later { F.faults shelf.old ≤ F.faults shelf.new }
+    ensures answer { MatchOption result (IsNoReport (map string_bytes words.now) × IsNoMake (map string_bytes words.now))
+        (λ done. IfOk done (λ a. FillAnswers (map string_bytes words.now) (F.files shelf.old) (F.faults shelf.old) (F.faults shelf.new) a.status a.text.items)) }
+    ensures untouched { IfNone result (shelf.new ≡ shelf.old) }
+{
+    if let Some((design, names)) = report_words(words) {
+        return Some(report(rt, alloc, design, names, shelf));
+    }
+    match make_words(words) {
+        Some((design, numbers)) => Some(make(rt, alloc, design, numbers, shelf)),
+        None => None,
+    }
+}
+
+fn answer<R: Threads + Sync, F: Shelf>(
+    rt: &R,
+    alloc: Global,
+    words: &[String],
+    shelf: &mut F,
+) -> Result<Answer, Memory>
+    ensures same { F.files shelf.new ≡ F.files shelf.old }
+    ensures later { F.faults shelf.old ≤ F.faults shelf.new }
+    ensures answer { IfOk result (λ a. Answers (map string_bytes words.now) (F.files shelf.old) (F.faults shelf.old) (F.faults shelf.new) a.status a.text.items) }
+{
+    if let Some(done) = filled(rt, alloc, words, shelf) {
+        return done;
+    }
+    if let Some(design) = check_words(words) {
+        return check(alloc, design, shelf);
+    }
+    if let Some(words) = record_words(words) {
+        return record_dump(alloc, words, shelf);
+    }
+    match count_words(words) {
+        Some((design, rec)) => count(alloc, design, rec, shelf),
+        None => {
+            let text = bad_words(alloc)?;
+            Ok(Answer {
+                status: Status::BadWords,
+                text,
+            })
+        }
+    }
+}
+
+/// Does what the words of a command that prints say over the files of the shelf, and writes its text to the link. What is
+/// written is built whole before its first byte is written.
+pub(crate) fn print<R: Threads + Sync, F: Shelf, L: Link>(
+    rt: &R,
+    alloc: Global,
+    words: &[String],
+    shelf: &mut F,
+    link: &mut L,
+) -> Status
+    ensures leaves { Leaves (map string_bytes words.now) (F.files shelf.old) (F.faults shelf.old) (F.faults shelf.new) (L.write_faults link.old) (L.write_faults link.new) (L.written link.old) (L.written link.new) result }
+    ensures one_answer { HasOneAnswer (map string_bytes words.now) (F.files shelf.old) (F.faults shelf.old) (F.faults shelf.new) }
+    ensures files { F.files shelf.new ≡ F.files shelf.old }
+    ensures shelf_faults { F.faults shelf.old ≤ F.faults shelf.new }
+    ensures left { L.left link.new ≡ L.left link.old }
+    ensures read_faults { L.read_faults link.new ≡ L.read_faults link.old }
+    ensures write_faults { L.write_faults link.old ≤ L.write_faults link.new }
+{
+    match answer(rt, alloc, words, shelf) {
+        Err(_) => Status::Memory,
+        Ok(Answer { status, text }) => match write_all(link, &text) {
+            Ok(()) => status,
+            Err(_) => Status::WriteFault,
+        },
+    }
+}

@@ -1,0 +1,4 @@
+mod OneRow
+mod OneServing
+mod GoingOn
+mod OneSession

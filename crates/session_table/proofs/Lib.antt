@@ -1,0 +1,11 @@
+pub mod Growing
+pub mod Writing
+pub mod Wishing
+pub mod Rowing
+pub mod Saying
+pub mod Uploading
+pub mod Found
+pub mod Shapes
+pub mod Meeting
+pub mod Later
+pub mod Single

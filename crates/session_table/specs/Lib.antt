@@ -1,0 +1,8 @@
+pub mod Faults
+pub mod Refusals
+pub mod Contents
+pub mod Table
+pub mod Serves
+pub mod Says
+pub mod Alone
+pub mod Writable

@@ -1,0 +1,17 @@
+//! What a session answers to each body: the port through which it takes turns, and the table of its replies.
+#![tactic(auto)]
+
+mod alone;
+mod bodies;
+mod faults;
+mod finding;
+mod port;
+mod tables;
+mod talk;
+mod turning;
+mod writable;
+
+pub use alone::Alone;
+pub use bodies::{Said, answer};
+pub use port::Port;
+pub use talk::Talk;
