@@ -1,6 +1,6 @@
 -- Where nobody else makes an entry and the history has no Stop, no reply says that it has moved on or has ended.
 use Rattle.std.proofs.Common.{◌≡◌, ◌⊎◌, inl, inr, ⊎_elim, ℕ, zero, suc, ◌+◌, ◌≤◌, List, [], ◌∷◌, ◌++◌, length, take, drop, Bool, true, false, ◌||◌, ◌&&◌, refl, sym, ap, ◌∙◌, subst, arith, length-append}
-use Rattle.std.specs.Prelude.{Option, Some, None, Result, Ok, Err, if◌then◌else◌, nat_lt, nat_le, bytes_eq, slice_get}
+use Rattle.std.specs.Prelude.{Option, Some, None, Result, Ok, Err, if◌then◌else◌, nat_lt, bytes_eq, slice_get}
 use Rattle.std.specs.List.{list_any}
 use Rattle.design_data.specs.declared.design.Design.{Design}
 use Rattle.record_codec.specs.declared.record.Record.{Record}
@@ -17,13 +17,12 @@ use Rattle.cov_history.specs.declared.entry.Entry.{Entry}
 use Rattle.cov_history.specs.declared.asks.Ask.{Ask}
 use Rattle.cov_history.specs.declared.asks.Ask.TheVariants as ask
 use Rattle.cov_history.specs.Nodes.{bins_under, node_of_bin}
-use Rattle.cov_history.specs.Coverage.{coverage}
 use Rattle.cov_history.specs.History.{Test, tests_of, kept, hits, count_of, design_of, out_of, has, has_stop, passed, is_revise, is_test_or_revise}
-use Rattle.cov_history.specs.Answers.{is_made, by, table, unless_stopped, answer_at, at_node, nodes_at, excluded_at, rows, cover_row, rows_at, counts_at, test_counts_by, test_counts_at, coverage_at, name_at, hello_at, chunk, fetch_at, unless_full, change, stands_since, admit_by, admit_at, exclude_at, include_at, revise_at}
+use Rattle.cov_history.specs.Answers.{is_made, by, table, unless_stopped, at_node, nodes_at, excluded_at, rows, cover_row, rows_at, test_counts_by, chunk, unless_full, change, stands_since, admit_by, revise_at}
 use Rattle.cov_history.specs.Turns.{Wish, Plain, Admit, Revise, wished, TurnsAt}
 use Rattle.upload_stage.specs.declared.fault.StageFault.{StageFault}
 use Rattle.upload_stage.specs.declared.fault.StageFault.TheVariants as stage
-use Rattle.upload_stage.specs.Uploads.{Upload, begin_fault, piece_fault, finish_fault, finished, bytes_of}
+use Rattle.upload_stage.specs.Uploads.{Upload, begin_fault, piece_fault, finish_fault, bytes_of}
 use Rattle.cov_proto.specs.declared.requests.Request.{Request}
 use Rattle.cov_proto.specs.declared.requests.Request.TheVariants as request
 use Rattle.cov_proto.specs.declared.replies.Body.{Body}
@@ -31,7 +30,7 @@ use Rattle.cov_proto.specs.declared.replies.Reply.{Reply}
 use Rattle.cov_proto.specs.Requests.{request_read}
 use Rattle.session_table.specs.Contents.{Content, NoRecord, OtherShape, Fitting, Text, LongText, NoDesign, OtherTables, Revising}
 use Rattle.session_table.specs.Table.{Row, IsRow, IsCommitRow, IsReviseRow, lost, stage_refusal, record_refusal, said_to, said_to_text, begin_row, piece_row}
-use Rattle.session_table.specs.Serves.{Place, Told, Turned, Lacks, BySaid, Replied, Step, Serves}
+use Rattle.session_table.specs.Serves.{Place, Lacks, BySaid, Replied, Step, Serves}
 use Rattle.session_laws.specs.Laws.{is_body_of, is_reply_of, NoneIs, is_late}
 use Rattle.session_laws.proofs.OneServing.{tight, stop_taken, step_grows, serves_grows}
 

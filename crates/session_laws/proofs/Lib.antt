@@ -2,3 +2,5 @@ mod OneRow
 mod OneServing
 mod GoingOn
 mod OneSession
+mod OneCut
+mod OneOutput

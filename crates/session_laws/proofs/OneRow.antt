@@ -1,21 +1,16 @@
 -- What is said to a request at a stage is one.
-use Rattle.std.proofs.Common.{◌≡◌, ◌⊎◌, inl, inr, ℕ, ◌<◌, ◌≤◌, List, length, Bool, true, false, refl, sym, ap, ◌∙◌, subst, arith}
+use Rattle.std.proofs.Common.{◌≡◌, ℕ, List, refl, sym, ap, ◌∙◌, subst, arith}
 use Rattle.std.specs.Prelude.{Option, Some, None, Result, Ok, Err}
 use mathlib.Core.HLevel.{is_prop→PathP}
-use Rattle.cov_ground.specs.Limits.{longest_design}
 use Rattle.design_data.specs.declared.design.Design.{Design}
 use Rattle.design_data.specs.Limits.{IsDesign, IsDesign-prop}
 use Rattle.record_codec.specs.declared.record.Record.{Record}
-use Rattle.record_codec.specs.declared.record.Fields.{Fields}
-use Rattle.record_codec.specs.declared.fault.RecordFault.{RecordFault}
 use Rattle.record_codec.specs.Spelling.{fields_of}
-use Rattle.record_codec.specs.Reading.{HasFault, reading}
+use Rattle.record_codec.specs.Reading.{reading}
 use Rattle.record_codec.proofs.RecordLaws.{same_record}
 use Rattle.sampler.specs.Shape.{Fits, IsWrongAt}
 use Rattle.sampler.proofs.Tables.{place_one, does_not_fit}
-use Rattle.cov_design.specs.Elaboration.{Parts, parts_of}
-use Rattle.cov_compile.specs.declared.fault.CompileFault.{CompileFault}
-use Rattle.cov_compile.specs.Compiling.{IsDesignFault, Compiles}
+use Rattle.cov_design.specs.Elaboration.{parts_of}
 use Rattle.cov_compile.proofs.Texts.{design_one, design_or_fault, fault_one}
 use Rattle.cov_history.specs.declared.entry.Revision.{Revision}
 use Rattle.upload_stage.specs.declared.fault.StageFault.{StageFault}

@@ -1,24 +1,22 @@
 -- Where nobody else makes an entry and no reply is Memory, the bodies decide the replies.
 use Rattle.std.proofs.Common.{◌≡◌, ◌⊎◌, inl, inr, ⊎_elim, ℕ, zero, suc, ◌+◌, ◌≤◌, List, [], ◌∷◌, ◌++◌, length, take, map, Bool, true, false, ◌||◌, refl, sym, ap, ◌∙◌, subst, arith, length-append}
-use Rattle.std.specs.Prelude.{Option, Some, None, Result}
+use Rattle.std.specs.Prelude.{Option}
 use Rattle.std.specs.List.{list_any}
 use Rattle.std.proofs.lemmas.List.{length-map}
 use Rattle.design_data.specs.declared.design.Design.{Design}
 use Rattle.ucis_model.specs.declared.answers.Answer.{Answer}
-use Rattle.ucis_model.specs.declared.answers.Answer.TheVariants as answer
 use Rattle.cov_history.specs.declared.entry.Entry.{Entry}
 use Rattle.cov_history.specs.declared.entry.Event.TheVariants as event
 use Rattle.cov_history.specs.History.{is_stop, has_stop}
 use Rattle.cov_history.specs.Answers.{by}
-use Rattle.cov_history.specs.Turns.{Wish, wished, made_by, Answers, TurnsAt}
+use Rattle.cov_history.specs.Turns.{Wish, wished, made_by, TurnsAt}
 use Rattle.upload_stage.specs.Uploads.{Upload}
-use Rattle.cov_proto.specs.declared.requests.Request.{Request}
 use Rattle.cov_proto.specs.declared.replies.Body.{Body}
 use Rattle.cov_proto.specs.declared.replies.Body.TheVariants as body
 use Rattle.cov_proto.specs.declared.replies.Reply.{Reply}
 use Rattle.cov_proto.specs.Requests.{request_read}
-use Rattle.session_table.specs.Table.{Row, IsRow, lost}
-use Rattle.session_table.specs.Serves.{Place, Told, Turned, Lacks, BySaid, Replied, Step, Serves}
+use Rattle.session_table.specs.Table.{Row, lost}
+use Rattle.session_table.specs.Serves.{Place, Lacks, BySaid, Replied, Step, Serves}
 use Rattle.session_laws.specs.Laws.{is_memory, is_body_of, is_reply_of, NoneIs, AreOne}
 use Rattle.session_laws.proofs.OneRow.{row_one}
 

@@ -1,12 +1,12 @@
 -- A caller who is alone.
-use Rattle.std.proofs.Common.{◌≡◌, ℕ, suc, ◌+◌, ◌==◌, ◌≤◌, List, [], ◌∷◌, ◌++◌, length, take, Bool, true, false, not, if◌then◌else◌, refl, sym, ap, ◌∙◌, arith, length-append}
+use Rattle.std.proofs.Common.{◌≡◌, ℕ, suc, ◌+◌, ◌==◌, ◌≤◌, List, [], ◌∷◌, length, take, Bool, true, false, not, if◌then◌else◌, refl, sym, ap, ◌∙◌, arith, length-append}
 use Rattle.std.proofs.Math.Seq.{take-append_seam}
 use Rattle.design_data.specs.declared.design.Design.{Design}
 use Rattle.cov_history.specs.declared.entry.Entry.{Entry}
 use Rattle.cov_proto.specs.declared.replies.Reply.{Reply}
 use Rattle.session_table.specs.Alone.{own_from, others}
 use Rattle.session_table.specs.Serves.{Place}
-use Rattle.session_laws.specs.Laws.{IsAlone, AreOne, AloneIsOne, AloneIsNeverLate}
+use Rattle.session_laws.specs.Laws.{IsAlone, AloneIsOne, AloneIsNeverLate}
 use Rattle.session_laws.proofs.OneServing.{serves_one, serves_within}
 use Rattle.session_laws.proofs.GoingOn.{serves_on}
 

@@ -2,6 +2,7 @@
 #![tactic(auto)]
 
 ghost use Rattle.session_laws.specs.Laws.{AloneIsOne, AloneIsNeverLate};
+ghost use Rattle.session_laws.specs.Outputs.{OneOutput};
 
 /// The opening design, the history and the bodies decide the replies and the entries of a caller who is alone, where no
 /// reply is Memory.
@@ -12,4 +13,10 @@ pub fn alone_is_one()
 /// A caller who is alone over a history without a Stop is never answered Moved or Stopped.
 pub fn alone_is_never_late()
     ensures { AloneIsNeverLate }
+{}
+
+/// The opening design, the history and the bytes that come decide what a session writes for a caller who is alone, however
+/// these bytes are cut by reads, where the session came to an orderly end and no reply is Memory.
+pub fn one_output()
+    ensures { OneOutput }
 {}
