@@ -121,5 +121,9 @@ case("crosses", "bit [15:0] v;\nbit [15:0] w;", "p: coverpoint v { bins b[64] = 
      [("v", 16), ("w", 16)], [(0, sets(parts(64, 16))), (1, sets(parts(64, 16)))], [(0, 1)],
      (e for a, b in zip(random(16), slow(16)) for e in ((0, a), (1, b), 0)), 3 * 310000)
 
+# 1,000,000 samples each of which ends a window that begins at the first one
+open(f"{room}/window.sv", "w").write("bit [7:0] v;\ncovergroup g;\np: coverpoint v { bins b = (1 => 2[=1] => 3); }\nendgroup\ng i0 = new;\n")
+record(f"{room}/window.rec", [("v", 8)], [("i0", "g")], [(0, 1), 0, (0, 2), 0, (0, 3)] + [0] * 1000000)
+
 # so many bins as a design may have
 open(f"{room}/most.sv", "w").write("bit [15:0] v;\ncovergroup g;\n" + "\n".join(f"p{k}: coverpoint v {{ bins b[65536] = {{[0:65535]}}; }}" for k in range(4)) + "\nendgroup\ng i0 = new;\n")

@@ -41,6 +41,12 @@ for name in slow_64 random_4096 points overlapping transitions crosses; do
     }'
 done
 
+a=$(cost "$ours" "$room/points.sv" "$room/points.rec" count)
+b=$(cost "$ours" "$room/points.sv" "$room/points.rec" threads)
+awk -v a="$a" -v b="$b" -v n="$(nproc)" 'BEGIN { printf "64 points in threads on %d processors: %.2f times as fast\n", n, a / b }'
+a=$(cost "$ours" "$room/window.sv" "$room/window.rec" count)
+[ "$(cat "$room/printed")" = "1 1000000" ] || echo "a window over 1,000,000 samples: $(cat "$room/printed")"
+awk -v a="$a" 'BEGIN { printf "1,000,000 samples behind one window: %.1f ms\n", a / 1e6 }'
 a=$(cost "$ours" "$room/most.sv" "$room/random_64.rec" plan)
 awk -v a="$a" 'BEGIN { printf "tables of 262,144 bins: %.1f ms\n", a / 1e6 }'
 a=$(cost "$ours" "$room/random_64.sv" "$room/random_64.rec" whole)

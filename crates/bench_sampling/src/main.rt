@@ -3,15 +3,19 @@
 //! its bin's number and one. Its time is taken from outside.
 //!
 //! The words: `plan` works the tables out of the design, `decode` decodes the record, `count` counts by ready tables,
-//! and `whole` does all of it once more, the design text aside.
+//! `threads` does so in threads, and `whole` does all of it once more, the design text aside.
 #![tactic(auto)]
 
 use cov_compile::compile;
 use design_data::Design;
 use record_codec::{Record, decode};
 use sampler::{Plan, bin_record, counts_under};
+use sampler_threads::counts_par_under;
 use std::alloc::Global;
+use std::env::Env;
 use std::process::ExitCode;
+use std::rt::Files;
+use std::thread::Threads;
 use std::{env, fs};
 
 /// The most bytes of a design text.
@@ -56,6 +60,22 @@ fn counted(alloc: Global, design: &Design, rec: &Record, rounds: u32) -> Option<
     Some(sum)
 }
 
+fn counted_in_threads<R: Threads + Sync>(
+    rt: &R,
+    alloc: Global,
+    design: &Design,
+    rec: &Record,
+    rounds: u32,
+) -> Option<u64> {
+    let plan = Plan::of(alloc, design).ok()?;
+    let mut sum = 0;
+    for _ in 0..rounds {
+        let counts = counts_par_under(rt, alloc, &plan, design, rec).ok()?;
+        sum = sum_of(counts.as_slice());
+    }
+    Some(sum)
+}
+
 fn whole(alloc: Global, design: &Design, bytes: &[u8], rounds: u32) -> Option<u64> {
     if bytes.len() > MOST {
         return None;
@@ -69,7 +89,14 @@ fn whole(alloc: Global, design: &Design, bytes: &[u8], rounds: u32) -> Option<u6
     Some(rows)
 }
 
-fn work(alloc: Global, design: &Design, bytes: &[u8], word: &str, rounds: u32) -> Option<u64> {
+fn work<R: Threads + Sync>(
+    rt: &R,
+    alloc: Global,
+    design: &Design,
+    bytes: &[u8],
+    word: &str,
+    rounds: u32,
+) -> Option<u64> {
     if bytes.len() > MOST {
         return None;
     }
@@ -78,6 +105,7 @@ fn work(alloc: Global, design: &Design, bytes: &[u8], word: &str, rounds: u32) -
         "plan" => plans(alloc, design, rounds),
         "decode" => decoded(alloc, bytes, rounds),
         "count" => counted(alloc, design, &rec, rounds),
+        "threads" => counted_in_threads(rt, alloc, design, &rec, rounds),
         "whole" => whole(alloc, design, bytes, rounds),
         _ => None,
     }
@@ -91,7 +119,7 @@ fn compiled(alloc: Global, text: &[u8]) -> Option<Design> {
 }
 
 /// What the words name.
-fn measured(rt: &HostRuntime) -> Option<(u32, u64)> {
+fn measured<R: Threads + Sync + Env + Files + AllocGlobal>(rt: &R) -> Option<(u32, u64)> {
     let mut words = env::args(rt).ok()?.skip(1);
     let text = fs::read(rt, words.next()?.as_str()).ok()?;
     let bytes = fs::read(rt, words.next()?.as_str()).ok()?;
@@ -99,7 +127,7 @@ fn measured(rt: &HostRuntime) -> Option<(u32, u64)> {
     let rounds: u32 = words.next()?.parse().ok()?;
     let alloc = rt.alloc();
     let design = compiled(alloc, text.as_slice())?;
-    let sum = work(alloc, &design, bytes.as_slice(), word.as_str(), rounds)?;
+    let sum = work(rt, alloc, &design, bytes.as_slice(), word.as_str(), rounds)?;
     Some((design.bin_count(), sum))
 }
 

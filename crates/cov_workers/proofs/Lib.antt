@@ -1,4 +1,2 @@
-mod Expressions
-mod Designs
 mod StoreParts
 mod Sharing

@@ -7,7 +7,7 @@ use Rattle.design_data.specs.declared.design.Design.{Design}
 use Rattle.cov_history.specs.declared.entry.Entry.{Entry}
 use Rattle.turn_lock.proofs.types.TurnLock.TheSendSync as lock
 use Rattle.cov_server.specs.contracts.shared.Shared as shared
-use Rattle.cov_workers.proofs.Designs.{design_send, design_sync}
+use Rattle.sampler.proofs.Designs.{design_send, design_sync}
 
 pub shared_sync : (T : RattleType) (g : Ghosts T.Denot Design Entry) → IsSend T → IsSync (shared.the_row T g)
 shared_sync T g s = search (sendable, crosses, lock.the_field_sync, design_send, design_sync) depth 40 fits 4000

@@ -12,7 +12,7 @@ use Rattle.merge_store.specs.contracts.held.HeldEvent as event
 use Rattle.merge_store.specs.contracts.held.Held as held
 use Rattle.merge_store.specs.contracts.held.Kept as kept
 use Rattle.merge_store.specs.contracts.store.Store as store
-use Rattle.cov_workers.proofs.Designs.{design_send, design_sync}
+use Rattle.sampler.proofs.Designs.{design_send, design_sync}
 
 pub prepared_send : IsSend prepared.the_row
 prepared_send = search (sendable, crosses, content.the_send, content.the_sync, tally.the_send, tally.the_sync, design_send, design_sync) depth 30

@@ -4,4 +4,5 @@ pub mod Answering
 pub mod Taking
 pub mod Meeting
 pub mod Standing
+mod Still
 mod Keyed

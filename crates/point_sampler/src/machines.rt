@@ -138,8 +138,15 @@ fn add_sequences(sequences: &[u32], is_met: bool, met: &mut Vec<u32>) -> Result<
     Ok(())
 }
 
+/// Whether the point has neither transition bins nor default sequences.
+fn is_still(plan: &PointPlan) -> bool
+    ensures { IsTrue result → (length plan.now.machines.items ≡ 0) × (length plan.now.sequences.items ≡ 0) }
+{
+    plan.machines.is_empty() && plan.sequences.is_empty()
+}
+
 /// Takes the automata of a point that has some over the next value of the trace.
-fn push_some(
+fn push_all(
     plan: &PointPlan,
     steps: &mut Steps,
     runs: &mut [TransState],
@@ -172,6 +179,36 @@ fn push_some(
     )?;
     let alone = push_others(plan, &mut steps.none, others, begun, ended, value)?;
     add_sequences(plan.sequences.as_slice(), alone, met)?;
+    Ok(())
+}
+
+/// The same of any point, in no time where it has none.
+fn push_some(
+    plan: &PointPlan,
+    steps: &mut Steps,
+    runs: &mut [TransState],
+    others: &mut TransState,
+    begun: bool,
+    value: &Option<Int>,
+    met: &mut Vec<u32>,
+) -> Result<(), Memory>
+    requires fits { length runs.old ≡ length plan.now.machines.items }
+    requires apart { StandApart plan.now }
+    requires none { met.old.items ≡ [] }
+    ensures runs { OnOk result ((w : List Value) → RunsStand plan.now.machines.items plan.now.removers runs.old w
+        → RunsStand plan.now.machines.items plan.now.removers runs.new (w ++ value.now ∷ [])) }
+    ensures others { OnOk result ((w : List Value) → OthersStand plan.now others.old w
+        → OthersStand plan.now others.new (w ++ value.now ∷ [])) }
+    ensures met { OnOk result ((w : List Value) → IsTrue begun ↔ (0 < length w)
+        → RunsStand plan.now.machines.items plan.now.removers runs.old w → OthersStand plan.now others.old w
+        → AreTransMet plan.now w value.now met.new.items) }
+    ensures among { OnOk result ((place : ℕ) → Contains met.new.items place → IsTransPlace plan.now place) }
+    ensures once { OnOk result (AllPairs (λ a b. a ≢ b) met.new.items) }
+{
+    if is_still(plan) {
+        return Ok(());
+    }
+    push_all(plan, steps, runs, others, begun, value, met)?;
     Ok(())
 }
 

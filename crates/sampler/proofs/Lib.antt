@@ -3,3 +3,5 @@ pub mod Items
 pub mod Walks
 pub mod Starts
 mod Parts
+mod Expressions
+pub mod Designs

@@ -150,7 +150,7 @@ module _ (r : Record) (instances : List InstInfo) (plans : List InstPlan) (share
 
   pub at_start : length values ≡ places → AreUnknown values → AllInstStart instances plans share kept counts → WalkAt r instances plans share [] r.events values counts kept counts
   at_start len unknown start = record {
-    holds = record { same = len; at = λ s lt. unknown s ∙ sym (unset (slice_get r.signals s)) };
+    holds = record { same = len; at = λ s lt. unknown s ∙ sym (unset (slice_get r.signals s)); blank = λ k lt. unknown (4096 + k) };
     outside = λ number o. refl;
     each = λ j inst p chosen k e f g. inst_start j inst.items p.items chosen (get_or kept j k).states.items (start j inst p chosen k (samples_of r j) e f g);
   }

@@ -22,7 +22,7 @@ use Rattle.sampler.specs.declared.instance.InstState.{InstState}
 use Rattle.sampler.specs.Values.{Holds, Writes}
 use Rattle.sampler.specs.Standing.{IsSample, AllStand, AllTaken, InstAt, InstTaken}
 use Rattle.sampler.specs.Walking.{IsWork, InstFits, AllInstFit, WalkAt}
-use Rattle.sampler.proofs.Items.{one_of, stands_kept}
+use Rattle.sampler.proofs.Items.{one_of, stands_kept, empty_list}
 
 -- ---- the values at a sample
 
@@ -113,9 +113,16 @@ at_none r j items plans chosen before events args states counts none few h =
     (λ all m sample stand. record { stand = λ i k item p s c e f. absurd (omega (arith, slice_get_within chosen i k c, none)); outside = λ number o. refl }) h
 
 -- the signals' values stay at a sample
-pub holds_sample : (rows : List SignalRow) (before : List Event) (sampled : ℕ) (args : List (Option ℕ)) (old new : List (Option ℤ)) → length new ≡ length old → ((s : ℕ) → s < 4096 → get_or new s None ≡ get_or old s None)
+pub holds_sample : (rows : List SignalRow) (before : List Event) (sampled : ℕ) (args : List (Option ℕ)) (arg_rows : List ArgRow) (old written new : List (Option ℤ)) → Writes arg_rows args old written 16 → Writes [] args written new 16
     → Holds rows before old → Holds rows (Sample sampled args ∷ before) new
-holds_sample rows before sampled args old new same stay h = record { same = same ∙ h.same; at = λ s lt. stay s lt ∙ h.at s lt }
+holds_sample rows before sampled args arg_rows old written new writes clears h = record { same = clears.same ∙ writes.same ∙ h.same; at = λ s lt. clears.below s lt ∙ writes.below s lt ∙ h.at s lt; blank = λ k lt. clears.at k lt }
+
+-- the same where there are no arguments
+pub holds_bare : (rows : List SignalRow) (before : List Event) (sampled : ℕ) (args : List (Option ℕ)) (values : List (Option ℤ)) → Holds rows before values → Holds rows (Sample sampled args ∷ before) values
+holds_bare rows before sampled args values h = record { same = h.same; at = h.at; blank = h.blank }
+
+pub writes_none : (rows : List SignalRow) (before : List Event) (args : List (Option ℕ)) (arg_rows : List ArgRow) (values : List (Option ℤ)) → length arg_rows ≡ 0 → Holds rows before values → Writes arg_rows args values values 16
+writes_none rows before args arg_rows values none h = subst (λ (xs : List ArgRow). Writes xs args values values 16) (sym (empty_list arg_rows none)) (record { same = refl; below = λ s lt. refl; at = λ k lt. h.blank k lt })
 
 -- all events are taken
 pub at_end : (r : Record) (j : ℕ) (items : List ItemInfo) (plans : List ItemPlan) (chosen : List ℕ) (before : List Event) (states : List ItemState) (counts : List ℕ) → InstAt r j items plans chosen before [] states counts
@@ -154,7 +161,7 @@ module _ (r : Record) (instances : List InstInfo) (plans : List InstPlan) (share
   pub walk_past : (sampled : ℕ) (args : List (Option ℕ)) (values : List (Option ℤ)) (start : List ℕ) (kept : List InstState) (counts : List ℕ) → length instances ≤ sampled
       → WalkAt r instances plans share before (Sample sampled args ∷ events) values start kept counts → WalkAt r instances plans share (Sample sampled args ∷ before) events values start kept counts
   walk_past sampled args values start kept counts past h = record {
-    holds = record { same = h.holds.same; at = h.holds.at };
+    holds = record { same = h.holds.same; at = h.holds.at; blank = h.holds.blank };
     outside = h.outside;
     each = λ j inst p chosen k e f g. at_other r j inst.items p.items chosen before events sampled args (get_or kept j k).states.items counts (λ same. absurd (omega (arith, same, past, slice_get_within instances j inst e))) (h.each j inst p chosen k e f g);
   }

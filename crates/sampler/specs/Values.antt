@@ -8,10 +8,11 @@ use Rattle.record_codec.specs.declared.record.Event.{Event}
 abbrev pub places : ℕ
 places = 4112
 
--- the first 4,096 places have the signals' values after events that stand latest first
+-- the first 4,096 places have the signals' values after events that stand latest first, and in the others nothing is known
 pub record Holds (rows : List SignalRow) (before : List Event) (values : List (Option ℤ)) : Type 0 where
   pub same : length values ≡ places
   pub at : (s : ℕ) → s < 4096 → slice_index_or values s None ≡ signal_at rows before s
+  pub blank : (k : ℕ) → k < 16 → slice_index_or values (4096 + k) None ≡ None
 
 -- the first n of the last 16 places have the arguments' values, and the signals' are as before
 pub record Writes (rows : List ArgRow) (args : List (Option ℕ)) (old new : List (Option ℤ)) (n : ℕ) : Type 0 where

@@ -45,7 +45,7 @@ fn count_share(
 }
 
 /// A count of 0 for each bin.
-pub(crate) fn zeros(alloc: Global, count: usize) -> Result<Vec<u64>, Memory>
+pub fn zeros(alloc: Global, count: usize) -> Result<Vec<u64>, Memory>
     ensures same { IfOk result (λ counts. length counts.items ≡ count) }
     ensures zero { IfOk result (λ counts. AreAllZero counts.items) }
 {
@@ -85,8 +85,9 @@ fn share_counts(
     Ok(counts)
 }
 
-/// The counts of the items that belong to this part; those of all others are 0.
-pub(crate) fn part_counts(
+/// The counts of the items that belong to this part, by the bin's number; those of all others are 0. An item belongs to the
+/// part that is its label's rest by `parts`; a label that is missing is 0. With a cross its points belong to the part.
+pub fn part_counts(
     alloc: Global,
     plan: &Plan,
     design: &Design,
@@ -135,7 +136,7 @@ pub fn bin_record_under(
 }
 
 /// The rows of the counts.
-pub(crate) fn tally_of(
+pub fn tally_of(
     alloc: Global,
     design: &Design,
     rec: &Record,

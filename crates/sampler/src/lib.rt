@@ -13,8 +13,9 @@ mod starting;
 mod values;
 mod walking;
 
-pub use binning::{bin_record, bin_record_under, counts_under};
+pub use binning::{bin_record, bin_record_under, counts_under, part_counts, tally_of, zeros};
 pub use instance::{InstState, ItemState};
 pub use plan::{InstPlan, ItemPlan, Plan};
 pub use prepared::{Prepared, prepare, prepare_under};
 pub use shape::{WrongShape, shape_fits};
+pub use sharing::{label, labels_at};

@@ -43,6 +43,29 @@ impl Model for Prepared {
 }
 
 impl Prepared {
+    /// The record with its encoding, and with this tally, which is its own under the design.
+    pub fn of(
+        alloc: Global,
+        design: &Arc<Design>,
+        rec: Record,
+        tally: Tally,
+    ) -> Result<Prepared, Memory>
+        requires { IsTallyOf (arc_value design.now) rec tally }
+        ensures design { IfOk result (λ p. p.under ≡ arc_value design.now) }
+        ensures of { IfOk result (λ p. p.of ≡ rec) }
+    {
+        let bytes = encode(alloc, &rec)?;
+        let rec = Arc::new(alloc, rec)?;
+        let tally = Arc::new(alloc, tally)?;
+        let design = design.clone()?;
+        Ok(Prepared {
+            design,
+            rec,
+            bytes,
+            tally,
+        })
+    }
+
     /// The design under which it is binned.
     pub fn design(&self) -> &Arc<Design>
         ensures { arc_value result.now ≡ self.now.under }
@@ -81,29 +104,6 @@ impl Prepared {
     }
 }
 
-/// The record with its encoding, and with this tally.
-fn sealed(
-    alloc: Global,
-    design: &Arc<Design>,
-    rec: Record,
-    tally: Tally,
-) -> Result<Prepared, Memory>
-    requires { IsTallyOf (arc_value design.now) rec tally }
-    ensures design { IfOk result (λ p. p.under ≡ arc_value design.now) }
-    ensures of { IfOk result (λ p. p.of ≡ rec) }
-{
-    let bytes = encode(alloc, &rec)?;
-    let rec = Arc::new(alloc, rec)?;
-    let tally = Arc::new(alloc, tally)?;
-    let design = design.clone()?;
-    Ok(Prepared {
-        design,
-        rec,
-        bytes,
-        tally,
-    })
-}
-
 /// The record with its encoding and its tally under the design. The gate is passed at place 1 before the record is binned
 /// and at place 2 after it.
 pub fn prepare<G: Gate>(
@@ -118,7 +118,7 @@ pub fn prepare<G: Gate>(
     gate.pass(1);
     let tally = bin_record(alloc, design, &rec)?;
     gate.pass(2);
-    sealed(alloc, design, rec, tally)
+    Prepared::of(alloc, design, rec, tally)
 }
 
 /// The same by what is worked out of the design, for callers that prepare many records under one design.
@@ -136,5 +136,5 @@ pub fn prepare_under<G: Gate>(
     gate.pass(1);
     let tally = bin_record_under(alloc, plan, design, &rec)?;
     gate.pass(2);
-    sealed(alloc, design, rec, tally)
+    Prepared::of(alloc, design, rec, tally)
 }

@@ -9,7 +9,7 @@ use design_data::InstInfo;
 use std::alloc::Global;
 
 /// The label of an item, 0 where there is none.
-pub(crate) fn label(labels: &[u32], index: usize) -> u32
+pub fn label(labels: &[u32], index: usize) -> u32
     ensures { result ≡ slice_index labels.now index }
 {
     match labels.get(index) {
@@ -19,7 +19,7 @@ pub(crate) fn label(labels: &[u32], index: usize) -> u32
 }
 
 /// The labels of an instance's items.
-pub(crate) fn labels_at(labels: &[List<u32>], instance: usize) -> &[u32]
+pub fn labels_at(labels: &[List<u32>], instance: usize) -> &[u32]
     ensures { result.now ≡ labels_of labels.now instance }
 {
     match labels.get(instance) {

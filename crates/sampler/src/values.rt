@@ -27,7 +27,7 @@ pub(crate) fn set_signal(
 }
 
 /// Makes the places of all arguments Unknown.
-fn clear_args(values: &mut [Option<Int>])
+pub(crate) fn clear_args(values: &mut [Option<Int>])
     requires places { length values.old ≡ places }
     ensures { (args : List (Option ℕ)) → Writes [] args values.old values.new 16 }
 {
@@ -41,10 +41,6 @@ pub(crate) fn write_args(values: &mut [Option<Int>], rows: &[ArgRow], args: &[Op
     requires places { length values.old ≡ places }
     ensures { Writes rows.now args.now values.old values.new 16 }
 {
-    if rows.is_empty() {
-        clear_args(values);
-        return;
-    }
     for k in 0..MOST_ARGUMENTS {
         values[MOST_SIGNALS + k] = arg_value(rows, args, k);
     }

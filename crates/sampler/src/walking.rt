@@ -9,7 +9,7 @@ ghost use Rattle.sampler.specs.Walking.{IsInstWork, IsWork, InstFits, AllInstFit
 
 use crate::instance::{InstState, sample_instance};
 use crate::plan::{InstPlan, ItemPlan};
-use crate::values::{set_signal, write_args};
+use crate::values::{clear_args, set_signal, write_args};
 use cov_base::{Int, Memory};
 use cov_tree::List;
 use design_data::{InstInfo, ItemInfo};
@@ -23,6 +23,39 @@ fn arguments(instances: &[InstRow], index: usize) -> &[ArgRow]
         Some(row) => row.args.as_slice(),
         None => &[],
     }
+}
+
+/// Takes the chosen items of an instance over its sample with these arguments, which stand behind the signals' values for
+/// this sample alone.
+fn take_with_args(
+    rec: &Record,
+    instance: usize,
+    items: &[ItemInfo],
+    plans: &[ItemPlan],
+    chosen: &[u32],
+    values: &mut [Option<Int>],
+    kept: &mut InstState,
+    arg_rows: &[ArgRow],
+    args: &[Option<u64>],
+    counts: &mut [u64],
+) -> Result<(), Memory>
+    requires places { length values.old ≡ places }
+    requires rows { arg_rows.now ≡ args_of (slice_get rec.now.instances instance) }
+    requires work { IsInstWork items.now plans.now chosen.now (length counts.old) }
+    requires fits { InstFits items.now plans.now chosen.now kept.old }
+    ensures fits { OnOk result (InstFits items.now plans.now chosen.now kept.new) }
+    ensures holds { OnOk result ((before : List AnyEvent) → Holds rec.now.signals before values.old
+        → Holds rec.now.signals (Sample instance args.now ∷ before) values.new) }
+    ensures at { OnOk result ((before events : List AnyEvent) → length before < 2 ^ 32 - 1 → Holds rec.now.signals before values.old
+        → InstAt rec.now instance items.now plans.now chosen.now before (Sample instance args.now ∷ events) kept.old.states.items counts.old
+        → InstTaken rec.now instance items.now plans.now chosen.now (Sample instance args.now ∷ before) events counts.old kept.new.states.items counts.new) }
+{
+    let _ = rec;
+    let _ = instance;
+    write_args(values, arg_rows, args);
+    sample_instance(items, plans, chosen, kept, values, counts)?;
+    clear_args(values);
+    Ok(())
 }
 
 /// Takes the chosen items of an instance over its sample with these arguments.
@@ -48,8 +81,13 @@ fn take_chosen(
         → InstTaken rec.now instance items.now plans.now chosen.now (Sample instance args.now ∷ before) events counts.old kept.new.states.items counts.new) }
 {
     let arg_rows = arguments(rec.instances.as_slice(), instance);
-    write_args(values, arg_rows, args);
-    sample_instance(items, plans, chosen, kept, values, counts)?;
+    if arg_rows.is_empty() {
+        sample_instance(items, plans, chosen, kept, values, counts)?;
+        return Ok(());
+    }
+    take_with_args(
+        rec, instance, items, plans, chosen, values, kept, arg_rows, args, counts,
+    )?;
     Ok(())
 }
 

@@ -15,7 +15,7 @@ use Rattle.design_data.specs.contracts.infos.BinInfo as bin
 use Rattle.design_data.specs.contracts.infos.ItemInfo as item
 use Rattle.design_data.specs.contracts.infos.InstInfo as instance
 use Rattle.design_data.specs.contracts.design.Design as design
-use Rattle.cov_workers.proofs.Expressions.{bound_send, bound_sync, select_field_send, select_field_sync}
+use Rattle.sampler.proofs.Expressions.{bound_send, bound_sync, select_field_send, select_field_sync}
 
 pub shape_field_send : IsSend (shape.the_field).row
 shape_field_send = search (sendable, crosses, bound_send, list.the_send) depth 30
