@@ -49,7 +49,9 @@ pub(crate) fn list_name(alloc: Global, name: &Name, list: &[Int]) -> Result<Name
 fn item_once(alloc: Global, value: Int) -> Result<Item, Memory>
     ensures { IfOk result (λ item. item ≡ item_of_value value) }
 {
-    let set = ValueSet::from_ranges(alloc, &[(value, value)])?;
+    let made = ValueSet::from_ranges(alloc, &[(value, value)])?;
+    // a copy has no room to spare, and there may be millions of them
+    let set = made.copy(alloc)?;
     Ok(Item {
         set,
         repeat: Repeat::Once,

@@ -14,6 +14,17 @@ fn bits_between(low: usize, high: usize) -> u64
     (u64::MAX << low) & (u64::MAX >> (BITS - high))
 }
 
+/// Marks all bits of the words from `first` up to `last`.
+fn mark_words(words: &mut [u64], first: usize, last: usize)
+    requires order { first ≤ last }
+    requires wide { last ≤ length words.old }
+    ensures { (n : ℕ) → marked_in words.new n ≡ (marked_in words.old n || (nat_le (64 * first) n && nat_lt n (64 * last))) }
+{
+    for i in first..last {
+        words[i] = bits_between(0, BITS);
+    }
+}
+
 /// Marks the bits from `from` up to `to`.
 pub(crate) fn mark(words: &mut [u64], from: usize, to: usize)
     requires order { from ≤ to }
@@ -24,8 +35,9 @@ pub(crate) fn mark(words: &mut [u64], from: usize, to: usize)
     while at < to {
         let word = at / BITS;
         if at % BITS == 0 && to - at >= BITS {
-            words[word] |= bits_between(0, BITS);
-            at += BITS;
+            let last = to / BITS;
+            mark_words(words, word, last);
+            at = last * BITS;
         } else {
             let end = at + (to - at).min(BITS - at % BITS);
             words[word] |= bits_between(at % BITS, end - word * BITS);

@@ -1,4 +1,4 @@
-use Rattle.std.proofs.Common.{◌≡◌, ℕ, ◌+◌, ◌-◌, ◌*◌, ◌/◌, ◌%◌, ◌<◌, ◌≤◌, ◌&&◌, leb, ltb, length, sym, ◌∙◌, arith}
+use Rattle.std.proofs.Common.{◌≡◌, ℕ, ◌+◌, ◌-◌, ◌*◌, ◌/◌, ◌%◌, ◌<◌, ◌≤◌, ◌&&◌, ◌||◌, leb, ltb, length, sym, ◌∙◌, arith}
 use Rattle.product_bits.specs.Marks.{has_bit, is_marked}
 use Rattle.product_bits.proofs.WordLemmas.{mark_word, mark_more, no_stretch}
 use Rattle.product_bits.proofs.words.mark.Goals as goal
@@ -21,21 +21,20 @@ loop-at-preserved c =
     record {
       low = omega (arith, c.loop-at.invariant.low);
       high = omega (arith, c.min.ensures);
-      marks = λ n. mark_more (is_marked words n) _ (is_marked c.args.words.now n) c.args.from at end n c.loop-at.invariant.low order (c.loop-at.invariant.marks n) (mark_word words at end c.bits_between-else-at-eq0.result inside order near c.bits_between-else-at-eq0.ensures n);
+      marks = λ n. mark_more (is_marked words n) _ (is_marked c.args.words.now n) c.args.from at end n c.loop-at.invariant.low order (c.loop-at.invariant.marks n) (mark_word words at end c.bits_between.result inside order near c.bits_between.ensures n);
     }
 
 pub loop-at-preserved-then-to-at-ge-BITS : goal.loop-at-preserved-then-to-at-ge-BITS
 loop-at-preserved-then-to-at-ge-BITS c =
     let words = c.loop-at.words in
     let at = c.loop-at.at in
-    let inside : at / 64 < length words = omega (arith, c.requires.wide, c.loop-at.auto.words, c.loop-at-test.true) in
-    let order : at < at + 64 = omega arith in
-    let near : at + 64 ≤ (at / 64 + 1) * 64 = omega (arith, c.if-at-eq0.true) in
-    let front : 0 ≡ at % 64 = sym c.if-at-eq0.true in
-    let whole : 64 ≡ at + 64 - at / 64 * 64 = omega (arith, c.if-at-eq0.true) in
-    let bits : (bit : ℕ) → has_bit c.bits_between.result bit ≡ (leb (at % 64) bit && ltb bit (at + 64 - at / 64 * 64)) = λ bit. c.bits_between.ensures bit ∙ (λ i. leb (front i) bit && ltb bit (whole i)) in
+    let last = c.args.to / 64 in
+    let order : at < last * 64 = omega (arith, c.if-at-eq0.true, c.if-to-at-ge-BITS.true, c.loop-at-test.true) in
+    let low : 64 * (at / 64) ≡ at = omega (arith, c.if-at-eq0.true) in
+    let high : 64 * last ≡ last * 64 = omega arith in
     record {
-      low = omega (arith, c.loop-at.invariant.low);
-      high = omega (arith, c.if-to-at-ge-BITS.true, c.loop-at-test.true);
-      marks = λ n. mark_more (is_marked words n) _ (is_marked c.args.words.now n) c.args.from at (at + 64) n c.loop-at.invariant.low order (c.loop-at.invariant.marks n) (mark_word words at (at + 64) c.bits_between.result inside order near bits n);
+      low = omega (arith, c.loop-at.invariant.low, order);
+      high = omega arith;
+      marks = λ n. mark_more (is_marked words n) _ (is_marked c.args.words.now n) c.args.from at (last * 64) n c.loop-at.invariant.low order (c.loop-at.invariant.marks n)
+          (c.mark_words.ensures n ∙ (λ i. is_marked words n || (leb (low i) n && ltb n (high i))));
     }
