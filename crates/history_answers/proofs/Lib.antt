@@ -1,0 +1,5 @@
+pub mod Worked
+pub mod Amounting
+pub mod Asked
+pub mod Changing
+pub mod Inside

@@ -1,0 +1,67 @@
+//! Whether a node is excluded.
+ghost use Rattle.std.specs.Prelude.{◌≡◌, ◌==◌, slice_index, false};
+ghost use Rattle.std.specs.List.{list_any};
+ghost use Rattle.std.specs.Option.{option_map_or};
+ghost use Rattle.exclusions.specs.Above.{some_lineage};
+ghost use Rattle.ucis_model.specs.Paths.{find_in};
+ghost use Rattle.cov_history.specs.Nodes.{parents_of};
+ghost use Rattle.cov_history.specs.Coverage as meant;
+
+use crate::bins::said;
+use cov_tree::Name;
+use ucis_model::Tree;
+
+/// Whether the path finds the node.
+fn finds(tree: &Tree, path: &Name, place: u32) -> bool
+    ensures { result ≡ option_map_or (λ m. m == place) (find_in tree.now path.now) false }
+{
+    match tree.find(path.as_slice()) {
+        Some(found) => found == place,
+        None => false,
+    }
+}
+
+/// Whether some path finds the node.
+fn is_out(tree: &Tree, out: &[Name], place: u32) -> bool
+    ensures { result ≡ meant.is_out tree.now out.now place }
+{
+    let mut rest = out;
+    while let Some((path, later)) = rest.split_first() {
+        if finds(tree, path, place) {
+            return true;
+        }
+        rest = later;
+    }
+    false
+}
+
+/// The node above one.
+fn parent(tree: &Tree, place: u32) -> u32
+    ensures { result ≡ slice_index (parents_of tree.now) place }
+{
+    said(tree.nodes(), place).parent
+}
+
+/// Whether the node or one of so many above it is out.
+fn is_out_up(tree: &Tree, out: &[Name], most: u64, place: u32) -> bool
+    ensures { result ≡ list_any (meant.is_out tree.now out.now) (some_lineage most (parents_of tree.now) place) }
+{
+    if most == 0 {
+        return false;
+    }
+    if is_out(tree, out, place) {
+        return true;
+    }
+    if place == 0 {
+        return false;
+    }
+    is_out_up(tree, out, most - 1, parent(tree, place))
+}
+
+/// Whether the node or one above it is out.
+#[tactic(auto, unfolding(cov_history::specs::Coverage::is_excluded))]
+pub(crate) fn is_excluded(tree: &Tree, out: &[Name], place: u32) -> bool
+    ensures { result ≡ meant.is_excluded tree.now out.now place }
+{
+    is_out_up(tree, out, u64::from(place) + 1, place)
+}

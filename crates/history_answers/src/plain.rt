@@ -1,0 +1,15 @@
+//! A history that is kept as it is.
+ghost use Rattle.std.specs.Prelude.{◌≡◌, true};
+ghost use Rattle.cov_history.specs.History.{is_legal};
+
+use cov_history::Entry;
+use design_data::Design;
+
+/// An opening design with a legal history, whose answers are worked out anew at each ask. Contracts see the design and the
+/// list of entries.
+#[derive(Drop)]
+pub struct PlainStore {
+    pub(crate) opening: Design,
+    pub(crate) entries: Vec<Entry>,
+    pub(crate) ghost legal: { is_legal opening entries.items ≡ true },
+}
