@@ -28,7 +28,7 @@ Usage:
                              callers at a time (16, or 1 to 256):
                              covd serve bus.sv --listen 127.0.0.1:7000
   covd --help                prints this text
-  covd --version             prints the version
+  covd --version             prints the version and the kit that proved it
 
 Files:
   DESIGN   a design text in SystemVerilog, at most 1,048,576 bytes
@@ -60,8 +60,11 @@ What is printed goes to standard output. The exit status is one of:
   14   the address can't be listened on, or no worker is left (serve)
 ";
 
-/// What `covd --version` prints.
-pub const VERSION: &str = "covd 0.1.0\n";
+/// What `covd --version` prints: the version, and the toolchain with which it is proved.
+pub const VERSION: &str = "\
+covd 0.1.0
+proved with rattle-kit-13b logic dac8208d650f15bf
+";
 
 /// The text that is asked for by the only word, which is `--help` or `--version`. The words don't have the program's
 /// name.

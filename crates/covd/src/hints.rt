@@ -11,6 +11,7 @@ use cov_parser::ParseFault;
 use covd_core::{CompileFault, LONGEST_DUMP, Refusal, Status, compile, refusal_of};
 use elab_base::{ElabFault, ElabKind};
 use std::alloc::{AllocError, Global};
+use std::io;
 use std::rt::Files;
 use text_place::{line_at, line_end};
 
@@ -173,7 +174,7 @@ fn words_hint(alloc: Global, words: &[String]) -> Result<String, AllocError> {
         Some("serve") =>
             "covd serve DESIGN --listen ADDR, or with --seats N behind it, N from 1 to 256",
         _ =>
-            "covd check, count, report, make, record, session or serve, and what each of them takes",
+            "covd check, count, report, make, record, session or serve, and what each of them takes, all in UTF-8",
     };
     format!(in alloc; "the words are: {form}; covd --help says more\n")
 }
@@ -297,4 +298,10 @@ pub fn print_hint<R: Files + Eprint + AllocGlobal>(rt: &R, words: &[String], sta
         // a hint that can't be printed is no failure of the command
         let _ = eprint!(rt; "{hint}");
     }
+}
+
+/// Prints why an address can't be listened on.
+pub fn print_address_hint<R: Eprint>(rt: &R, address: &str, error: &io::Error) {
+    // a hint that can't be printed is no failure of the command
+    let _ = eprint!(rt; "{address} can't be listened on: {error}; ADDR is HOST:PORT, as 127.0.0.1:7000\n");
 }

@@ -6,7 +6,7 @@ ghost use Rattle.merge_store.specs.Stores.{opening_of};
 ghost use Rattle.cov_server.specs.Shares.{HasSeat};
 ghost use Rattle.covd_core.specs.Starts.{IsServable};
 
-use crate::hints::print_hint;
+use crate::hints::{print_address_hint, print_hint};
 use cov_base::Pair;
 use cov_net::{FileShelf, StdSink, StdSource};
 use cov_server::Shared;
@@ -109,7 +109,10 @@ where
     let address = asked[said.listen as usize].as_str();
     let status = match TcpListener::bind(rt, address) {
         Ok(listener) => listen(rt, &listener, address, &shared, &mut seat, said.seats),
-        Err(_) => NO_WORKER,
+        Err(error) => {
+            print_address_hint(rt, address, &error);
+            NO_WORKER
+        }
     };
     shared.leave(seat);
     status

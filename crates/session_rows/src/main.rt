@@ -8,7 +8,16 @@
 //! bytes. Each line is written again; behind a run follow the body of each reply, of `last` their number and so many of
 //! the last, then the bytes that are no whole reply, and the status or how the session ended. The file `stdout` has the
 //! replies, written from the form and not by the program.
+//!
+//! Callers of one store behind its lock: a line `before` says that what is there is asked first, over the first seat, and
+//! is not shown; a line `held PLACE` that what is there is asked by a caller whose gate holds it at this place. A line `beside`
+//! runs this caller in one thread, and in another the caller who asks what is there now, once the first is held; then the
+//! first goes on. A line `meet` serves the held caller's bytes and then, once both seats have met, what is there now. A line
+//! `rounds COUNT` serves so many connections of a door that has one, which asks what is there.
 #![tactic(auto)]
+
+mod plays;
+mod seats;
 
 use cov_base::{MemLink, Memory, OpenGate, SureLink, SureShelf};
 use cov_proto::{FrameStep, next_frame};
@@ -16,18 +25,22 @@ use cov_session::{Alone, Ended, session};
 use covd_core::{Status, compile, run};
 use design_data::Design;
 use merge_store::Store;
+use seats::{beside_row, meet_row, rounds_row};
 use sha2::{Digest, Sha256};
 use std::alloc::Global;
 use std::io;
 use std::io::{Input, Print};
 use std::process::ExitCode;
-use std::sync::Arc;
+use std::sync::{Arc, Wait};
 use std::thread::Threads;
 
 /// The file of the design, and the bytes to read.
 #[derive(Drop)]
 struct Table {
     design: Vec<u8>,
+    before: Vec<u8>,
+    held: Vec<u8>,
+    place: u32,
     input: Vec<u8>,
 }
 
@@ -311,14 +324,31 @@ fn most_row<R: Threads + Sync + Print>(
 }
 
 /// Takes a row: a file, bytes, or a session, whose replies are written.
-fn row<R: Threads + Sync + Print>(
+fn row<R: Threads + Wait + Sync + Print>(
     rt: &R,
     alloc: Global,
     table: &mut Table,
     line: &str,
 ) -> io::Result<()> {
     println!(rt; "{line}")?;
+    match line {
+        "before" => {
+            table.before.clear();
+            table.before.append(&mut table.input)?;
+            return Ok(());
+        }
+        "beside" => return beside_row(rt, alloc, table),
+        "meet" => return meet_row(rt, alloc, table),
+        _ => {}
+    }
     match line.split_once(' ') {
+        Some(("held", place)) => {
+            table.place = count_of(place).unwrap_or(0);
+            table.held.clear();
+            table.held.append(&mut table.input)?;
+            Ok(())
+        }
+        Some(("rounds", count)) => rounds_row(rt, alloc, table, count),
         Some(("design", text)) => {
             table.design = Vec::from_slice(alloc, text.as_bytes())?;
             Ok(())
@@ -361,9 +391,12 @@ fn row<R: Threads + Sync + Print>(
 }
 
 /// Takes all rows.
-fn rows<R: Threads + Sync + Input + Print>(rt: &R, alloc: Global) -> io::Result<()> {
+fn rows<R: Threads + Wait + Sync + Input + Print>(rt: &R, alloc: Global) -> io::Result<()> {
     let mut table = Table {
         design: Vec::new(alloc),
+        before: Vec::new(alloc),
+        held: Vec::new(alloc),
+        place: 0,
         input: Vec::new(alloc),
     };
     for line in rt.lines(alloc) {
