@@ -1,3 +1,4 @@
 pub mod Tallied
 pub mod Summed
 pub mod Listed
+pub mod Chunks

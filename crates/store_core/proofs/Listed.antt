@@ -8,7 +8,7 @@ one_listed {A = A} {C = C} f g xs i x y done new below is before e same =
     ap (map g) e ∙ map-append g done (y ∷ []) ∙ (λ j. before j ++ same j ∷ [])
     ∙ sym (ap (map f) (take_more xs i x below ∙ ap (λ (z : A). take i xs ++ z ∷ []) (sym is)) ∙ map-append f (take i xs) (x ∷ []))
 
-take_all : {A : Type 0} (xs : List A) (i : ℕ) → length xs ≤ i → take i xs ≡ xs
+pub take_all : {A : Type 0} (xs : List A) (i : ℕ) → length xs ≤ i → take i xs ≡ xs
 take_all [] zero e = refl
 take_all [] (suc i) e = refl
 take_all (x ∷ xs) zero e = absurd (omega (arith, e))

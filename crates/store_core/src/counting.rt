@@ -9,6 +9,7 @@ ghost use Rattle.cov_history.specs.History.{bins_hit, most};
 ghost use Rattle.cov_history.specs.Sums.{all_hits};
 ghost use Rattle.store_core.specs.Rebins.{tallies_of as tallies_meant, AreSums};
 
+use crate::parts::tallies_in_threads;
 use cov_base::Memory;
 use cov_tree::List;
 use design_data::Design;
@@ -16,6 +17,7 @@ use record_codec::Record;
 use sampler::{Plan, bin_record_under};
 use std::alloc::Global;
 use std::sync::Arc;
+use std::thread::Threads;
 use tally::Tally;
 
 /// What records count under a design.
@@ -41,7 +43,7 @@ fn tally_of(
 }
 
 /// The tally of each record, in order.
-fn tallies_of(
+pub(crate) fn tallies_of(
     alloc: Global,
     plan: &Plan,
     design: &Design,
@@ -106,8 +108,9 @@ fn entries(tallies: &[Arc<Tally>]) -> u64
     tallies.iter().map(|tally| tally.rows().len() as u64).sum()
 }
 
-/// Counts the records under the design.
-pub(crate) fn count_records(
+/// Counts the records under the design, in as many threads as there are processors.
+pub(crate) fn count_records<R: Threads + Sync>(
+    rt: &R,
     alloc: Global,
     design: &Design,
     records: &[Arc<Record>],
@@ -118,7 +121,7 @@ pub(crate) fn count_records(
     ensures entries { IfOk result (λ counted. counted.entries ≡ sum_by (bins_hit design.now) (map arc_value records.now)) }
 {
     let plan = Plan::of(alloc, design)?;
-    let tallies = tallies_of(alloc, &plan, design, records)?;
+    let tallies = tallies_in_threads(rt, alloc, &plan, design, records)?;
     let counts = sums(alloc, design, records, tallies.as_slice())?;
     let entries = entries(tallies.as_slice());
     Ok(Counted {

@@ -6,6 +6,7 @@ mod asks;
 mod basis;
 mod counting;
 mod one_core;
+mod parts;
 mod rebinning;
 
 pub use asks::Ask;

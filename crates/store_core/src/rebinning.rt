@@ -127,7 +127,7 @@ impl Rebinned {
     }
 }
 
-/// Counts the records of a basis under the design of a text. The gate is passed at place 3 before and at place 4 after it.
+/// Counts the records of a basis under the design of a text, in as many threads as there are processors. The gate is passed at place 3 before and at place 4 after it.
 pub fn rebin<R: Threads + Sync, G: Gate>(
     rt: &R,
     alloc: Global,
@@ -138,9 +138,8 @@ pub fn rebin<R: Threads + Sync, G: Gate>(
     requires { length basis.now.records ≤ most Tests }
     ensures { IfOk result (λ r. IsRebinned compiled basis.now r) }
 {
-    let _ = rt;
     gate.pass(3);
-    let counted = count_records(alloc, compiled.design(), basis.records.as_slice())?;
+    let counted = count_records(rt, alloc, compiled.design(), basis.records.as_slice())?;
     gate.pass(4);
     let text = Name::of(alloc, compiled.text())?;
     let records = shared_records(alloc, basis.records.as_slice())?;

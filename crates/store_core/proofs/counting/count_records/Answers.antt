@@ -10,16 +10,16 @@ use Rattle.store_core.proofs.Summed.{sums_are, entries_are, entries_fit}
 use Rattle.store_core.proofs.counting.count_records.Goals as goal
 
 pub entries-entries-requires : goal.entries-entries-requires
-entries-entries-requires c =
+entries-entries-requires g c =
     let rs = map (λ (x : Arc Record Global). arc_value x) c.args.records.now in
     let few : length rs ≤ 4096 = omega (arith, c.requires, length-map c.args.records.now (λ (x : Arc Record Global). arc_value x)) in
     subst (λ (ts : List (Arc Tally Global)). sum_by (λ (x : Arc Tally Global). length (arc_value x)) ts < 2 ^ 64) (sym c.as_slice-2.ensures.value) (entries_fit c.args.design.now rs c.in_ok-tallies.tallies.items c.in_ok-tallies.ensures few)
 
 pub returns-clause-counts : goal.returns-clause-counts
-returns-clause-counts c = sums_are c.args.design.now (map (λ (x : Arc Record Global). arc_value x) c.args.records.now) c.in_ok-counts.counts.items c.in_ok-counts.ensures
+returns-clause-counts g c = sums_are c.args.design.now (map (λ (x : Arc Record Global). arc_value x) c.args.records.now) c.in_ok-counts.counts.items c.in_ok-counts.ensures
 
 pub returns-clause-entries : goal.returns-clause-entries
-returns-clause-entries c =
+returns-clause-entries g c =
     c.entries-entries.ensures
     ∙ ap (sum_by (λ (x : Arc Tally Global). length (arc_value x))) c.as_slice-2.ensures.value
     ∙ entries_are c.args.design.now (map (λ (x : Arc Record Global). arc_value x) c.args.records.now) c.in_ok-tallies.tallies.items c.in_ok-tallies.ensures
