@@ -1,8 +1,6 @@
 use denote.Param.Send.{sendable}
 use Rattle.std.proofs.Crossing.{crosses}
 use Rattle.cov_tree.proofs.list.List.TheSendSync as list
-use Rattle.record_codec.proofs.record.Record.TheSendSync as content
-use Rattle.tally.proofs.tally.Tally.TheSendSync as tally
 use Rattle.sampler.proofs.plan.Plan.TheSendSync as plan
 use Rattle.sampler.proofs.Designs.{design_sync}
 use Rattle.store_core.proofs.parts.parts_of.Goals as goal
