@@ -55,6 +55,8 @@ texts = {
     "listed": group("bit [19:0] v;", point("bins b = {" + many(lambda k: f"{2 * k},", LONGEST - 200) + "0};")),
     # transitions
     "lists": group("bit [7:0] v;", point("bins b[] = ([0:255] => [0:255]);")),
+    "long_lists": group("bit [15:0] v;", point("bins b[] = ([0:65535] => 1[*63]);")),
+    "lists_past_the_design": group("bit [15:0] v;", point("bins b[] = ([0:65535] => 1[*119]);")),
     "many_sequences": group("bit [15:0] v;", point("bins b[] = " + many(lambda k: "([0:65535]),", LONGEST - 200) + "(0);")),
     "repeated": group(
         "bit [7:0] v;", point(many(lambda k: f"bins {'b_' + digits(k)} = (1[*1:9] => [2:3][=1:9] => 4[->1:19]);", LONGEST - 200))

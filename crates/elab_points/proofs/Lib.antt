@@ -11,3 +11,4 @@ pub mod Named
 pub mod Cuts
 pub mod Clean
 pub mod Exact
+pub mod Unremoved

@@ -1,7 +1,7 @@
 //! What removal leaves of the bins of a point.
 ghost use Rattle.std.specs.Prelude.{◌≡◌, ◌++◌, OnOk, IfOk};
 ghost use Rattle.elab_base.specs.Gives.{Gives};
-ghost use Rattle.elab_points.specs.Left.{rule_left as left_of_rule, bin_left as left_of_bin, has_some as has_number, some_of, left_of, bins_left as left_of_bins, left_by, walked_left as left_of_walked, bins_of_point};
+ghost use Rattle.elab_points.specs.Left.{set_left as left_of_set, rule_left as left_of_rule, bin_left as left_of_bin, has_some as has_number, some_of, left_of, bins_left as left_of_bins, left_by, walked_left as left_of_walked, bins_of_point};
 ghost use Rattle.elab_points.specs.Automatic.{CanHaveBins};
 ghost use Rattle.elab_points.specs.Transitions.{transitions_left as left_of_transitions};
 
@@ -20,12 +20,27 @@ use elab_values::{Domain, Made, PointBins, Settings};
 use std::alloc::Global;
 use trans_seq::Seq;
 
+/// What is left of a set, with no room to spare: a point may have very many of them.
+#[tactic(auto, using(crate::proofs::Unremoved::none_to_lose, crate::proofs::Unremoved::none_removed))]
+fn set_left(alloc: Global, removed: &ValueSet, set: ValueSet) -> Result<ValueSet, Memory>
+    ensures { IfOk result (λ left. left ≡ left_of_set removed.now set) }
+{
+    if set.intervals().is_empty() {
+        return Ok(set);
+    }
+    if removed.intervals().is_empty() {
+        return Ok(set);
+    }
+    let left = set.minus(alloc, removed)?;
+    left.copy(alloc)
+}
+
 #[tactic(auto, unfolding(crate::specs::Left::rule_left))]
 fn rule_left(alloc: Global, removed: &ValueSet, rule: BinRule) -> Result<BinRule, Memory>
     ensures { IfOk result (λ left. left ≡ left_of_rule removed.now rule) }
 {
     match rule {
-        BinRule::Values(set) => Ok(BinRule::Values(set.minus(alloc, removed)?)),
+        BinRule::Values(set) => Ok(BinRule::Values(set_left(alloc, removed, set)?)),
         BinRule::Patterns(patterns) => Ok(BinRule::Patterns(patterns)),
         BinRule::Trans(seqs) => Ok(BinRule::Trans(seqs)),
         BinRule::Default => Ok(BinRule::Default),

@@ -201,7 +201,9 @@ fn single_bin(alloc: Global, head: &Head, value: Int) -> Result<Made, Memory>
 {
     let text = value.get().to_string(alloc)?;
     let name = indexed_name(alloc, &head.name, text.as_bytes())?;
-    let set = ValueSet::from_ranges(alloc, &[(value, value)])?;
+    let made = ValueSet::from_ranges(alloc, &[(value, value)])?;
+    // a copy has no room to spare, and there may be very many of them
+    let set = made.copy(alloc)?;
     bin_of(alloc, head, name, BinRule::Values(set))
 }
 
