@@ -7,3 +7,4 @@ pub mod Designs
 pub mod Stops
 pub mod Lawful
 pub mod Watching
+pub mod Scoped

@@ -11,3 +11,4 @@ pub mod Walk
 pub mod Elaboration
 pub mod Events
 pub mod Invariant
+pub mod Scopes

@@ -9,6 +9,7 @@ ghost use Rattle.elab_decls.specs.Laws.{AreDistinct, AreOfBase};
 ghost use Rattle.cov_design.specs.declared.known.Known.{Known};
 ghost use Rattle.cov_design.specs.Walk.{declared, nothing, walked};
 ghost use Rattle.cov_design.specs.Events.{event_levels};
+ghost use Rattle.cov_design.specs.Scopes.{HasDistinctItems};
 ghost use Rattle.cov_design.specs.Elaboration.{Parts, Elaborates};
 
 /// Where a walk over the first declarations of a text meets a fault, it is the fault of the whole text, whatever follows.
@@ -21,6 +22,12 @@ pub fn first_fault_stays()
 #[tactic(auto, using(crate::proofs::Lawful::walked_names))]
 pub fn names_are_distinct()
     ensures { (text : List Decl) (known : Known) → walked text ≡ Ok known → AreDistinct known.outside.names }
+{}
+
+/// The points and crosses of an instance, implicit points among them, have distinct names.
+#[tactic(auto, using(crate::proofs::Scoped::items_distinct))]
+pub fn names_of_items_are_distinct()
+    ensures { (text : List Decl) (known : Known) → walked text ≡ Ok known → AllByRecursion HasDistinctItems known.instances }
 {}
 
 /// Each constant of an enumeration is a number of its base.
