@@ -135,9 +135,11 @@ pub(crate) fn play<C: Core + Send, R: Threads + Wait + Sync>(
     let (asked, beside) = inputs;
     join(
         rt,
-        || requires { IsSync R.row × HasSeat C.base C.sound shared.now first }
+        ||
+            requires { IsSync R.row × HasSeat C.base C.sound shared.now first }
         { serve_held(rt, alloc, shared, first, asked, place, &signals) },
-        || requires { IsSync R.row × HasSeat C.base C.sound shared.now second }
+        ||
+            requires { IsSync R.row × HasSeat C.base C.sound shared.now second }
         { serve_beside(rt, alloc, shared, second, beside, &signals) },
     )
 }

@@ -12,11 +12,10 @@ use cov_workers::open;
 use design_data::Design;
 use merge_store::Store;
 use std::alloc::Global;
-use std::io;
 use std::io::Print;
-use std::mem;
 use std::sync::{Arc, Wait};
 use std::thread::Threads;
+use std::{io, mem};
 use turn_lock::Seat;
 
 /// A store behind its lock, and two seats.
@@ -85,7 +84,14 @@ pub(crate) fn beside_row<R: Threads + Wait + Sync + Print>(
     } = seated;
     let held = mem::replace(&mut table.held, Vec::new(alloc));
     let beside = mem::replace(&mut table.input, Vec::new(alloc));
-    let (held, beside) = play_store(rt, alloc, &shared, (first, second), (held, beside), table.place);
+    let (held, beside) = play_store(
+        rt,
+        alloc,
+        &shared,
+        (first, second),
+        (held, beside),
+        table.place,
+    );
     show_both(rt, alloc, &held, &beside)
 }
 
