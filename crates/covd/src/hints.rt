@@ -264,5 +264,7 @@ pub fn print_hint<R: Files + Eprint + AllocGlobal>(rt: &R, words: &[String], sta
 /// Prints why an address can't be listened on.
 pub fn print_address_hint<R: Eprint>(rt: &R, address: &str, error: &io::Error) {
     // a hint that can't be printed is no failure of the command
-    let _ = eprint!(rt; "{address} can't be listened on: {error}; ADDR is HOST:PORT, as 127.0.0.1:7000\n");
+    let _ = eprint!(rt;
+        "{address} can't be listened on: {error}; ADDR is HOST:PORT, as 127.0.0.1:7000\n"
+    );
 }

@@ -174,16 +174,16 @@ one_cut end end' base most bytes (b ∷ bs) (c ∷ cs) p q =
     let same = both b c bs cs p q in
     ⊎_elim
     (λ (x : (is_bye b ≡ true) × (bs ≡ [])). ⊎_elim
-      (λ (y : (is_bye c ≡ true) × (cs ≡ [])). ap (λ l. l ∷ bs) same.0 ∙ ap (λ l. c ∷ l) (x.1 ∙ sym y.1))
-      (λ (y : (is_bye c ≡ false) × Rest end' cs q.rest). differ (is_bye c) (sym (ap is_bye same.0) ∙ x.0) y.0)
-      (onward end' c cs q.rest q.orderly q.ends))
+    (λ (y : (is_bye c ≡ true) × (cs ≡ [])). ap (λ l. l ∷ bs) same.0 ∙ ap (λ l. c ∷ l) (x.1 ∙ sym y.1))
+    (λ (y : (is_bye c ≡ false) × Rest end' cs q.rest). differ (is_bye c) (sym (ap is_bye same.0) ∙ x.0) y.0)
+    (onward end' c cs q.rest q.orderly q.ends))
     (λ (x : (is_bye b ≡ false) × Rest end bs p.rest). ⊎_elim
-      (λ (y : (is_bye c ≡ true) × (cs ≡ [])). differ (is_bye c) y.0 (sym (ap is_bye same.0) ∙ x.0))
-      (λ (y : (is_bye c ≡ false) × Rest end' cs q.rest).
-        ap (λ l. l ∷ bs) same.0 ∙ ap (λ l. c ∷ l)
-          (one_cut end end' (base + length (frame b)) most ((frames bs ++ p.rest) ++ p.left) bs cs
-            (cut_on b bs p x.1)
-            (subst (λ (bytes : List ℕ). Cuts end' (base + length (frame b)) most bytes cs) (sym same.1)
-              (subst (λ (n : ℕ). Cuts end' (base + n) most ((frames cs ++ q.rest) ++ q.left) cs) (ap (λ b. length (frame b)) (sym same.0)) (cut_on c cs q y.1)))))
-      (onward end' c cs q.rest q.orderly q.ends))
+    (λ (y : (is_bye c ≡ true) × (cs ≡ [])). differ (is_bye c) y.0 (sym (ap is_bye same.0) ∙ x.0))
+    (λ (y : (is_bye c ≡ false) × Rest end' cs q.rest).
+    ap (λ l. l ∷ bs) same.0 ∙ ap (λ l. c ∷ l)
+    (one_cut end end' (base + length (frame b)) most ((frames bs ++ p.rest) ++ p.left) bs cs
+    (cut_on b bs p x.1)
+    (subst (λ (bytes : List ℕ). Cuts end' (base + length (frame b)) most bytes cs) (sym same.1)
+    (subst (λ (n : ℕ). Cuts end' (base + n) most ((frames cs ++ q.rest) ++ q.left) cs) (ap (λ b. length (frame b)) (sym same.0)) (cut_on c cs q y.1)))))
+    (onward end' c cs q.rest q.orderly q.ends))
     (onward end b bs p.rest p.orderly p.ends)

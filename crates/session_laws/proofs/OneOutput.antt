@@ -83,7 +83,7 @@ pub one_output : OneOutput
 one_output opening caller most h bytes out other w v =
     let same = one_cut w.end v.end 0 most bytes w.session.bodies v.session.bodies (cuts_of w) (cuts_of v) in
     let one = alone_is_one opening h w.after.seen v.after.seen caller (begins_at h) w.session.bodies w.session.replies v.session.replies w.session.entries v.session.entries
-      (alone_of w)
-      (subst (λ bodies. IsAlone opening h v.after.seen caller (begins_at h) bodies v.session.replies v.session.entries) (sym same) (alone_of v))
-      w.quiet v.quiet in
+    (alone_of w)
+    (subst (λ bodies. IsAlone opening h v.after.seen caller (begins_at h) bodies v.session.replies v.session.entries) (sym same) (alone_of v))
+    w.quiet v.quiet in
     out_of w ∙ (ap (λ replies. flat_map reply_frame replies) one.same_replies ∙ sym (out_of v))

@@ -9,14 +9,12 @@
 //! the last, then the bytes that are no whole reply, and the status or how the session ended. The file `stdout` has the
 //! replies, written from the form and not by the program.
 //!
-//! Callers of one store behind its lock: a line `before` says that what is there is asked first, over the first seat, and
-//! is not shown; a line `held PLACE` that what is there is asked by a caller whose gate holds it at this place. A line `beside`
-//! runs this caller in one thread, and in another the caller who asks what is there now, once the first is held; then the
-//! first goes on. A line `meet` serves the held caller's bytes and then, once both seats have met, what is there now. A line
-//! `rounds COUNT` serves so many connections of a door that has one, which asks what is there.
+//! Callers of one store behind its lock: a line `before` says that what is there is asked before the second seat is split
+//! off, and isn't shown; a line `first` that what is there is asked by the first caller. A line `meet` serves the first
+//! caller and then, once both seats have met, the second, who asks what is there now. A line `rounds COUNT` serves so many
+//! connections of a door that has one, which asks what is there.
 #![tactic(auto)]
 
-mod plays;
 mod seats;
 
 use cov_base::{MemLink, Memory, OpenGate, SureLink, SureShelf};
@@ -25,7 +23,7 @@ use cov_session::{Alone, Ended, session};
 use covd_core::{Status, compile, run};
 use design_data::Design;
 use merge_store::Store;
-use seats::{beside_row, meet_row, rounds_row};
+use seats::{meet_row, rounds_row};
 use sha2::{Digest, Sha256};
 use std::alloc::Global;
 use std::io;
@@ -39,8 +37,7 @@ use std::thread::Threads;
 struct Table {
     design: Vec<u8>,
     before: Vec<u8>,
-    held: Vec<u8>,
-    place: u32,
+    first: Vec<u8>,
     input: Vec<u8>,
 }
 
@@ -337,17 +334,15 @@ fn row<R: Threads + Wait + Sync + Print>(
             table.before.append(&mut table.input)?;
             return Ok(());
         }
-        "beside" => return beside_row(rt, alloc, table),
+        "first" => {
+            table.first.clear();
+            table.first.append(&mut table.input)?;
+            return Ok(());
+        }
         "meet" => return meet_row(rt, alloc, table),
         _ => {}
     }
     match line.split_once(' ') {
-        Some(("held", place)) => {
-            table.place = count_of(place).unwrap_or(0);
-            table.held.clear();
-            table.held.append(&mut table.input)?;
-            Ok(())
-        }
         Some(("rounds", count)) => rounds_row(rt, alloc, table, count),
         Some(("design", text)) => {
             table.design = Vec::from_slice(alloc, text.as_bytes())?;
@@ -395,8 +390,7 @@ fn rows<R: Threads + Wait + Sync + Input + Print>(rt: &R, alloc: Global) -> io::
     let mut table = Table {
         design: Vec::new(alloc),
         before: Vec::new(alloc),
-        held: Vec::new(alloc),
-        place: 0,
+        first: Vec::new(alloc),
         input: Vec::new(alloc),
     };
     for line in rt.lines(alloc) {

@@ -4,20 +4,22 @@ ghost use Rattle.merge_store.specs.Sound.{IsSound};
 ghost use Rattle.merge_store.specs.Stores.{opening_of};
 ghost use Rattle.cov_server.specs.Shares.{HasSeat};
 
-use crate::plays::{PIECE, Served, play, serve};
 use crate::{Table, design_of, ended_word, out_of_memory, show_replies};
 use cov_base::{MemDoor, MemLink, Memory, OpenGate, SureLink};
 use cov_server::{Shared, serve_connection, serve_rounds};
+use cov_session::Ended;
 use cov_workers::open;
 use design_data::Design;
 use merge_store::Store;
 use std::alloc::Global;
-use std::io;
 use std::io::Print;
-use std::mem;
 use std::sync::{Arc, Wait};
 use std::thread::Threads;
+use std::{io, mem};
 use turn_lock::Seat;
+
+/// The most bytes of one read or write.
+const PIECE: usize = 65_536;
 
 /// A store behind its lock, and two seats.
 struct Seated {
@@ -48,15 +50,16 @@ fn seated<R: Threads + Wait + Sync>(
 }
 
 /// What was written for a caller, and how its session ended.
-fn show<R: Print>(rt: &R, alloc: Global, who: &str, served: &Served) -> io::Result<()> {
+fn show<R: Print>(
+    rt: &R,
+    alloc: Global,
+    who: &str,
+    written: Option<&[u8]>,
+    ended: Ended,
+) -> io::Result<()> {
     println!(rt; "{who}")?;
-    show_replies(rt, alloc, served.link.contents().unwrap_or(b""))?;
-    println!(rt; "ended {}", ended_word(served.ended))
-}
-
-fn show_both<R: Print>(rt: &R, alloc: Global, held: &Served, beside: &Served) -> io::Result<()> {
-    show(rt, alloc, "held", held)?;
-    show(rt, alloc, "beside", beside)
+    show_replies(rt, alloc, written.unwrap_or(b""))?;
+    println!(rt; "ended {}", ended_word(ended))
 }
 
 /// The seats of a row, or none where there is no design or no memory.
@@ -69,42 +72,7 @@ fn seats_of<R: Threads + Wait + Sync>(rt: &R, alloc: Global, table: &mut Table) 
     seated(rt, alloc, design, before).ok()
 }
 
-/// Serves the held caller and the one beside it.
-pub(crate) fn beside_row<R: Threads + Wait + Sync + Print>(
-    rt: &R,
-    alloc: Global,
-    table: &mut Table,
-) -> io::Result<()> {
-    let Some(seated) = seats_of(rt, alloc, table) else {
-        return println!(rt; "no store");
-    };
-    let Seated {
-        shared,
-        first,
-        second,
-    } = seated;
-    let held = mem::replace(&mut table.held, Vec::new(alloc));
-    let beside = mem::replace(&mut table.input, Vec::new(alloc));
-    let (held, beside) = play_store(rt, alloc, &shared, (first, second), (held, beside), table.place);
-    show_both(rt, alloc, &held, &beside)
-}
-
-/// `play` over a store.
-fn play_store<R: Threads + Wait + Sync>(
-    rt: &R,
-    alloc: Global,
-    shared: &Shared<Store>,
-    seats: (Seat<Store>, Seat<Store>),
-    inputs: (Vec<u8>, Vec<u8>),
-    place: u32,
-) -> (Served, Served)
-    requires first { HasSeat opening_of IsSound shared.now seats.0 }
-    requires second { HasSeat opening_of IsSound shared.now seats.1 }
-{
-    play(rt, alloc, shared, seats, inputs, place)
-}
-
-/// Serves the held caller, lets both seats meet, and serves the other.
+/// Serves the first caller, lets both seats meet, and serves the second.
 pub(crate) fn meet_row<R: Threads + Wait + Sync + Print>(
     rt: &R,
     alloc: Global,
@@ -118,14 +86,17 @@ pub(crate) fn meet_row<R: Threads + Wait + Sync + Print>(
         first,
         mut second,
     } = seated;
-    let held = mem::replace(&mut table.held, Vec::new(alloc));
-    let mut link = SureLink::new(alloc, held, PIECE);
+    let asked = mem::replace(&mut table.first, Vec::new(alloc));
+    let mut link = SureLink::new(alloc, asked, PIECE);
     let (mut first, ended) = serve_connection(rt, alloc, &shared, first, &mut link, &OpenGate);
     shared.meet(&mut first, &mut second);
     shared.leave(first);
-    let beside = mem::replace(&mut table.input, Vec::new(alloc));
-    let beside = serve(rt, alloc, &shared, second, beside, &OpenGate);
-    show_both(rt, alloc, &Served { link, ended }, &beside)
+    show(rt, alloc, "first", link.contents(), ended)?;
+    let asked = mem::replace(&mut table.input, Vec::new(alloc));
+    let mut link = SureLink::new(alloc, asked, PIECE);
+    let (second, ended) = serve_connection(rt, alloc, &shared, second, &mut link, &OpenGate);
+    shared.leave(second);
+    show(rt, alloc, "second", link.contents(), ended)
 }
 
 /// How many connections were handed out of a door that has one, and how much of the history the seat has seen then.
