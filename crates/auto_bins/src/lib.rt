@@ -1,3 +1,5 @@
+//! Street: meaning.
+//!
 //! The automatic bins of a coverage point that declares none (IEEE 1800-2017, 19.5.3).
 #![tactic(auto)]
 

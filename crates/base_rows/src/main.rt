@@ -1,3 +1,5 @@
+//! Street: worked rows.
+//!
 //! Worked rows of `cov_base`, `cov_serve` and `text_place`: each line of standard input is a call with its arguments, and is written again with its
 //! answer behind ` =`. The file `stdout` has the answers, written by hand.
 #![tactic(auto)]

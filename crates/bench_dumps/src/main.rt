@@ -1,3 +1,5 @@
+//! Street: measurements.
+//!
 //! Records of a dump: `bench_dumps DESIGN DUMP SCOPE READS RECORDS` reads the dump so many times, makes its record so many
 //! times, and prints how many events it has. Its time and memory are taken from outside.
 #![tactic(auto)]

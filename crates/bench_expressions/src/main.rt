@@ -1,3 +1,5 @@
+//! Street: measurements.
+//!
 //! Values of expressions: `bench_expressions ROWS` evaluates three guards on so many rows of signals, and behind each
 //! guard that is true a point. It prints a checksum of the values, and how many evaluations there were. Its time is taken
 //! from outside.

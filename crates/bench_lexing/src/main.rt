@@ -1,3 +1,5 @@
+//! Street: measurements.
+//!
 //! Tokens of a file: `bench_lexing FILE ROUNDS` lexes the file that many times, and prints how many tokens it has.
 //! Its time is taken from outside.
 #![tactic(auto)]

@@ -1,3 +1,5 @@
+//! Street: measurements.
+//!
 //! A long reply: `bench_messages ROWS WRITES READS` writes a reply of so many rows that many times and reads its body that
 //! many times. It prints how many bytes its frame has, and a sum of them. Its time is taken from outside.
 #![tactic(auto)]

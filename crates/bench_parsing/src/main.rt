@@ -1,3 +1,5 @@
+//! Street: measurements.
+//!
 //! A design text of a file: `bench_parsing FILE LEXES PARSES` lexes the file and parses its tokens that many times, and prints how
 //! many tokens and how many declarations it has. Its time is taken from outside.
 #![tactic(auto)]

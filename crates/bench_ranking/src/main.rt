@@ -1,3 +1,5 @@
+//! Street: measurements.
+//!
 //! Rankings of made-up tests: `bench_ranking TESTS ENTRIES SPAN WANT ROUNDS` makes so many tests with so many entries
 //! each, one in each SPAN bins, ranks them so many times where WANT hits of each bin are wanted, and prints how many
 //! tests the ranking has and a sum of its rows. Its time is taken from outside.

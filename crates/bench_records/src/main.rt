@@ -1,3 +1,5 @@
+//! Street: measurements.
+//!
 //! Records of a file: `bench_records FILE READS WRITES` decodes the file and encodes its record that many times, and
 //! prints how many events it has. Its time is taken from outside.
 #![tactic(auto)]

@@ -1,3 +1,5 @@
+//! Street: measurements.
+//!
 //! Records under designs: `bench_sampling DESIGN RECORD WORD ROUNDS` compiles the design text, decodes the record, and
 //! does so many times what the word says. It prints how many bins there are, and of the counts the sum of each times
 //! its bin's number and one. Its time is taken from outside.

@@ -1,3 +1,5 @@
+//! Street: measurements.
+//!
 //! Answers of automata: `bench_transitions SHAPE SAMPLES` pushes that many samples through one of two automata, and
 //! prints how many answers are true, and how many runs there are at the end. Its time is taken from outside.
 //!

@@ -1,3 +1,5 @@
+//! Street: measurements.
+//!
 //! Turns at one lock by many threads: `bench_turns THREADS TURNS` takes and gives that many turns in each of the
 //! threads, and prints how many turns there were. Its time is taken from outside.
 #![tactic(auto)]

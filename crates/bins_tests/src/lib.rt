@@ -1,3 +1,5 @@
+//! Street: worked rows.
+//!
 //! Worked rows of `auto_bins`, `value_bins`, `wildcard_bins`, `cross_select`, `name_map`, as tests of what these crates hand on.
 #![tactic(auto)]
 

@@ -1,3 +1,5 @@
+//! Street: meaning.
+//!
 //! Expressions and their values (IEEE 1800-2017, clause 11): types, names with what they stand for, and evaluation.
 #![tactic(auto)]
 

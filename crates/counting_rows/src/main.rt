@@ -1,3 +1,5 @@
+//! Street: worked rows.
+//!
 //! Worked rows of `cov_counting`: each line of standard input is a design text of one instance, ` # `, and samples. It is
 //! written again with the count of each of the design's bins behind ` = `, or with `no design` where the text is none.
 //! The file `stdout` has the counts, written by hand after IEEE 1800-2017, clause 19.

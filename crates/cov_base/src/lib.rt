@@ -1,3 +1,5 @@
+//! Street: ground.
+//!
 //! Numbers and sets of numbers; and what reaches outside, as traits, and each of them in memory.
 //!
 //! A trait's ghost members say what an object tells (its bytes or files, or nothing of them) and how often it has

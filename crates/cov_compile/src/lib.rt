@@ -1,3 +1,5 @@
+//! Street: meaning.
+//!
 //! From the bytes of a design text to its design: tokens, syntax tree, elaboration.
 #![tactic(auto)]
 

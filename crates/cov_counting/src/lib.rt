@@ -1,3 +1,5 @@
+//! Street: sampling.
+//!
 //! What counting means (IEEE 1800-2017, 19.3 to 19.6): when each bin of a design is hit in a record, the tally of both,
 //! its laws, and a plain program that makes it by definition.
 #![tactic(auto)]

@@ -1,3 +1,5 @@
+//! Street: text.
+//!
 //! The grammar of a design text: kinds of tokens, its rules as definitions, and the facts about them that a parser is proved with.
 #![tactic(auto)]
 

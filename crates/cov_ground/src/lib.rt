@@ -1,3 +1,5 @@
+//! Street: ground.
+//!
 //! What all crates share: want of memory, and the limits of the product with their names.
 #![tactic(auto)]
 

@@ -1,3 +1,5 @@
+//! Street: nodes and answers.
+//!
 //! What a store answers: histories of what its callers changed, and the answer to each ask at a history, as definitions
 //! with their laws.
 #![tactic(auto)]

@@ -1,3 +1,5 @@
+//! Street: text.
+//!
 //! Tokens of a design text, and what integer literals mean.
 #![tactic(auto)]
 

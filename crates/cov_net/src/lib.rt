@@ -1,3 +1,5 @@
+//! Street: program.
+//!
 //! The trusted edge: files of the system, the standard streams and the network as the traits of `cov_base`. They tell no
 //! content, and count their failures.
 #![tactic(auto)]

@@ -1,3 +1,5 @@
+//! Street: text.
+//!
 //! The syntax tree of a design text, or the exact place of its first fault.
 #![tactic(auto)]
 

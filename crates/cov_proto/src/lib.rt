@@ -1,3 +1,5 @@
+//! Street: wire.
+//!
 //! Frames and messages between a store and those that speak with it.
 #![tactic(auto)]
 

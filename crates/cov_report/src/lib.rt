@@ -1,3 +1,5 @@
+//! Street: store.
+//!
 //! The text of a report: the tests of a store, its coverage, its illegal bins and its ranking.
 #![tactic(auto)]
 

@@ -1,3 +1,5 @@
+//! Street: program.
+//!
 //! The words of `covd serve`.
 #![tactic(auto)]
 

@@ -1,3 +1,5 @@
+//! Street: threads.
+//!
 //! One history behind a lock, served to many callers: each connection is a session over the port of a seat.
 #![tactic(auto)]
 

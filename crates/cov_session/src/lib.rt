@@ -1,3 +1,5 @@
+//! Street: wire.
+//!
 //! A session: the frames of a stream answered one after the other, each request by the port of one caller.
 #![tactic(auto)]
 

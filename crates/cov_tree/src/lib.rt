@@ -1,3 +1,5 @@
+//! Street: ground.
+//!
 //! Names, lists, literals and the syntax tree of a design text, as the other crates keep them:
 //! contracts see a `Name` as a list of bytes, a `List` as a list, and a `Boxed` or a `Shared` as the value in it, so that a
 //! tree is plain data.

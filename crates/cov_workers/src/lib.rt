@@ -1,3 +1,5 @@
+//! Street: threads.
+//!
 //! A store behind a lock, and the workers of its server: each serves the connections of one listener, one after another,
 //! over a seat of its own.
 #![tactic(auto)]

@@ -1,3 +1,5 @@
+//! Street: program.
+//!
 //! The program `covd`: its words, files and standard streams.
 #![tactic(auto)]
 

@@ -1,3 +1,5 @@
+//! Street: program.
+//!
 //! What the program does with its words: `run` over any shelf of files and any sink.
 #![tactic(auto)]
 

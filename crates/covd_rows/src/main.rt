@@ -1,3 +1,5 @@
+//! Street: worked rows.
+//!
 //! Worked rows of whole commands. A line `design TEXT` makes the file `d`, where `\n` stands for a newline; a line
 //! `record HEX` makes the file `r`, and a line `with FROM TO HEX` that record with other bytes in place of those from
 //! FROM up to TO. A line `as NAME` keeps the record as the file NAME too, and a line `blanks NAME COUNT` keeps a file of so

@@ -1,3 +1,5 @@
+//! Street: worked rows.
+//!
 //! Whole commands over real files: each line of standard input is the words of a `covd`, which is run. Its text
 //! follows, and a line with its status. The program ends with the last of these.
 #![tactic(auto)]

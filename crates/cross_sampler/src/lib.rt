@@ -1,3 +1,5 @@
+//! Street: sampling.
+//!
 //! Counting the bins of a cross along the samples of its instance (IEEE 1800-2017, 19.6), from the bins of its points
 //! that are hit at each.
 #![tactic(auto)]

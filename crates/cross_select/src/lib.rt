@@ -1,3 +1,5 @@
+//! Street: meaning.
+//!
 //! Which products of a cross a selection selects, and how many products a cross has.
 #![tactic(auto)]
 

@@ -1,3 +1,5 @@
+//! Street: meaning.
+//!
 //! A design as data: what is sampled, and which bins are counted (IEEE 1800-2017, clause 19). Contracts see each type
 //! as the value itself.
 #![tactic(auto)]

@@ -1,3 +1,5 @@
+//! Street: worked rows.
+//!
 //! Worked rows of `read_dump`: each line of standard input is a dump, and is written again behind its answer. A fault is its
 //! kind and place. A dump is its variables, each as SCOPE NAME WIDTH CODE, with ! where it is a bit or a word, and its steps,
 //! each as #TIME with its changes, CODE VALUE LOW. The file `stdout` has the answers, written by hand.

@@ -1,3 +1,5 @@
+//! Street: worked rows.
+//!
 //! Tests of what threads and the outside show: rankings (`rank_report`), turns (`turn_lock`), and files, streams and
 //! connections (`cov_net`).
 #![tactic(auto)]

@@ -1,3 +1,5 @@
+//! Street: meaning.
+//!
 //! The ground of elaboration: faults with their kinds and places, steps that stop at the first fault, names of one scope,
 //! and expressions where they stand (IEEE 1800-2017, clauses 11 and 19).
 #![tactic(auto)]

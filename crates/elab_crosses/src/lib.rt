@@ -1,3 +1,5 @@
+//! Street: meaning.
+//!
 //! Crosses: the points that they name, their declared bins with selections, and their automatic bins (IEEE 1800-2017,
 //! 19.6).
 #![tactic(auto)]

@@ -1,3 +1,5 @@
+//! Street: meaning.
+//!
 //! What stands round the items of a design: types and enumerations (IEEE 1800-2017, 6.19), variables, the formals of an
 //! instance and the arguments of its sample function (19.3, 19.8.1), and options (19.7). One definition and one function
 //! each, in the same order of checks.

@@ -1,3 +1,5 @@
+//! Street: meaning.
+//!
 //! The bins of a design are numbered in the order of its nodes: by groups, in each group by its instances, and in each
 //! instance by its items.
 #![tactic(auto)]

@@ -1,3 +1,5 @@
+//! Street: meaning.
+//!
 //! The bins of a coverpoint: as they are declared, automatic ones, those of `default`, and what removal leaves of them
 //! (IEEE 1800-2017, 19.5).
 #![tactic(auto)]

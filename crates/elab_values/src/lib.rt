@@ -1,3 +1,5 @@
+//! Street: meaning.
+//!
 //! What the bins of coverpoints and crosses are made of: the numbers of a point, range lists of them, and bins on the way
 //! (IEEE 1800-2017, 19.5.1, 19.5.4 and 19.5.7).
 #![tactic(auto)]

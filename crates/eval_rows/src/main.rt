@@ -1,3 +1,5 @@
+//! Street: worked rows.
+//!
 //! Worked rows of `const_eval`: each line of standard input is an expression in postfix words, and is written again with
 //! its value behind ` = `, `x` where that is unknown, or with its first fault, whose place is the number of a word. The
 //! file `stdout` has the answers, written by hand after IEEE 1800-2017, clause 11.

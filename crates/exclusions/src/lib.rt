@@ -1,3 +1,5 @@
+//! Street: store.
+//!
 //! Which nodes of a tree are excluded.
 #![tactic(auto)]
 

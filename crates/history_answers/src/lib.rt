@@ -1,3 +1,5 @@
+//! Street: nodes and answers.
+//!
 //! The answer to every ask at a history, worked out anew from its definition: each test is counted again bin by bin, so it
 //! serves small histories alone, and what keeps a history otherwise can be compared with it.
 #![tactic(auto)]

@@ -1,3 +1,5 @@
+//! Street: store.
+//!
 //! A store: tests that were admitted and nodes that are out of coverage, as one history over a design that may be revised, with
 //! running sums.
 #![tactic(auto)]

@@ -1,3 +1,5 @@
+//! Street: ground.
+//!
 //! Names with what they stand for: the scopes of a design.
 #![tactic(auto)]
 

@@ -1,3 +1,5 @@
+//! Street: worked rows.
+//!
 //! Worked rows of `cov_parser`: each line of standard input is a design text, in which a unit between two backquotes, with
 //! a number before it, stands so many times. It is written again, and behind it its tree, or its first fault with its
 //! place. Of a text with such a unit only that it has a tree. The file `stdout` has the answers, worked out by hand.

@@ -1,3 +1,5 @@
+//! Street: store.
+//!
 //! Percentages of coverage in millionths, rounded down.
 #![tactic(auto)]
 

@@ -1,3 +1,5 @@
+//! Street: sampling.
+//!
 //! Counting the bins of a point along the samples of its instance (IEEE 1800-2017, 19.5): each sample is taken once,
 //! and no trace is kept.
 #![tactic(auto)]

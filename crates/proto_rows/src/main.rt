@@ -1,3 +1,5 @@
+//! Street: worked rows.
+//!
 //! Worked rows of `cov_proto`: each line of standard input is a call with its arguments, bytes as hexadecimal digits, and is written
 //! again with its answer behind ` =`. A body that is a message is read, and its frame written; of another the place of its first fault
 //! is told. The file `stdout` has the answers, written from the form and not by the program.

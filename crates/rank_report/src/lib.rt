@@ -1,3 +1,5 @@
+//! Street: store.
+//!
 //! Which tests add most to the coverage that is wanted, in greedy order.
 #![tactic(auto)]
 

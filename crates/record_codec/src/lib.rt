@@ -1,3 +1,5 @@
+//! Street: sampling.
+//!
 //! Records of a simulation as bytes: which signals were set to what, and when each instance was sampled.
 #![tactic(auto)]
 

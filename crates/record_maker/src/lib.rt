@@ -1,3 +1,5 @@
+//! Street: sampling.
+//!
 //! Records of tests that a generator makes: values for the signals of a design, drawn one after the other.
 #![tactic(auto)]
 

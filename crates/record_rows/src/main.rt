@@ -1,3 +1,5 @@
+//! Street: worked rows.
+//!
 //! Worked rows of the command `record`. A line `design TEXT` makes the file `d` and a line `dump TEXT` the file `v`, where
 //! `\n` stands for a newline; a line `files NAME` takes for them NAME.cov and NAME.vcd, which a simulator wrote. Every
 //! other line is the words of a `covd` over these files; behind it follow its text and its status. What a command behind

@@ -1,3 +1,5 @@
+//! Street: sampling.
+//!
 //! Records under designs: whether a record's tables are those of a design, and how often each bin of the design is hit in
 //! the record.
 #![tactic(auto)]

@@ -1,3 +1,5 @@
+//! Street: sampling.
+//!
 //! Records binned in several threads: each takes some of the items over all events, and for every such split the counts
 //! are the same.
 #![tactic(auto)]

@@ -1,3 +1,5 @@
+//! Street: wire.
+//!
 //! Laws of sessions. These functions do nothing: each is called for what its contract says.
 #![tactic(auto)]
 

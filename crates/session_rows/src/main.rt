@@ -1,3 +1,5 @@
+//! Street: worked rows.
+//!
 //! Worked rows of sessions. A line `design TEXT` makes the file `d`. A line `frame HEX` adds a frame with this body to what
 //! the session is to read, and a line `bytes HEX` adds bytes as they are. A line `uploads COUNT BEFORE AFTER` adds uploads of
 //! records with the ids t1, t2 and so on, which have these bytes before and after the id. A line `zeros AT COUNT` adds a

@@ -1,3 +1,5 @@
+//! Street: wire.
+//!
 //! What a session answers to each body: the port through which it takes turns, and the table of its replies.
 #![tactic(auto)]
 

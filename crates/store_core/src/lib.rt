@@ -1,3 +1,5 @@
+//! Street: store.
+//!
 //! What serves asks over one history: the asks as callers make them, a basis, a text for which the tests of a basis are
 //! counted anew, and the trait.
 #![tactic(auto)]

@@ -1,3 +1,5 @@
+//! Street: worked rows.
+//!
 //! Worked rows of `record_codec`, `percent`, `exclusions`, `tally`, `upload_stage`, `cov_history`, as tests of what these crates hand on.
 #![tactic(auto)]
 

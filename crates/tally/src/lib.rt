@@ -1,3 +1,5 @@
+//! Street: sampling.
+//!
 //! The counts of one test: a row for each bin that was hit.
 #![tactic(auto)]
 

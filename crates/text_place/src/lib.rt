@@ -1,3 +1,5 @@
+//! Street: program.
+//!
 //! Texts for a person: help, and hints on faults by their line, with where a byte of a text stands as editors say it.
 #![tactic(auto)]
 

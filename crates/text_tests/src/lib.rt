@@ -1,3 +1,5 @@
+//! Street: worked rows.
+//!
 //! Worked rows of `cov_tree`, `cov_lexer`, `cov_options`, as tests of what these crates hand on.
 #![tactic(auto)]
 

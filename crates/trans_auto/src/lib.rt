@@ -1,3 +1,5 @@
+//! Street: meaning.
+//!
 //! Automata of transition bins: whether a window that ends at the latest sample counts (IEEE 1800-2017, 19.5.2). The
 //! bins of one point share the sequences that take windows away from them.
 #![tactic(auto)]

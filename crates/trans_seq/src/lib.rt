@@ -1,3 +1,5 @@
+//! Street: meaning.
+//!
 //! Transition sequences (IEEE 1800-2017, 19.5.2): their lists of samples, by definition and by search.
 #![tactic(auto)]
 

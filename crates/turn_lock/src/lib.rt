@@ -1,3 +1,5 @@
+//! Street: threads.
+//!
 //! One history for all callers: a lock whose turns are drawn as tickets.
 //!
 //! The lock keeps a `cov_base::Book`. Each caller has a `Seat`, with a number of its own and the history that it has

@@ -1,3 +1,5 @@
+//! Street: nodes and answers.
+//!
 //! The nodes of a design with their paths, named after the UCIS data model, and what a store is asked and answers about
 //! them (IEEE 1800-2017, clause 19).
 #![tactic(auto)]

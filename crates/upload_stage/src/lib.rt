@@ -1,3 +1,5 @@
+//! Street: wire.
+//!
 //! An upload gathered from pieces in any order, and handed over only whole and with the digest that was announced.
 #![tactic(auto)]
 

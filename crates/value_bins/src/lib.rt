@@ -1,3 +1,5 @@
+//! Street: meaning.
+//!
 //! Bins of listed values (IEEE 1800-2017, 19.5.1): the numbers of a range list spread over so many bins, one bin for
 //! each, or filtered.
 #![tactic(auto)]

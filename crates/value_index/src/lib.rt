@@ -1,3 +1,5 @@
+//! Street: sampling.
+//!
 //! An index from values to the sets that have them: a table of buckets, the cuts of the sets, and for each segment
 //! between two cuts the row of its sets. A look-up takes no memory and doesn't walk the sets.
 #![tactic(auto)]

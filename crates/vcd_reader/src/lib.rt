@@ -1,3 +1,5 @@
+//! Street: sampling.
+//!
 //! Records from value change dumps (IEEE 1800-2017, 21.7).
 #![tactic(auto)]
 

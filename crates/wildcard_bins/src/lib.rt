@@ -1,3 +1,5 @@
+//! Street: meaning.
+//!
 //! The numbers that a literal with wildcard digits stands for (IEEE 1800-2017, 19.5.4).
 #![tactic(auto)]
 
