@@ -29,7 +29,7 @@ struct Seated {
 }
 
 /// A fresh store of this design, over whose first seat this was asked before the second was split off.
-fn seated<R: Threads + Wait + Sync>(
+fn open_seats<R: Threads + Wait + Sync>(
     rt: &R,
     alloc: Global,
     design: Arc<Design>,
@@ -69,7 +69,7 @@ fn seats_of<R: Threads + Wait + Sync>(rt: &R, alloc: Global, table: &mut Table) 
 {
     let design = design_of(alloc, &table.design)?;
     let before = mem::replace(&mut table.before, Vec::new(alloc));
-    seated(rt, alloc, design, before).ok()
+    open_seats(rt, alloc, design, before).ok()
 }
 
 /// What was written for a caller, and how its session ended.
