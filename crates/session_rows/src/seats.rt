@@ -29,7 +29,7 @@ struct Seated {
 }
 
 /// A fresh store of this design, over whose first seat this was asked before the second was split off.
-fn seated<R: Threads + Wait + Sync>(
+fn open_seats<R: Threads + Wait + Sync>(
     rt: &R,
     alloc: Global,
     design: Arc<Design>,
@@ -69,44 +69,87 @@ fn seats_of<R: Threads + Wait + Sync>(rt: &R, alloc: Global, table: &mut Table) 
 {
     let design = design_of(alloc, &table.design)?;
     let before = mem::replace(&mut table.before, Vec::new(alloc));
-    seated(rt, alloc, design, before).ok()
+    open_seats(rt, alloc, design, before).ok()
+}
+
+/// What was written for a caller, and how its session ended.
+#[derive(Drop)]
+struct Served {
+    link: SureLink,
+    ended: Ended,
+}
+
+/// Serves a caller, who asks this.
+fn serve<R: Threads + Wait + Sync>(
+    rt: &R,
+    alloc: Global,
+    shared: &Shared<Store>,
+    seat: Seat<Store>,
+    asked: Vec<u8>,
+) -> (Seat<Store>, Served)
+    requires { HasSeat opening_of IsSound shared.now seat }
+    ensures { HasSeat opening_of IsSound shared.now result.0 }
+{
+    let mut link = SureLink::new(alloc, asked, PIECE);
+    let (seat, ended) = serve_connection(rt, alloc, shared, seat, &mut link, &OpenGate);
+    (seat, Served { link, ended })
 }
 
 /// Serves the first caller, lets both seats meet, and serves the second.
-pub(crate) fn meet_row<R: Threads + Wait + Sync + Print>(
+fn serve_both<R: Threads + Wait + Sync>(
     rt: &R,
     alloc: Global,
-    table: &mut Table,
-) -> io::Result<()> {
-    let Some(seated) = seats_of(rt, alloc, table) else {
-        return println!(rt; "no store");
-    };
+    seated: Seated,
+    first_asked: Vec<u8>,
+    second_asked: Vec<u8>,
+) -> (Served, Served)
+    requires first { HasSeat opening_of IsSound seated.shared seated.first }
+    requires second { HasSeat opening_of IsSound seated.shared seated.second }
+{
     let Seated {
         shared,
         first,
         mut second,
     } = seated;
-    let asked = mem::replace(&mut table.first, Vec::new(alloc));
-    let mut link = SureLink::new(alloc, asked, PIECE);
-    let (mut first, ended) = serve_connection(rt, alloc, &shared, first, &mut link, &OpenGate);
+    let (mut first, one) = serve(rt, alloc, &shared, first, first_asked);
     shared.meet(&mut first, &mut second);
     shared.leave(first);
-    show(rt, alloc, "first", link.contents(), ended)?;
-    let asked = mem::replace(&mut table.input, Vec::new(alloc));
-    let mut link = SureLink::new(alloc, asked, PIECE);
-    let (second, ended) = serve_connection(rt, alloc, &shared, second, &mut link, &OpenGate);
+    let (second, other) = serve(rt, alloc, &shared, second, second_asked);
     shared.leave(second);
-    show(rt, alloc, "second", link.contents(), ended)
+    (one, other)
 }
 
-/// How many connections were handed out of a door that has one, and how much of the history the seat has seen then.
+/// Serves both callers, and shows what each was answered.
+pub(crate) fn meet_row<R: Threads + Wait + Sync + Print>(
+    rt: &R,
+    alloc: Global,
+    table: &mut Table,
+) -> io::Result<()> {
+    let first = mem::replace(&mut table.first, Vec::new(alloc));
+    let second = mem::replace(&mut table.input, Vec::new(alloc));
+    let Some(seated) = seats_of(rt, alloc, table) else {
+        return println!(rt; "no store");
+    };
+    let (first, second) = serve_both(rt, alloc, seated, first, second);
+    show(rt, alloc, "first", first.link.contents(), first.ended)?;
+    show(rt, alloc, "second", second.link.contents(), second.ended)
+}
+
+/// A door that has one connection, which asks this.
+fn door_of(alloc: Global, asked: Vec<u8>) -> Result<MemDoor, Memory> {
+    let mut links = Vec::new(alloc);
+    links.push(MemLink::new(alloc, asked, PIECE, Vec::new(alloc), Vec::new(alloc)))?;
+    Ok(MemDoor::new(links, Vec::new(alloc)))
+}
+
+/// How many connections of a door were handed out, and how much of the history the seat has seen then.
 fn serve_door<R: Threads + Wait + Sync>(
     rt: &R,
     alloc: Global,
     seated: Seated,
-    input: Vec<u8>,
+    door: &mut MemDoor,
     rounds: u64,
-) -> Result<(u64, u64), Memory>
+) -> (u64, u64)
     requires { HasSeat opening_of IsSound seated.shared seated.first }
 {
     let Seated {
@@ -115,13 +158,10 @@ fn serve_door<R: Threads + Wait + Sync>(
         second,
     } = seated;
     shared.leave(second);
-    let mut links = Vec::new(alloc);
-    links.push(MemLink::new(alloc, input, PIECE, Vec::new(alloc), Vec::new(alloc)))?;
-    let mut door = MemDoor::new(links, Vec::new(alloc));
-    let (seat, handed) = serve_rounds(rt, alloc, &shared, first, &mut door, &OpenGate, rounds);
+    let (seat, handed) = serve_rounds(rt, alloc, &shared, first, door, &OpenGate, rounds);
     let seen = seat.seen();
     shared.leave(seat);
-    Ok((handed, seen))
+    (handed, seen)
 }
 
 /// Serves so many connections of a door that has one.
@@ -131,11 +171,12 @@ pub(crate) fn rounds_row<R: Threads + Wait + Sync + Print>(
     table: &mut Table,
     count: &str,
 ) -> io::Result<()> {
+    let asked = mem::replace(&mut table.input, Vec::new(alloc));
+    let mut door = door_of(alloc, asked).map_err(out_of_memory)?;
     let Some(seated) = seats_of(rt, alloc, table) else {
         return println!(rt; "no store");
     };
-    let input = mem::replace(&mut table.input, Vec::new(alloc));
     let rounds = count.parse().unwrap_or(0);
-    let (handed, seen) = serve_door(rt, alloc, seated, input, rounds).map_err(out_of_memory)?;
+    let (handed, seen) = serve_door(rt, alloc, seated, &mut door, rounds);
     println!(rt; "handed {handed} seen {seen}")
 }
