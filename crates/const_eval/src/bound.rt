@@ -34,10 +34,18 @@ pub(crate) enum Node {
     Cond(Box<Typed>, Box<Typed>, Box<Typed>),
 }
 
-/// An expression whose names are bound: it is seen as the expression with each name replaced by its meaning.
-#[derive(Drop, Debug)]
+/// An expression whose names are bound: it is seen as the expression with each name replaced by its meaning. Its drop is
+/// one function, in place of the cases of a node wherever an owner of it may let it go.
+#[derive(Debug)]
 pub struct Bound {
     pub(crate) typed: Typed,
+}
+
+impl Drop for Bound {
+    fn drop(self) {
+        let Bound { typed } = self;
+        drop(typed);
+    }
 }
 
 impl Model for Bound {

@@ -81,14 +81,28 @@ pub enum ItemShape {
     Cross(List<u32>),
 }
 
-/// A bin.
-#[derive(Drop, Debug)]
+/// A bin. Its drop is one function, in place of the cases of its rule wherever an owner of it may let it go.
+#[derive(Debug)]
 pub struct BinInfo {
     pub name: Name,
     pub kind: BinKind,
     pub rule: BinRule,
     /// Its guard `iff`.
     pub guard: Option<Bound>,
+}
+
+impl Drop for BinInfo {
+    fn drop(self) {
+        let BinInfo {
+            name,
+            kind: _,
+            rule,
+            guard,
+        } = self;
+        drop(name);
+        drop(rule);
+        drop(guard);
+    }
 }
 
 /// The kind of a bin: the word that declares it, or that it is a default bin.
