@@ -10,13 +10,6 @@ use std::alloc::Global;
 use std::env;
 use std::process::ExitCode;
 
-/// A point, and the guard behind its `iff`.
-#[derive(Drop)]
-struct Guarded {
-    guard: Bound,
-    point: Bound,
-}
-
 /// The values so far, and how many evaluations they took.
 #[derive(Clone, Copy)]
 struct Total {
@@ -24,8 +17,110 @@ struct Total {
     evaluations: u64,
 }
 
+/// A step that makes an expression: it takes those that were made last, and leaves one.
+#[derive(Clone, Copy)]
+enum Step {
+    /// A literal of this width, signed or not, with these bits.
+    Num(u8, bool, u64),
+    /// The name of one letter.
+    Name(u8),
+    /// Bits of the name of one letter, from the highest to the lowest.
+    Part(u8, u64, u64),
+    Unary(UnOp),
+    Binary(BinOp),
+    /// `test ? yes : no`
+    Choice,
+    /// One expression before another, in braces.
+    Concat,
+}
+
+/// `((a + b * 8'd3) ^ (c >> 8'd5)) < 32'd2000000000 && (d - b == c || a != 8'd7)`,
+/// `b[3:0] != 4'd9 && !(d > e)`, `c[31:28] >= 4'd3 ? a > 8'd10 : b != e`
+static GUARDS: [&[Step]; 3] = [
+    &[
+        Step::Name(b'a'),
+        Step::Name(b'b'),
+        Step::Num(8, false, 3),
+        Step::Binary(BinOp::Mul),
+        Step::Binary(BinOp::Add),
+        Step::Name(b'c'),
+        Step::Num(8, false, 5),
+        Step::Binary(BinOp::Shr),
+        Step::Binary(BinOp::Xor),
+        Step::Num(32, false, 2_000_000_000),
+        Step::Binary(BinOp::Lt),
+        Step::Name(b'd'),
+        Step::Name(b'b'),
+        Step::Binary(BinOp::Sub),
+        Step::Name(b'c'),
+        Step::Binary(BinOp::Eq),
+        Step::Name(b'a'),
+        Step::Num(8, false, 7),
+        Step::Binary(BinOp::Ne),
+        Step::Binary(BinOp::LogOr),
+        Step::Binary(BinOp::LogAnd),
+    ],
+    &[
+        Step::Part(b'b', 3, 0),
+        Step::Num(4, false, 9),
+        Step::Binary(BinOp::Ne),
+        Step::Name(b'd'),
+        Step::Name(b'e'),
+        Step::Binary(BinOp::Gt),
+        Step::Unary(UnOp::LogNot),
+        Step::Binary(BinOp::LogAnd),
+    ],
+    &[
+        Step::Part(b'c', 31, 28),
+        Step::Num(4, false, 3),
+        Step::Binary(BinOp::Ge),
+        Step::Name(b'a'),
+        Step::Num(8, false, 10),
+        Step::Binary(BinOp::Gt),
+        Step::Name(b'b'),
+        Step::Name(b'e'),
+        Step::Binary(BinOp::Ne),
+        Step::Choice,
+    ],
+];
+
+/// `(d >>> 8'd2) + ((a & b) | c)`, `d < 12'sd0 ? -e : e - d`, `{a[7:4], c[11:0]} + (b << a[2:0])`
+static POINTS: [&[Step]; 3] = [
+    &[
+        Step::Name(b'd'),
+        Step::Num(8, false, 2),
+        Step::Binary(BinOp::Sshr),
+        Step::Name(b'a'),
+        Step::Name(b'b'),
+        Step::Binary(BinOp::And),
+        Step::Name(b'c'),
+        Step::Binary(BinOp::Or),
+        Step::Binary(BinOp::Add),
+    ],
+    &[
+        Step::Name(b'd'),
+        Step::Num(12, true, 0),
+        Step::Binary(BinOp::Lt),
+        Step::Name(b'e'),
+        Step::Unary(UnOp::Neg),
+        Step::Name(b'e'),
+        Step::Name(b'd'),
+        Step::Binary(BinOp::Sub),
+        Step::Choice,
+    ],
+    &[
+        Step::Part(b'a', 7, 4),
+        Step::Part(b'c', 11, 0),
+        Step::Concat,
+        Step::Name(b'b'),
+        Step::Part(b'a', 2, 0),
+        Step::Binary(BinOp::Shl),
+        Step::Binary(BinOp::Add),
+    ],
+];
+
 /// A literal.
-fn number(width: u8, signed: bool, bits: u64) -> Option<Expr> {
+fn number(width: u8, signed: bool, bits: u64) -> Expr {
     let lit = Literal {
         width,
         sized: true,
@@ -33,184 +128,134 @@ fn number(width: u8, signed: bool, bits: u64) -> Option<Expr> {
         bits,
         free: 0,
     };
-    Some(Expr::Num { lit, at: 0 })
+    Expr::Num { lit, at: 0 }
 }
 
-/// The name of one letter.
-fn name(alloc: Global, letter: u8) -> Option<Expr> {
+/// The expression that was made last, in a box.
+fn last(alloc: Global, made: &mut Vec<Expr>) -> Option<Boxed<Expr>> {
+    Boxed::of(alloc, made.pop()?).ok()
+}
+
+fn push_name(alloc: Global, made: &mut Vec<Expr>, letter: u8) -> Option<()> {
     let name = Name::of(alloc, &[letter]).ok()?;
-    Some(Expr::Name { name, at: 0 })
+    made.push(Expr::Name { name, at: 0 }).ok()
 }
 
-/// An expression in a box, where there is one.
-fn boxed(alloc: Global, expr: Option<Expr>) -> Option<Boxed<Expr>> {
-    Boxed::of(alloc, expr?).ok()
-}
-
-/// Bits of the name of one letter.
-fn part(alloc: Global, letter: u8, high: u64, low: u64) -> Option<Expr> {
+fn push_part(alloc: Global, made: &mut Vec<Expr>, letter: u8, high: u64, low: u64) -> Option<()> {
     let name = Name::of(alloc, &[letter]).ok()?;
-    let high = boxed(alloc, number(32, true, high))?;
-    let low = boxed(alloc, number(32, true, low))?;
-    Some(Expr::Part {
+    let high = Boxed::of(alloc, number(32, true, high)).ok()?;
+    let low = Boxed::of(alloc, number(32, true, low)).ok()?;
+    let part = Expr::Part {
         name,
         high,
         low,
         at: 0,
-    })
+    };
+    made.push(part).ok()
 }
 
-/// One expression before another.
-fn concat(alloc: Global, left: Option<Expr>, right: Option<Expr>) -> Option<Expr> {
-    let mut parts = Vec::new(alloc);
-    parts.push(left?).ok()?;
-    parts.push(right?).ok()?;
-    let parts = List::of(parts);
-    Some(Expr::Concat { parts, at: 0 })
+fn push_unary(alloc: Global, made: &mut Vec<Expr>, op: UnOp) -> Option<()> {
+    let arg = last(alloc, made)?;
+    made.push(Expr::Unary { op, arg, at: 0 }).ok()
 }
 
-/// An operator before one operand.
-fn unary(alloc: Global, op: UnOp, arg: Option<Expr>) -> Option<Expr> {
-    let arg = boxed(alloc, arg)?;
-    Some(Expr::Unary { op, arg, at: 0 })
-}
-
-/// An operator between two operands.
-fn binary(alloc: Global, op: BinOp, left: Option<Expr>, right: Option<Expr>) -> Option<Expr> {
-    let left = boxed(alloc, left)?;
-    let right = boxed(alloc, right)?;
-    Some(Expr::Binary {
+fn push_binary(alloc: Global, made: &mut Vec<Expr>, op: BinOp) -> Option<()> {
+    let right = last(alloc, made)?;
+    let left = last(alloc, made)?;
+    let both = Expr::Binary {
         op,
         left,
         right,
         at: 0,
-    })
+    };
+    made.push(both).ok()
 }
 
-/// `test ? yes : no`
-fn choice(alloc: Global, test: Option<Expr>, yes: Option<Expr>, no: Option<Expr>) -> Option<Expr> {
-    let test = boxed(alloc, test)?;
-    let yes = boxed(alloc, yes)?;
-    let no = boxed(alloc, no)?;
-    Some(Expr::Cond {
+fn push_choice(alloc: Global, made: &mut Vec<Expr>) -> Option<()> {
+    let no = last(alloc, made)?;
+    let yes = last(alloc, made)?;
+    let test = last(alloc, made)?;
+    let choice = Expr::Cond {
         test,
         yes,
         no,
         at: 0,
-    })
+    };
+    made.push(choice).ok()
 }
 
-/// Unsigned signals `a`, `b` and `c` of 8, 16 and 32 bits, and signed ones `d` and `e` of 12 and 16.
+fn push_concat(alloc: Global, made: &mut Vec<Expr>) -> Option<()> {
+    let mut parts = Vec::new(alloc);
+    parts.push(made.pop()?).ok()?;
+    parts.push(made.pop()?).ok()?;
+    parts.reverse();
+    let parts = List::of(parts);
+    made.push(Expr::Concat { parts, at: 0 }).ok()
+}
+
+fn take_step(alloc: Global, made: &mut Vec<Expr>, step: Step) -> Option<()> {
+    match step {
+        Step::Num(width, signed, bits) => made.push(number(width, signed, bits)).ok(),
+        Step::Name(letter) => push_name(alloc, made, letter),
+        Step::Part(letter, high, low) => push_part(alloc, made, letter, high, low),
+        Step::Unary(op) => push_unary(alloc, made, op),
+        Step::Binary(op) => push_binary(alloc, made, op),
+        Step::Choice => push_choice(alloc, made),
+        Step::Concat => push_concat(alloc, made),
+    }
+}
+
+/// The expression of some steps.
+fn expr_of(alloc: Global, steps: &[Step]) -> Option<Expr> {
+    let mut made = Vec::new(alloc);
+    for step in steps {
+        take_step(alloc, &mut made, *step)?;
+    }
+    made.pop()
+}
+
+fn bound(alloc: Global, scope: &Scope, steps: &[Step]) -> Option<Bound> {
+    let expr = expr_of(alloc, steps)?;
+    bind(alloc, &expr, scope).ok()
+}
+
+/// The expressions of all rows, with their names bound.
+fn bounds(alloc: Global, scope: &Scope, rows: &[&[Step]]) -> Option<Vec<Bound>> {
+    let mut all = Vec::new(alloc);
+    for steps in rows {
+        all.push(bound(alloc, scope, steps)?).ok()?;
+    }
+    Some(all)
+}
+
+/// A signal's letter, its width and whether it is signed.
+static SIGNALS: [(u8, u8, bool); 5] = [
+    (b'a', 8, false),
+    (b'b', 16, false),
+    (b'c', 32, false),
+    (b'd', 12, true),
+    (b'e', 16, true),
+];
+
+fn declare(alloc: Global, scope: &mut Scope, index: u16, row: (u8, u8, bool)) -> Option<()> {
+    let (letter, width, signed) = row;
+    let name = Name::of(alloc, &[letter]).ok()?;
+    let typ = Typ { width, signed };
+    scope
+        .declare(name, Meaning::Signal { index, typ, low: 0 })
+        .ok()?;
+    Some(())
+}
+
+/// The signals.
 fn scope(alloc: Global) -> Option<Scope> {
     let mut scope = Scope::new(alloc);
-    let rows: [(u8, u8, bool); 5] = [
-        (b'a', 8, false),
-        (b'b', 16, false),
-        (b'c', 32, false),
-        (b'd', 12, true),
-        (b'e', 16, true),
-    ];
     let mut index = 0u16;
-    for (letter, width, signed) in rows {
-        let typ = Typ { width, signed };
-        let name = Name::of(alloc, &[letter]).ok()?;
-        let meaning = Meaning::Signal { index, typ, low: 0 };
-        scope.declare(name, meaning).ok()?;
+    for row in SIGNALS.iter() {
+        declare(alloc, &mut scope, index, *row)?;
         index = index.wrapping_add(1);
     }
     Some(scope)
-}
-
-/// `((a + b * 8'd3) ^ (c >> 8'd5)) < 32'd2000000000 && (d - b == c || a != 8'd7)`
-fn first_guard(alloc: Global) -> Option<Expr> {
-    let three = number(8, false, 3);
-    let product = binary(alloc, BinOp::Mul, name(alloc, b'b'), three);
-    let sum = binary(alloc, BinOp::Add, name(alloc, b'a'), product);
-    let five = number(8, false, 5);
-    let shifted = binary(alloc, BinOp::Shr, name(alloc, b'c'), five);
-    let mixed = binary(alloc, BinOp::Xor, sum, shifted);
-    let most = number(32, false, 2_000_000_000);
-    let below = binary(alloc, BinOp::Lt, mixed, most);
-    let difference = binary(alloc, BinOp::Sub, name(alloc, b'd'), name(alloc, b'b'));
-    let same = binary(alloc, BinOp::Eq, difference, name(alloc, b'c'));
-    let seven = number(8, false, 7);
-    let other = binary(alloc, BinOp::Ne, name(alloc, b'a'), seven);
-    let either = binary(alloc, BinOp::LogOr, same, other);
-    binary(alloc, BinOp::LogAnd, below, either)
-}
-
-/// `(d >>> 8'd2) + ((a & b) | c)`
-fn first_point(alloc: Global) -> Option<Expr> {
-    let two = number(8, false, 2);
-    let shifted = binary(alloc, BinOp::Sshr, name(alloc, b'd'), two);
-    let both = binary(alloc, BinOp::And, name(alloc, b'a'), name(alloc, b'b'));
-    let either = binary(alloc, BinOp::Or, both, name(alloc, b'c'));
-    binary(alloc, BinOp::Add, shifted, either)
-}
-
-/// `b[3:0] != 4'd9 && !(d > e)`
-fn second_guard(alloc: Global) -> Option<Expr> {
-    let nine = number(4, false, 9);
-    let other = binary(alloc, BinOp::Ne, part(alloc, b'b', 3, 0), nine);
-    let above = binary(alloc, BinOp::Gt, name(alloc, b'd'), name(alloc, b'e'));
-    let not_above = unary(alloc, UnOp::LogNot, above);
-    binary(alloc, BinOp::LogAnd, other, not_above)
-}
-
-/// `d < 12'sd0 ? -e : e - d`
-fn second_point(alloc: Global) -> Option<Expr> {
-    let zero = number(12, true, 0);
-    let is_below = binary(alloc, BinOp::Lt, name(alloc, b'd'), zero);
-    let opposite = unary(alloc, UnOp::Neg, name(alloc, b'e'));
-    let difference = binary(alloc, BinOp::Sub, name(alloc, b'e'), name(alloc, b'd'));
-    choice(alloc, is_below, opposite, difference)
-}
-
-/// `c[31:28] >= 4'd3 ? a > 8'd10 : b != e`
-fn third_guard(alloc: Global) -> Option<Expr> {
-    let three = number(4, false, 3);
-    let is_high = binary(alloc, BinOp::Ge, part(alloc, b'c', 31, 28), three);
-    let ten = number(8, false, 10);
-    let above = binary(alloc, BinOp::Gt, name(alloc, b'a'), ten);
-    let other = binary(alloc, BinOp::Ne, name(alloc, b'b'), name(alloc, b'e'));
-    choice(alloc, is_high, above, other)
-}
-
-/// `{a[7:4], c[11:0]} + (b << a[2:0])`
-fn third_point(alloc: Global) -> Option<Expr> {
-    let joined = concat(alloc, part(alloc, b'a', 7, 4), part(alloc, b'c', 11, 0));
-    let shifted = binary(
-        alloc,
-        BinOp::Shl,
-        name(alloc, b'b'),
-        part(alloc, b'a', 2, 0),
-    );
-    binary(alloc, BinOp::Add, joined, shifted)
-}
-
-/// A guard and a point with their names bound.
-fn bind_both(
-    alloc: Global,
-    scope: &Scope,
-    guard: Option<Expr>,
-    point: Option<Expr>,
-) -> Option<Guarded> {
-    let guard = bind(alloc, &guard?, scope).ok()?;
-    let point = bind(alloc, &point?, scope).ok()?;
-    Some(Guarded { guard, point })
-}
-
-/// The three guards with their points.
-fn all_guarded(alloc: Global) -> Option<Vec<Guarded>> {
-    let scope = scope(alloc)?;
-    let first = bind_both(alloc, &scope, first_guard(alloc), first_point(alloc))?;
-    let second = bind_both(alloc, &scope, second_guard(alloc), second_point(alloc))?;
-    let third = bind_both(alloc, &scope, third_guard(alloc), third_point(alloc))?;
-    let mut all = Vec::new(alloc);
-    all.push(first).ok()?;
-    all.push(second).ok()?;
-    all.push(third).ok()?;
-    Some(all)
 }
 
 /// The values of the signals in the row of this word.
@@ -232,30 +277,36 @@ fn holds(guard: &Bound, signals: &[Option<Int>]) -> bool {
     }
 }
 
-/// The total with the values of one row.
-fn counted(total: Total, all: &[Guarded], signals: &[Option<Int>]) -> Total {
+/// The total with one more evaluation, of a point whose guard is true.
+fn with_point(total: Total, point: &Bound, signals: &[Option<Int>]) -> Total {
     let Total {
         mut checksum,
-        mut evaluations,
+        evaluations,
     } = total;
-    for one in all {
-        evaluations = evaluations.wrapping_add(1);
-        if holds(&one.guard, signals) {
-            evaluations = evaluations.wrapping_add(1);
-            if let Some(value) = eval(&one.point, signals, None) {
-                let low = value.get().cast_unsigned() & 0xffff_ffff_ffff_ffff;
-                checksum = checksum.wrapping_mul(31).wrapping_add(low as u64);
-            }
-        }
+    if let Some(value) = eval(point, signals, None) {
+        let low = value.get().cast_unsigned() & 0xffff_ffff_ffff_ffff;
+        checksum = checksum.wrapping_mul(31).wrapping_add(low as u64);
     }
     Total {
         checksum,
-        evaluations,
+        evaluations: evaluations.wrapping_add(1),
     }
 }
 
+/// The total with the values of one row.
+fn counted(total: Total, guards: &[Bound], points: &[Bound], signals: &[Option<Int>]) -> Total {
+    let mut total = total;
+    for (guard, point) in guards.iter().zip(points) {
+        total.evaluations = total.evaluations.wrapping_add(1);
+        if holds(guard, signals) {
+            total = with_point(total, point, signals);
+        }
+    }
+    total
+}
+
 /// The total of so many rows.
-fn summed(all: &[Guarded], rows: u32) -> Total {
+fn summed(guards: &[Bound], points: &[Bound], rows: u32) -> Total {
     let mut total = Total {
         checksum: 0,
         evaluations: 0,
@@ -265,21 +316,27 @@ fn summed(all: &[Guarded], rows: u32) -> Total {
         word = word
             .wrapping_mul(6_364_136_223_846_793_005)
             .wrapping_add(1_442_695_040_888_963_407);
-        total = counted(total, all, &row(word));
+        total = counted(total, guards, points, &row(word));
     }
     total
 }
 
-/// The total of as many rows as the first word says.
-fn measured(rt: &HostRuntime) -> Option<Total> {
+/// The total of so many rows, from the expressions on.
+fn measured(alloc: Global, rows: u32) -> Option<Total> {
+    let scope = scope(alloc)?;
+    let guards = bounds(alloc, &scope, &GUARDS)?;
+    let points = bounds(alloc, &scope, &POINTS)?;
+    Some(summed(&guards, &points, rows))
+}
+
+/// The number of rows that the first word says.
+fn rows_of(rt: &HostRuntime) -> Option<u32> {
     let mut words = env::args(rt).ok()?.skip(1);
-    let rows: u32 = words.next()?.parse().ok()?;
-    let all = all_guarded(rt.alloc())?;
-    Some(summed(all.as_slice(), rows))
+    words.next()?.parse().ok()
 }
 
 fn main(rt: HostRuntime) -> ExitCode {
-    let printed = match measured(&rt) {
+    let printed = match rows_of(&rt).and_then(|rows| measured(rt.alloc(), rows)) {
         Some(total) => println!(rt; "{} {}", total.checksum, total.evaluations),
         None => println!(rt; "bench_expressions ROWS"),
     };
