@@ -1,12 +1,11 @@
-//! Worked rows of `cov_counting`: each line of standard input is a design in postfix words, ` : `, and samples. It is
-//! written again with the count of each of the design's bins behind ` = `, or with `no design` where the parts are none.
+//! Worked rows of `cov_counting`: each line of standard input is a design text of one instance, ` # `, and samples. It is
+//! written again with the count of each of the design's bins behind ` = `, or with `no design` where the text is none.
 //! The file `stdout` has the counts, written by hand after IEEE 1800-2017, clause 19.
 #![tactic(auto)]
 
-mod designs;
-mod making;
 mod samples;
 
+use cov_compile::compile;
 use cov_counting::tally_by_definition;
 use design_data::Design;
 use record_codec::Record;
@@ -14,6 +13,9 @@ use std::alloc::Global;
 use std::io;
 use std::io::{Input, Print};
 use std::process::ExitCode;
+
+/// The most bytes of a design text.
+const LONGEST_DESIGN: usize = 1_048_576;
 
 /// Writes the counts behind a row.
 fn show_counts<R: Print>(rt: &R, line: &str, counts: &[u64]) -> io::Result<()> {
@@ -52,12 +54,20 @@ fn show_samples<R: Print>(
     }
 }
 
+/// The design that a text declares.
+fn design_of(alloc: Global, text: &[u8]) -> Option<Design> {
+    if text.len() > LONGEST_DESIGN {
+        return None;
+    }
+    compile(alloc, text).ok()
+}
+
 /// Writes a row with its answer.
 fn row<R: Print>(rt: &R, alloc: Global, line: &str) -> io::Result<()> {
-    let Some((parts, events)) = line.split_once(':') else {
+    let Some((text, events)) = line.split_once('#') else {
         return println!(rt; "{line} : no row");
     };
-    match designs::design(alloc, parts) {
+    match design_of(alloc, text.as_bytes()) {
         Some(design) => show_samples(rt, alloc, line, &design, events),
         None => println!(rt; "{line} = no design"),
     }
