@@ -18,6 +18,3 @@ pub use asking::coverage_answer;
 pub use asks::Ask;
 pub use entry::{Entry, Event, Revision};
 pub use whole::coverage_by_definition;
-
-#[cfg(test)]
-mod tests;

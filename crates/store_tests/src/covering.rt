@@ -1,8 +1,8 @@
+//! Coverage by definition.
 ghost use Rattle.std.specs.Prelude.{◌≤◌, length, IfOk};
 
-use super::*;
-use cov_ground::Memory;
-use cov_tree::Name;
+use cov_history::coverage_by_definition;
+use cov_tree::{Memory, Name};
 use design_data::BinKind;
 use std::alloc::Global;
 use ucis_model::{Node, NodeKind};
