@@ -31,6 +31,3 @@ pub use record_maker::{MakeFault, make_record};
 pub use running::run;
 pub use starting::serve_start;
 pub use status::Status;
-
-#[cfg(test)]
-mod tests;

@@ -1,14 +1,18 @@
 //! Worked rows of whole commands. A line `design TEXT` makes the file `d`, where `\n` stands for a newline; a line
 //! `record HEX` makes the file `r`, and a line `with FROM TO HEX` that record with other bytes in place of those from
-//! FROM up to TO. A line `as NAME` keeps the record as the file NAME too. Every other line is the words of a `covd` over
-//! these files. Each line is written again; behind a command follow its text and its status.
+//! FROM up to TO. A line `as NAME` keeps the record as the file NAME too, and a line `blanks NAME COUNT` keeps a file of so
+//! many blanks. A line `failing READS WRITES WORDS` runs the words where these reads of files and these writes fail, each
+//! a list of numbers of calls, counted from 0 and separated by commas, or `-`. Every other line is the words of a `covd`
+//! over these files. Each line is written again; behind a command follow its text and its status.
 #![tactic(auto)]
 
+mod failing;
 mod hex;
 
 use cov_base::{Memory, Pair, SureShelf, SureSource};
 use cov_net::StdSink;
 use covd_core::{Status, run};
+use failing::failing;
 use hex::bytes_of;
 use std::alloc::Global;
 use std::io;
@@ -18,7 +22,7 @@ use std::thread::Threads;
 
 /// The two files, the record before other bytes were put in, and the files that are kept.
 #[derive(Drop)]
-struct Files {
+pub(crate) struct Files {
     design: Vec<u8>,
     record: Vec<u8>,
     whole: Vec<u8>,
@@ -49,17 +53,18 @@ fn file(alloc: Global, name: &str, bytes: &[u8]) -> Result<(String, Vec<u8>), Me
     ))
 }
 
-fn shelf_of(alloc: Global, files: &Files) -> Result<SureShelf, Memory> {
+/// A copy of all files.
+pub(crate) fn all_files(alloc: Global, files: &Files) -> Result<Vec<(String, Vec<u8>)>, Memory> {
     let mut all = Vec::new(alloc);
     all.push(file(alloc, "d", &files.design)?)?;
     all.push(file(alloc, "r", &files.record)?)?;
     for (name, bytes) in &files.kept {
         all.push(file(alloc, name.as_str(), bytes)?)?;
     }
-    Ok(SureShelf::new(all))
+    Ok(all)
 }
 
-fn words_of(alloc: Global, row: &str) -> Result<Vec<String>, Memory> {
+pub(crate) fn words_of(alloc: Global, row: &str) -> Result<Vec<String>, Memory> {
     let mut words = Vec::new(alloc);
     for word in row.split_whitespace() {
         words.push(String::from_str(alloc, word)?)?;
@@ -99,7 +104,7 @@ fn status_of<R: Threads + Sync + Print>(
     files: &Files,
     words: &[String],
 ) -> Result<Status, Memory> {
-    let mut shelf = shelf_of(alloc, files)?;
+    let mut shelf = SureShelf::new(all_files(alloc, files)?);
     let mut source = SureSource::new(Vec::new(alloc), 1);
     let mut sink = StdSink::new(io::writer(rt));
     let mut link = Pair {
@@ -122,6 +127,13 @@ fn command<R: Threads + Sync + Print>(
         Ok(status) => println!(rt; "status {}", status.number()),
         Err(_) => println!(rt; "no answer"),
     }
+}
+
+/// The name of a file and its blanks.
+fn blanks(alloc: Global, row: &str) -> Result<(String, Vec<u8>), Memory> {
+    let (name, count) = row.split_once(' ').unwrap_or((row, "0"));
+    let bytes = vec![in alloc; b' '; place_of(count).unwrap_or(0)]?;
+    Ok((String::from_str(alloc, name)?, bytes))
 }
 
 /// Takes a row: a file, or a command, whose answer is written.
@@ -149,6 +161,15 @@ fn row<R: Threads + Sync + Print>(
             let kept = file(alloc, name, &files.record).map_err(out_of_memory)?;
             files.kept.push(kept)?;
             println!(rt; "{line}")
+        }
+        Some(("blanks", row)) => {
+            let kept = blanks(alloc, row).map_err(out_of_memory)?;
+            files.kept.push(kept)?;
+            println!(rt; "{line}")
+        }
+        Some(("failing", row)) => {
+            println!(rt; "{line}")?;
+            failing(rt, alloc, files, row)
         }
         _ => command(rt, alloc, files, line),
     }
