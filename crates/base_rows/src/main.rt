@@ -1,8 +1,10 @@
-//! Worked rows of `cov_base`: each line of standard input is a call with its arguments, and is written again with its
+//! Worked rows of `cov_base`, `cov_serve` and `text_place`: each line of standard input is a call with its arguments, and is written again with its
 //! answer behind ` =`. The file `stdout` has the answers, written by hand.
 #![tactic(auto)]
 
+mod hints;
 mod links;
+mod said;
 mod sets;
 mod shelves;
 mod streams;
@@ -36,6 +38,9 @@ fn answer<R: Print>(rt: &R, alloc: Global, line: &str) -> Option<()> {
         "link" => links::link(rt, alloc, rest),
         "pair" => links::pair(rt, alloc, rest),
         "door" => links::door(rt, alloc, rest),
+        "serve" => said::serve(rt, alloc, rest),
+        "early" => said::early(rt, alloc, rest),
+        "hint" => hints::hint(rt, alloc, rest),
         _ => answer_sets(rt, alloc, call, rest),
     }
 }

@@ -6,6 +6,3 @@ mod seats;
 mod words;
 
 pub use words::{ServeWords, serve_words};
-
-#[cfg(test)]
-mod tests;

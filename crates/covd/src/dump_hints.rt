@@ -3,14 +3,14 @@ ghost use Rattle.std.specs.Prelude.{◌≤◌, length};
 ghost use Rattle.cov_ground.specs.Limits.{longest_design};
 ghost use Rattle.vcd_reader.specs.Reading.{longest_dump};
 
-use crate::hints::place_hint;
 use cov_base::Shelf;
 use cov_ground::limits::LONGEST_DESIGN;
 use cov_net::FileShelf;
-use covd_core::{LONGEST_DUMP, Refusal, compile, dump_fault};
+use covd_core::{LONGEST_DUMP, compile, dump_fault};
 use design_data::Signal;
 use std::alloc::{AllocError, Global};
 use std::rt::Files;
+use text_place::{Fault, place_hint};
 use vcd_reader::{Dump, DumpFault, DumpVar, read_dump};
 
 /// The most scopes that are shown.
@@ -36,8 +36,8 @@ fn word_hint(
 ) -> Result<Option<String>, AllocError>
     requires { length given.now.bytes.now ≤ longest_dump }
 {
-    let refusal = Refusal { kind, at };
-    let hint = place_hint(alloc, given.dump, given.bytes, refusal, meaning)?;
+    let fault = Fault { kind, at, meaning };
+    let hint = place_hint(alloc, given.dump, given.bytes, fault)?;
     Ok(Some(hint))
 }
 
@@ -45,13 +45,12 @@ fn word_hint(
 fn event_hint(alloc: Global, given: &Given<'_>, at: u32) -> Result<Option<String>, AllocError>
     requires { length given.now.text.now ≤ longest_design }
 {
-    let refusal = Refusal {
+    let fault = Fault {
         kind: "BadEvent",
         at,
+        meaning: "the event of this group names what is no variable and no ref formal, or its iff does",
     };
-    let meaning =
-        "the event of this group names what is no variable and no ref formal, or its iff does";
-    let hint = place_hint(alloc, given.design, given.text, refusal, meaning)?;
+    let hint = place_hint(alloc, given.design, given.text, fault)?;
     Ok(Some(hint))
 }
 

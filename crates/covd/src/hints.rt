@@ -1,5 +1,5 @@
 //! Hints for a person, on standard error. What a command prints, and its status, stand without them.
-ghost use Rattle.std.specs.Prelude.{◌+◌, ◌<◌, ◌≤◌, ◌^◌, length};
+ghost use Rattle.std.specs.Prelude.{◌≤◌, length};
 ghost use Rattle.cov_ground.specs.Limits.{longest_design};
 
 use crate::dump_hints::on_dump;
@@ -8,14 +8,11 @@ use cov_ground::limits::{LONGEST_DESIGN, LONGEST_RECORD};
 use cov_lexer::LexFault;
 use cov_net::FileShelf;
 use cov_parser::ParseFault;
-use covd_core::{CompileFault, LONGEST_DUMP, Refusal, Status, compile, refusal_of};
+use covd_core::{CompileFault, LONGEST_DUMP, Status, compile, refusal_of};
 use elab_base::{ElabFault, ElabKind};
 use std::alloc::{AllocError, Global};
 use std::rt::Files;
-use text_place::{line_at, line_end};
-
-/// The longest line that is shown.
-const SHOWN: usize = 160;
+use text_place::{Fault, place_hint};
 
 /// What a fault of the tokens is.
 fn lexing(fault: LexFault) -> &'static str {
@@ -86,47 +83,6 @@ fn meaning(fault: &CompileFault) -> &'static str {
     }
 }
 
-/// Adds a mark under the byte behind these of its line. Tabs stay tabs, and a letter of several bytes is one blank.
-fn add_mark(hint: &mut String, before: &[u8]) -> Result<(), AllocError> {
-    for byte in before {
-        match *byte {
-            b'\t' => hint.push('\t')?,
-            0x80..=0xBF => {}
-            _ => hint.push(' ')?,
-        }
-    }
-    hint.push_str("^\n")
-}
-
-/// `design.sv:12:7: Syntax: no design text goes on like this here`, then the line with a mark under the place.
-pub(crate) fn place_hint(
-    alloc: Global,
-    name: &str,
-    text: &[u8],
-    refusal: Refusal,
-    meaning: &str,
-) -> Result<String, AllocError>
-    requires { length text.now + 1 < 2 ^ 32 }
-{
-    let at = (refusal.at as usize).min(text.len());
-    let line = line_at(text, at);
-    let end = line_end(text, at);
-    let column = at - line.start + 1;
-    let mut hint = format!(in alloc;
-        "{name}:{}:{column}: {}: {meaning}\n",
-        line.number, refusal.kind
-    )?;
-    if end - line.start > SHOWN {
-        return Ok(hint);
-    }
-    if let Ok(shown) = str::from_utf8(&text[line.start..end]) {
-        hint.push_str(shown)?;
-        hint.push('\n')?;
-        add_mark(&mut hint, &text[line.start..at])?;
-    }
-    Ok(hint)
-}
-
 /// The hint on a design text that is refused.
 fn design_hint(alloc: Global, name: &str, text: &[u8]) -> Result<Option<String>, AllocError>
     requires { length text.now ≤ longest_design }
@@ -142,7 +98,12 @@ fn design_hint(alloc: Global, name: &str, text: &[u8]) -> Result<Option<String>,
     let Some(refusal) = refusal_of(fault) else {
         return Ok(None);
     };
-    let hint = place_hint(alloc, name, text, refusal, meaning(&fault))?;
+    let told = Fault {
+        kind: refusal.kind,
+        at: refusal.at,
+        meaning: meaning(&fault),
+    };
+    let hint = place_hint(alloc, name, text, told)?;
     Ok(Some(hint))
 }
 

@@ -3,7 +3,6 @@
 
 mod dump_hints;
 mod ending;
-mod help;
 mod hints;
 mod serving;
 
@@ -11,13 +10,13 @@ use cov_base::Pair;
 use cov_net::{FileShelf, StdSink, StdSource};
 use covd_core::{Status, run};
 use ending::{ended, given};
-use help::early_text;
 use hints::print_hint;
 use serving::{is_serve, serve};
 use std::process::ExitCode;
 use std::rt::Files;
 use std::thread::Threads;
 use std::{env, io};
+use text_place::early_text;
 
 /// The words after the program's name.
 fn words_of(rt: &HostRuntime) -> io::Result<Vec<String>> {
@@ -56,6 +55,3 @@ fn main(rt: HostRuntime) -> ExitCode {
     };
     ExitCode::from(number)
 }
-
-#[cfg(test)]
-mod tests;

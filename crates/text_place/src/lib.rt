@@ -1,8 +1,14 @@
-//! Where a byte of a text stands, as editors say it.
+//! Texts for a person: help, and hints on faults by their line, with where a byte of a text stands as editors say it.
 #![tactic(auto)]
+
+mod help;
+mod hint;
 
 ghost use Rattle.std.specs.Prelude.{◌≡◌, ◌+◌, ◌≤◌, ◌<◌, ◌^◌, length};
 ghost use Rattle.text_place.specs.Places.{IsLine, IsLineEnd};
+
+pub use help::{HELP, VERSION, early_text};
+pub use hint::{Fault, place_hint};
 
 /// A line of a text: its number from 1, and the place of its first byte.
 #[derive(Clone, Copy, Debug, PartialEq, Eq)]

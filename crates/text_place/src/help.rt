@@ -1,6 +1,6 @@
 //! The texts of `covd --help` and `covd --version`.
 ghost use Rattle.std.specs.Prelude.{◌≡◌, ◌⊎◌, Some, IsSome, option_map};
-ghost use Rattle.covd.specs.Early.{IsOnly, help_word, version_word};
+ghost use Rattle.text_place.specs.Early.{IsOnly, help_word, version_word};
 
 /// What `covd --help` prints.
 pub const HELP: &str = "\

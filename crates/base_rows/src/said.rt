@@ -1,0 +1,58 @@
+//! What words say.
+use crate::words::{show, show_number};
+use cov_serve::{ServeWords, serve_words};
+use std::alloc::Global;
+use std::io::Print;
+use text_place::{HELP, VERSION, early_text};
+
+/// The words of a text.
+fn split(alloc: Global, text: &str) -> Option<Vec<String>> {
+    let mut words = Vec::new(alloc);
+    for word in text.split_whitespace() {
+        words.push(String::from_str(alloc, word).ok()?).ok()?;
+    }
+    Some(words)
+}
+
+/// Writes the place of a word, or `-`.
+fn show_place<R: Print>(rt: &R, place: Option<u32>) -> Option<()> {
+    match place {
+        Some(place) => show_number(rt, i128::from(place)),
+        None => show(rt, " -"),
+    }
+}
+
+/// Writes the places of the design's name and of the address, how many seats there are, and the places of the journal's
+/// name and of the readers' address.
+fn show_said<R: Print>(rt: &R, said: ServeWords) -> Option<()> {
+    show_number(rt, i128::from(said.design))?;
+    show_number(rt, i128::from(said.listen))?;
+    show_number(rt, i128::from(said.seats))?;
+    show_place(rt, said.journal)?;
+    show_place(rt, said.readers)
+}
+
+/// WORDS: what the words of `covd serve` say.
+pub(crate) fn serve<R: Print>(rt: &R, alloc: Global, row: &str) -> Option<()> {
+    let words = split(alloc, row)?;
+    match serve_words(&words) {
+        Some(said) => show_said(rt, said),
+        None => show(rt, " none"),
+    }
+}
+
+/// Which text it is.
+fn name_of(text: Option<&str>) -> &'static str {
+    match text {
+        Some(HELP) => " help",
+        Some(VERSION) => " version",
+        Some(_) => " another text",
+        None => " none",
+    }
+}
+
+/// WORDS: the text that is asked for before any command.
+pub(crate) fn early<R: Print>(rt: &R, alloc: Global, row: &str) -> Option<()> {
+    let words = split(alloc, row)?;
+    show(rt, name_of(early_text(&words)))
+}
