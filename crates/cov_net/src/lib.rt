@@ -11,6 +11,3 @@ mod streams;
 pub use shelf::FileShelf;
 pub use sockets::{TcpDoor, TcpLink};
 pub use streams::{StdSink, StdSource};
-
-#[cfg(test)]
-mod tests;

@@ -11,8 +11,6 @@ mod board;
 mod lock;
 mod plays;
 mod seat;
-#[cfg(test)]
-mod tests;
 mod types;
 
 pub use types::{Seat, Turn, TurnLock};

@@ -1,15 +1,16 @@
+//! Turns at one lock, by seats of one thread and of several.
 ghost use Rattle.std.specs.Prelude.{◌≡◌, ◌≤◌, ◌-◌, length, nat_le, true, IfSome};
 ghost use Rattle.std.specs.List.{list_all};
 ghost use Rattle.turn_lock.specs.History.{AtMostOneMore};
 ghost use Rattle.turn_lock.specs.Seats.{IsSeatOf, free, left};
 
-use super::*;
 use cov_base::Book;
 use cov_tree::Name;
 use std::alloc::Global;
 use std::sync::Wait;
 use std::test::*;
 use std::thread::for_each_mut;
+use turn_lock::{Seat, TurnLock};
 
 /// What stays of a list of entries: how many bytes a name may have.
 #[derive(Clone, Copy, PartialEq, Eq, Debug)]

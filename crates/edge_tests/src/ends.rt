@@ -1,8 +1,6 @@
 //! The real files, and streams that go by a script.
-use crate::shelf::{FileShelf, read_whole};
-use crate::sockets::{TcpDoor, TcpLink};
-use crate::streams::{StdSink, StdSource};
 use cov_base::{Door, Failed, Link, Memory, Shelf, ShelfRefusal, Sink, Source};
+use cov_net::{FileShelf, StdSink, StdSource, TcpDoor, TcpLink};
 use std::alloc::Global;
 use std::io::{ErrorKind, Read, Write};
 use std::net::{TcpListener, TcpStream};
@@ -164,32 +162,23 @@ fn files_are_loaded_up_to_the_limit(rt: HostRuntime) -> Result<(), Fail> {
     Ok(())
 }
 
+/// Of these files the system says that they have no bytes. Each with the most bytes that are taken, and the answer.
+static GROWN: [(&str, u64, Result<&[u8], ShelfRefusal>); 3] = [
+    ("/proc/sys/kernel/ostype", 6, Ok(b"Linux\n")),
+    (
+        "/proc/sys/kernel/ostype",
+        5,
+        Err(ShelfRefusal::TooLong { size: 6 }),
+    ),
+    // its first byte can't be read
+    ("/proc/self/mem", 9, Err(ShelfRefusal::Failed)),
+];
+
 #[test]
 fn files_that_grow_are_cut_off(rt: HostRuntime) {
-    for (script, most, expected) in [
-        (
-            [Step::Pass(2), Step::Interrupted, Step::Pass(9)],
-            4,
-            Ok("text"),
-        ),
-        (
-            [Step::Pass(2), Step::Pass(1), Step::Pass(9)],
-            3,
-            Err(ShelfRefusal::TooLong { size: 4 }),
-        ),
-        (
-            [Step::Pass(1), Step::Pass(3), Step::Broken],
-            4,
-            Err(ShelfRefusal::Failed),
-        ),
-    ] {
-        let bytes = b"text".as_slice();
-        let mut file = Scripted {
-            script: &script,
-            bytes,
-        };
-        let answer = read_whole(&mut file, rt.alloc(), 1, most);
-        expect_answer(&rt, &answer, expected.map(|text| text.as_bytes()));
+    let mut shelf = FileShelf::new(&rt);
+    for (name, most, expected) in GROWN.iter() {
+        expect_load(&rt, &mut shelf, (name, *most), *expected);
     }
 }
 
