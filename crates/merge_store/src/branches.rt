@@ -39,12 +39,21 @@ const NOTHING: Facts = Facts {
     merge: false,
 };
 
-/// The nodes of a design in depth-first order. Contracts see the list of them.
-#[derive(Drop)]
+/// The nodes of a design in depth-first order. Contracts see the list of them. Its drop is one function, in place of its
+/// parts wherever an owner of it may let it go.
 pub(crate) struct Branches {
     tree: Tree,
     bins: Vec<u32>,
     below: Vec<Vec<u32>>,
+}
+
+impl Drop for Branches {
+    fn drop(self) {
+        let Branches { tree, bins, below } = self;
+        drop(tree);
+        drop(bins);
+        drop(below);
+    }
 }
 
 impl Model for Branches {
