@@ -14,7 +14,7 @@ use std::marker::Model;
 
 /// An expression with its type.
 #[cycle(typed)]
-#[derive(Drop, Debug)]
+#[derive(Drop)]
 pub(crate) struct Typed {
     pub(crate) typ: Typ,
     pub(crate) node: Node,
@@ -22,7 +22,7 @@ pub(crate) struct Typed {
 
 /// An expression by its outermost form.
 #[cycle(typed)]
-#[derive(Drop, Debug)]
+#[derive(Drop)]
 pub(crate) enum Node {
     Number { bits: u64 },
     Name { meaning: Meaning, at: u32 },
@@ -36,7 +36,6 @@ pub(crate) enum Node {
 
 /// An expression whose names are bound: it is seen as the expression with each name replaced by its meaning. Its drop is
 /// one function, in place of the cases of a node wherever an owner of it may let it go.
-#[derive(Debug)]
 pub struct Bound {
     pub(crate) typed: Typed,
 }
