@@ -1,5 +1,5 @@
 -- The automata of a point's transition bins.
-use Rattle.std.proofs.Common.{◌≡◌, ℕ, zero, suc, ◌+◌, ◌<◌, List, [], ◌∷◌, ◌++◌, length, get_or, take, true, Some, refl, ap, sym, subst, ◌∙◌, inl, inr, arith}
+use Rattle.std.proofs.Common.{◌≡◌, ℕ, zero, suc, ◌+◌, ◌<◌, List, [], ◌∷◌, ◌++◌, length, get_or, take, Bool, true, false, cond, Some, refl, ap, sym, subst, ◌∙◌, inl, inr, arith}
 use Rattle.std.specs.Prelude.{slice_get, Contains}
 use Rattle.std.proofs.lemmas.List.{take_more, append-nil, append_assoc, length-take-le}
 use Rattle.std.proofs.lemmas.List.Elements.{Contains-append_left, Contains-append_right, Contains-append_cases, Contains-get_or}
@@ -11,83 +11,95 @@ use Rattle.design_data.specs.declared.infos.BinKind.{BinKind}
 use Rattle.design_data.specs.declared.infos.BinRule.{BinRule}
 use Rattle.design_data.specs.declared.infos.BinRule.TheVariants.{Values, Patterns, Trans, Default, DefaultValues, DefaultSequence, Picked, Product}
 use Rattle.point_sampler.specs.declared.plan.Machine.{Machine}
-use Rattle.point_sampler.specs.Plans.{machine_of, machines_from}
+use Rattle.point_sampler.specs.Plans.{is_watched, machine_of, machines_from}
 use Rattle.point_sampler.specs.Met.{Ascend}
 use Rattle.point_sampler.proofs.Places.{in_none, in_one, in_first}
 
 -- the automaton is that of a bin
-pub record IsMachine (first : ℕ) (bins : List BinInfo) (machine : Machine) : Type 0 where
+pub record IsMachine (table : Bool) (first : ℕ) (bins : List BinInfo) (machine : Machine) : Type 0 where
   pub index : ℕ
   pub bin : BinInfo
   pub is_bin : slice_get bins index ≡ Some bin
   pub is_place : machine.place ≡ first + index
   pub is_kind : machine.kind ≡ bin.kind
   pub is_rule : bin.rule ≡ Trans machine.watcher
+  pub is_needed : is_watched table machine.watcher ≡ true
 
-pub record IsOwn (place : ℕ) (kind : BinKind) (rule : BinRule) (machine : Machine) : Type 0 where
+pub record IsOwn (table : Bool) (place : ℕ) (kind : BinKind) (rule : BinRule) (machine : Machine) : Type 0 where
   pub is_place : machine.place ≡ place
   pub is_kind : machine.kind ≡ kind
   pub is_rule : rule ≡ Trans machine.watcher
+  pub is_needed : is_watched table machine.watcher ≡ true
 
-own : (place : ℕ) (kind : BinKind) (rule : BinRule) (machine : Machine) → Contains (machine_of place kind rule) machine → IsOwn place kind rule machine
-own place kind (Values set) machine c = absurd (in_none machine c)
-own place kind (Patterns patterns) machine c = absurd (in_none machine c)
-own place kind (Trans seqs) machine c = subst (IsOwn place kind (Trans seqs)) (in_one (record { place = place; kind = kind; watcher = seqs }) machine c) (record { is_place = refl; is_kind = refl; is_rule = refl })
-own place kind Default machine c = absurd (in_none machine c)
-own place kind (DefaultValues set) machine c = absurd (in_none machine c)
-own place kind DefaultSequence machine c = absurd (in_none machine c)
-own place kind (Picked select) machine c = absurd (in_none machine c)
-own place kind (Product members) machine c = absurd (in_none machine c)
+watched : (table : Bool) (place : ℕ) (kind : BinKind) (seqs : List Seq) (machine : Machine) (b : Bool) → is_watched table seqs ≡ b → Contains (cond b (record { place = place; kind = kind; watcher = seqs } ∷ []) []) machine → IsOwn table place kind (Trans seqs) machine
+watched table place kind seqs machine true e c = subst (IsOwn table place kind (Trans seqs)) (in_one (record { place = place; kind = kind; watcher = seqs }) machine c) (record { is_place = refl; is_kind = refl; is_rule = refl; is_needed = e })
+watched table place kind seqs machine false e c = absurd (in_none machine c)
 
-pub from_machines : (first : ℕ) (bins : List BinInfo) (machine : Machine) → Contains (machines_from first bins) machine → IsMachine first bins machine
-from_machines first [] machine c = absurd (in_none machine c)
-from_machines first (bin ∷ bins) machine c = elim (Contains-append_cases (machine_of first bin.kind bin.rule) (machines_from (first + 1) bins) machine c) [
-  | inl here ↦ let o = own first bin.kind bin.rule machine here in record { index = 0; bin = bin; is_bin = refl; is_place = omega (arith, o.is_place); is_kind = o.is_kind; is_rule = o.is_rule }
-  | inr later ↦ let m = from_machines (first + 1) bins machine later in record { index = suc m.index; bin = m.bin; is_bin = m.is_bin; is_place = omega (arith, m.is_place); is_kind = m.is_kind; is_rule = m.is_rule }
-]
+module _ (table : Bool) where
+  own : (place : ℕ) (kind : BinKind) (rule : BinRule) (machine : Machine) → Contains (machine_of table place kind rule) machine → IsOwn table place kind rule machine
+  own place kind (Values set) machine c = absurd (in_none machine c)
+  own place kind (Patterns patterns) machine c = absurd (in_none machine c)
+  own place kind (Trans seqs) machine c = watched table place kind seqs machine (is_watched table seqs) refl c
+  own place kind Default machine c = absurd (in_none machine c)
+  own place kind (DefaultValues set) machine c = absurd (in_none machine c)
+  own place kind DefaultSequence machine c = absurd (in_none machine c)
+  own place kind (Picked select) machine c = absurd (in_none machine c)
+  own place kind (Product members) machine c = absurd (in_none machine c)
 
-pub to_machines : (first : ℕ) (bins : List BinInfo) (index : ℕ) (bin : BinInfo) (seqs : List Seq) → slice_get bins index ≡ Some bin → bin.rule ≡ Trans seqs
-    → Contains (machines_from first bins) (record { place = first + index; kind = bin.kind; watcher = seqs })
-to_machines first [] index bin seqs is rule = let lt : index < length {A = BinInfo} [] = slice_get_within [] index bin is in absurd (omega (arith, lt))
-to_machines first (b ∷ bins) zero bin seqs is rule =
-    let e : first ≡ first + 0 = omega arith in
-    let same : bin ≡ b = sym (cond_some true b bin is).1 in
-    Contains-append_left (machine_of first b.kind b.rule) (machines_from (first + 1) bins) (record { place = first + 0; kind = bin.kind; watcher = seqs })
-    (subst (λ (n : ℕ). Contains (machine_of first b.kind b.rule) (record { place = n; kind = bin.kind; watcher = seqs })) e
-    (subst (λ (x : BinInfo). Contains (machine_of first x.kind x.rule) (record { place = first; kind = bin.kind; watcher = seqs })) same
-    (subst (λ (r : BinRule). Contains (machine_of first bin.kind r) (record { place = first; kind = bin.kind; watcher = seqs })) (sym rule)
-    (in_first (record { place = first; kind = bin.kind; watcher = seqs }) []))))
-to_machines first (b ∷ bins) (suc index) bin seqs is rule =
-    let e : first + 1 + index ≡ first + suc index = omega arith in
-    Contains-append_right (machine_of first b.kind b.rule) (machines_from (first + 1) bins) (record { place = first + suc index; kind = bin.kind; watcher = seqs })
-    (subst (λ (n : ℕ). Contains (machines_from (first + 1) bins) (record { place = n; kind = bin.kind; watcher = seqs })) e (to_machines (first + 1) bins index bin seqs is rule))
+  pub from_machines : (first : ℕ) (bins : List BinInfo) (machine : Machine) → Contains (machines_from table first bins) machine → IsMachine table first bins machine
+  from_machines first [] machine c = absurd (in_none machine c)
+  from_machines first (bin ∷ bins) machine c = elim (Contains-append_cases (machine_of table first bin.kind bin.rule) (machines_from table (first + 1) bins) machine c) [
+    | inl here ↦ let o = own first bin.kind bin.rule machine here in record { index = 0; bin = bin; is_bin = refl; is_place = omega (arith, o.is_place); is_kind = o.is_kind; is_rule = o.is_rule; is_needed = o.is_needed }
+    | inr later ↦ let m = from_machines (first + 1) bins machine later in record { index = suc m.index; bin = m.bin; is_bin = m.is_bin; is_place = omega (arith, m.is_place); is_kind = m.is_kind; is_rule = m.is_rule; is_needed = m.is_needed }
+  ]
 
-ascend_by : (first : ℕ) (kind : BinKind) (rule : BinRule) (bins : List BinInfo) → Ascend (machines_from (first + 1) bins) → Ascend (machine_of first kind rule ++ machines_from (first + 1) bins)
-ascend_by first kind (Values set) bins rest = rest
-ascend_by first kind (Patterns patterns) bins rest = rest
-ascend_by first kind (Trans seqs) bins rest =
-    AllPairs-cons (λ a b. a.place < b.place) (record { place = first; kind = kind; watcher = seqs }) (machines_from (first + 1) bins)
-    (λ k d lt. let m = from_machines (first + 1) bins (get_or (machines_from (first + 1) bins) k d) (Contains-get_or (machines_from (first + 1) bins) k d lt) in omega (arith, m.is_place))
-    rest
-ascend_by first kind Default bins rest = rest
-ascend_by first kind (DefaultValues set) bins rest = rest
-ascend_by first kind DefaultSequence bins rest = rest
-ascend_by first kind (Picked select) bins rest = rest
-ascend_by first kind (Product members) bins rest = rest
+  pub to_machines : (first : ℕ) (bins : List BinInfo) (index : ℕ) (bin : BinInfo) (seqs : List Seq) → slice_get bins index ≡ Some bin → bin.rule ≡ Trans seqs → is_watched table seqs ≡ true
+      → Contains (machines_from table first bins) (record { place = first + index; kind = bin.kind; watcher = seqs })
+  to_machines first [] index bin seqs is rule needed = let lt : index < length {A = BinInfo} [] = slice_get_within [] index bin is in absurd (omega (arith, lt))
+  to_machines first (b ∷ bins) zero bin seqs is rule needed =
+      let e : first ≡ first + 0 = omega arith in
+      let same : bin ≡ b = sym (cond_some true b bin is).1 in
+      Contains-append_left (machine_of table first b.kind b.rule) (machines_from table (first + 1) bins) (record { place = first + 0; kind = bin.kind; watcher = seqs })
+      (subst (λ (n : ℕ). Contains (machine_of table first b.kind b.rule) (record { place = n; kind = bin.kind; watcher = seqs })) e
+      (subst (λ (x : BinInfo). Contains (machine_of table first x.kind x.rule) (record { place = first; kind = bin.kind; watcher = seqs })) same
+      (subst (λ (r : BinRule). Contains (machine_of table first bin.kind r) (record { place = first; kind = bin.kind; watcher = seqs })) (sym rule)
+      (subst (λ (needs : Bool). Contains (cond needs (record { place = first; kind = bin.kind; watcher = seqs } ∷ []) []) (record { place = first; kind = bin.kind; watcher = seqs })) (sym needed)
+      (in_first (record { place = first; kind = bin.kind; watcher = seqs }) [])))))
+  to_machines first (b ∷ bins) (suc index) bin seqs is rule needed =
+      let e : first + 1 + index ≡ first + suc index = omega arith in
+      Contains-append_right (machine_of table first b.kind b.rule) (machines_from table (first + 1) bins) (record { place = first + suc index; kind = bin.kind; watcher = seqs })
+      (subst (λ (n : ℕ). Contains (machines_from table (first + 1) bins) (record { place = n; kind = bin.kind; watcher = seqs })) e (to_machines (first + 1) bins index bin seqs is rule needed))
 
-pub ascends : (first : ℕ) (bins : List BinInfo) → Ascend (machines_from first bins)
-ascends first [] = λ i j d lt within. absurd (omega (arith, within))
-ascends first (bin ∷ bins) = ascend_by first bin.kind bin.rule bins (ascends (first + 1) bins)
+  ascend_watched : (first : ℕ) (kind : BinKind) (seqs : List Seq) (bins : List BinInfo) (b : Bool) → Ascend (machines_from table (first + 1) bins) → Ascend (cond b (record { place = first; kind = kind; watcher = seqs } ∷ []) [] ++ machines_from table (first + 1) bins)
+  ascend_watched first kind seqs bins true rest =
+      AllPairs-cons (λ a b. a.place < b.place) (record { place = first; kind = kind; watcher = seqs }) (machines_from table (first + 1) bins)
+      (λ k d lt. let m = from_machines (first + 1) bins (get_or (machines_from table (first + 1) bins) k d) (Contains-get_or (machines_from table (first + 1) bins) k d lt) in omega (arith, m.is_place))
+      rest
+  ascend_watched first kind seqs bins false rest = rest
 
-machines_append : (first : ℕ) (xs ys : List BinInfo) → machines_from first (xs ++ ys) ≡ machines_from first xs ++ machines_from (first + length xs) ys
-machines_append first [] ys = let e : first ≡ first + 0 = omega arith in ap (λ (n : ℕ). machines_from n ys) e
-machines_append first (x ∷ xs) ys =
-    ap (λ (ms : List Machine). machine_of first x.kind x.rule ++ ms) (machines_append (first + 1) xs ys ∙ (let e : first + 1 + length xs ≡ first + length (x ∷ xs) = omega arith in ap (λ (n : ℕ). machines_from (first + 1) xs ++ machines_from n ys) e))
-    ∙ sym (append_assoc (machine_of first x.kind x.rule) (machines_from (first + 1) xs) (machines_from (first + length (x ∷ xs)) ys))
+  ascend_by : (first : ℕ) (kind : BinKind) (rule : BinRule) (bins : List BinInfo) → Ascend (machines_from table (first + 1) bins) → Ascend (machine_of table first kind rule ++ machines_from table (first + 1) bins)
+  ascend_by first kind (Values set) bins rest = rest
+  ascend_by first kind (Patterns patterns) bins rest = rest
+  ascend_by first kind (Trans seqs) bins rest = ascend_watched first kind seqs bins (is_watched table seqs) rest
+  ascend_by first kind Default bins rest = rest
+  ascend_by first kind (DefaultValues set) bins rest = rest
+  ascend_by first kind DefaultSequence bins rest = rest
+  ascend_by first kind (Picked select) bins rest = rest
+  ascend_by first kind (Product members) bins rest = rest
 
-pub machines_more : (bins : List BinInfo) (i : ℕ) (bin : BinInfo) → i < length bins → bin ≡ get_or bins i bin → machines_from 0 (take (i + 1) bins) ≡ machines_from 0 (take i bins) ++ machine_of i bin.kind bin.rule
-machines_more bins i bin lt is =
-    ap (machines_from 0) (take_more bins i bin lt ∙ ap (λ (b : BinInfo). take i bins ++ b ∷ []) (sym is))
-    ∙ machines_append 0 (take i bins) (bin ∷ [])
-    ∙ (let e : 0 + length (take i bins) ≡ i = omega (arith, lt, length-take-le i bins (omega (arith, lt))) in ap (λ (n : ℕ). machines_from 0 (take i bins) ++ (machine_of n bin.kind bin.rule ++ [])) e)
-    ∙ ap (λ (ms : List Machine). machines_from 0 (take i bins) ++ ms) (append-nil (machine_of i bin.kind bin.rule))
+  pub ascends : (first : ℕ) (bins : List BinInfo) → Ascend (machines_from table first bins)
+  ascends first [] = λ i j d lt within. absurd (omega (arith, within))
+  ascends first (bin ∷ bins) = ascend_by first bin.kind bin.rule bins (ascends (first + 1) bins)
+
+  machines_append : (first : ℕ) (xs ys : List BinInfo) → machines_from table first (xs ++ ys) ≡ machines_from table first xs ++ machines_from table (first + length xs) ys
+  machines_append first [] ys = let e : first ≡ first + 0 = omega arith in ap (λ (n : ℕ). machines_from table n ys) e
+  machines_append first (x ∷ xs) ys =
+      ap (λ (ms : List Machine). machine_of table first x.kind x.rule ++ ms) (machines_append (first + 1) xs ys ∙ (let e : first + 1 + length xs ≡ first + length (x ∷ xs) = omega arith in ap (λ (n : ℕ). machines_from table (first + 1) xs ++ machines_from table n ys) e))
+      ∙ sym (append_assoc (machine_of table first x.kind x.rule) (machines_from table (first + 1) xs) (machines_from table (first + length (x ∷ xs)) ys))
+
+  pub machines_more : (bins : List BinInfo) (i : ℕ) (bin : BinInfo) → i < length bins → bin ≡ get_or bins i bin → machines_from table 0 (take (i + 1) bins) ≡ machines_from table 0 (take i bins) ++ machine_of table i bin.kind bin.rule
+  machines_more bins i bin lt is =
+      ap (machines_from table 0) (take_more bins i bin lt ∙ ap (λ (b : BinInfo). take i bins ++ b ∷ []) (sym is))
+      ∙ machines_append 0 (take i bins) (bin ∷ [])
+      ∙ (let e : 0 + length (take i bins) ≡ i = omega (arith, lt, length-take-le i bins (omega (arith, lt))) in ap (λ (n : ℕ). machines_from table 0 (take i bins) ++ (machine_of table n bin.kind bin.rule ++ [])) e)
+      ∙ ap (λ (ms : List Machine). machines_from table 0 (take i bins) ++ ms) (append-nil (machine_of table i bin.kind bin.rule))

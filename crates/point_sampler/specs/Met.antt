@@ -14,6 +14,8 @@ use Rattle.point_sampler.specs.declared.plan.Machine.{Machine}
 use Rattle.point_sampler.specs.declared.plan.PointPlan.{PointPlan}
 use Rattle.point_sampler.specs.declared.state.Steps.{Steps}
 use Rattle.point_sampler.specs.Plans.{removed_by, covering}
+use Rattle.point_sampler.specs.Lists.{EndsAt}
+use Rattle.point_sampler.specs.declared.plan.Words.{Words}
 
 -- ---- transitions
 
@@ -58,14 +60,25 @@ pub record SomeTaken (machines : List Machine) (removers : Removers) (w : List V
 abbrev pub Ascend : List Machine → Type 0
 Ascend machines = AllPairs (λ a b. a.place < b.place) machines
 
+abbrev pub IsTransPlace : PointPlan → ℕ → Type 0
+IsTransPlace plan place = IsPlaceOf plan.machines.items place ⊎ Contains plan.sequences.items place
+
+-- the place is that of a bin of the table
+abbrev pub IsListPlace : Option Words → ℕ → Type 0
+IsListPlace None place = ⊥
+IsListPlace (Some words) place = Contains words.places.items place
+
+-- the trace ends with the list of the bin at the place
+abbrev pub ListEnds : Option Words → List Value → ℕ → Type 0
+ListEnds None w place = ⊥
+ListEnds (Some words) w place = EndsAt words w place
+
 -- the places of automata and of default sequences stand apart
 pub record StandApart (plan : PointPlan) : Type 0 where
   pub ascend : Ascend plan.machines.items
   pub once : AllPairs (λ a b. a ≢ b) plan.sequences.items
   pub apart : (place : ℕ) → IsPlaceOf plan.machines.items place → Contains plan.sequences.items place → ⊥
-
-abbrev pub IsTransPlace : PointPlan → ℕ → Type 0
-IsTransPlace plan place = IsPlaceOf plan.machines.items place ⊎ Contains plan.sequences.items place
+  pub lists : (place : ℕ) → IsTransPlace plan place → IsListPlace plan.words place → ⊥
 
 -- a value came before, and no transition of the point ends here, ignored and illegal ones included
 pub record EndsNowhere (plan : PointPlan) (before : List Value) (now : Value) : Type 0 where
@@ -77,6 +90,14 @@ pub record EndsNowhere (plan : PointPlan) (before : List Value) (now : Value) : 
 abbrev pub AreTransMet : PointPlan → List Value → Value → List ℕ → Type 0
 AreTransMet plan before now met = (place : ℕ) → Contains met place
     ↔ (MetBy plan.machines.items plan.removers (before ++ now ∷ []) place ⊎ (Contains plan.sequences.items place × EndsNowhere plan before now))
+
+-- the places of all bins of transitions that are met
+abbrev pub AreAllTransMet : PointPlan → List Value → Value → List ℕ → Type 0
+AreAllTransMet plan before now met = (place : ℕ) → Contains met place
+    ↔ (MetBy plan.machines.items plan.removers (before ++ now ∷ []) place ⊎ ((Contains plan.sequences.items place × EndsNowhere plan before now) ⊎ ListEnds plan.words (before ++ now ∷ []) place))
+
+abbrev pub IsAnyTransPlace : PointPlan → ℕ → Type 0
+IsAnyTransPlace plan place = IsTransPlace plan place ⊎ IsListPlace plan.words place
 
 -- ---- all bins
 

@@ -1,5 +1,5 @@
 -- What the plan of a point prepares.
-use Rattle.std.specs.Prelude.{◌≡◌, ℤ, pos, ◌+ℤ◌, ℕ, ◌+◌, ◌^◌, ◌<◌, ◌≤◌, List, [], ◌∷◌, ◌++◌, length, filter, take, slice_get, Option, Some, None, IfSome, Bool, true, false, not, if◌then◌else◌}
+use Rattle.std.specs.Prelude.{◌≡◌, ℤ, pos, ◌+ℤ◌, ℕ, ◌+◌, ◌^◌, ◌<◌, ◌≤◌, List, [], ◌∷◌, ◌++◌, length, filter, take, slice_get, Option, Some, None, IfSome, Bool, true, false, not, ◌||◌, if◌then◌else◌}
 use Rattle.std.specs.List.{AllByRecursion}
 use Rattle.cov_ground.specs.Limits.{most_bins, most_cells}
 use Rattle.const_eval.specs.Terms.{Term}
@@ -19,6 +19,8 @@ use Rattle.value_index.specs.declared.sets.Span.{Span}
 use Rattle.value_index.specs.Found.{places}
 use Rattle.value_index.specs.Finds.{Finds}
 use Rattle.point_sampler.specs.declared.plan.Lookup.{Lookup}
+use Rattle.point_sampler.specs.declared.plan.Words.{Words}
+use Rattle.point_sampler.specs.Lists.{list_of_seqs, is_none, AreLists}
 use Rattle.point_sampler.specs.declared.plan.PointPlan.{PointPlan}
 use Rattle.point_sampler.specs.declared.plan.Entry.{Entry}
 use Rattle.point_sampler.specs.declared.plan.Machine.{Machine}
@@ -82,21 +84,29 @@ AreEntries bins entries = AreEntriesOf bins (length bins) entries
 
 -- ---- transitions
 
--- the automaton of a transition bin; none of another
-abbrev pub machine_of : (place : ℕ) → BinKind → BinRule → List Machine
-machine_of place kind (Values set) = []
-machine_of place kind (Patterns patterns) = []
-machine_of place kind (Trans seqs) = record { place = place; kind = kind; watcher = seqs } ∷ []
-machine_of place kind Default = []
-machine_of place kind (DefaultValues set) = []
-machine_of place kind DefaultSequence = []
-machine_of place kind (Picked select) = []
-machine_of place kind (Product members) = []
+-- sequences need an automaton where there is no table of lists, or they don't have one list alone
+abbrev pub is_watched : Bool → List Seq → Bool
+is_watched table seqs = not table || is_none (list_of_seqs seqs)
+
+-- the automaton of a transition bin, if it needs one; none of another
+abbrev pub machine_of : (table : Bool) → (place : ℕ) → BinKind → BinRule → List Machine
+machine_of table place kind (Values set) = []
+machine_of table place kind (Patterns patterns) = []
+machine_of table place kind (Trans seqs) = if is_watched table seqs then record { place = place; kind = kind; watcher = seqs } ∷ [] else []
+machine_of table place kind Default = []
+machine_of table place kind (DefaultValues set) = []
+machine_of table place kind DefaultSequence = []
+machine_of table place kind (Picked select) = []
+machine_of table place kind (Product members) = []
 
 -- the automata of the transition bins among bins, the first of which stands at this place
-abbrev pub machines_from : ℕ → List BinInfo → List Machine
-machines_from place [] = []
-machines_from place (bin ∷ bins) = machine_of place bin.kind bin.rule ++ machines_from (place + 1) bins
+abbrev pub machines_from : (table : Bool) → ℕ → List BinInfo → List Machine
+machines_from table place [] = []
+machines_from table place (bin ∷ bins) = machine_of table place bin.kind bin.rule ++ machines_from table (place + 1) bins
+
+abbrev pub is_some : Option Words → Bool
+is_some None = false
+is_some (Some words) = true
 
 -- the sequences whose windows a bin of this kind doesn't count
 abbrev pub removed_by : Removers → BinKind → List Seq
@@ -126,8 +136,10 @@ pub record AreRemovers (item : ItemInfo) (removers : Removers) : Type 0 where
 -- The plan is that of the point.
 pub record IsPlanOf (item : ItemInfo) (plan : PointPlan) : Type 0 where
   pub entries : AreEntries item.bins plan.entries.items
-  pub machines : plan.machines.items ≡ machines_from 0 item.bins
+  pub machines : plan.machines.items ≡ machines_from (is_some plan.words) 0 item.bins
   pub removers : AreRemovers item plan.removers
   pub others : plan.others ≡ item.ignored ++ item.illegal
   pub lookup : IfSome plan.lookup (IsLookupOf item.bins)
   pub sequences : plan.sequences.items ≡ places_from (λ bin. is_default_sequence bin.rule) 0 item.bins
+  pub words : IfSome plan.words (AreLists item)
+  pub alone : 0 < length plan.sequences.items → plan.words ≡ None

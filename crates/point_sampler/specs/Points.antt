@@ -1,5 +1,5 @@
 -- What a point has counted after some of the samples of its instance.
-use Rattle.std.specs.Prelude.{◌≡◌, ◌≢◌, ◌↔◌, ◌⊎◌, ℕ, ◌+◌, ◌-◌, ◌^◌, ◌<◌, ◌≤◌, List, [], length, take, slice_get, slice_index, slice_index_or, Contains, AllPairs, Some, IsTrue}
+use Rattle.std.specs.Prelude.{◌≡◌, ◌≢◌, ◌↔◌, ◌⊎◌, ℕ, ◌+◌, ◌-◌, ◌^◌, ◌<◌, ◌≤◌, List, [], length, take, slice_get, slice_index, slice_index_or, Contains, AllPairs, Some, IsTrue, IfSome}
 use Rattle.cov_spec.specs.Number.{Number}
 use Rattle.const_eval.specs.Terms.{Term}
 use Rattle.trans_auto.specs.State.{Stands}
@@ -15,6 +15,7 @@ use Rattle.point_sampler.specs.declared.plan.Removers.{Removers}
 use Rattle.point_sampler.specs.declared.plan.Machine.{Machine}
 use Rattle.point_sampler.specs.declared.state.PointState.{PointState}
 use Rattle.point_sampler.specs.Plans.{removed_by}
+use Rattle.point_sampler.specs.Lists.{AreLast}
 
 -- the m-th of all samples has these values, and there are not more before it than a count can say
 pub record IsSample (all : List Env) (m : ℕ) (env : Env) : Type 0 where
@@ -42,6 +43,7 @@ pub record Remembers (plan : PointPlan) (state : PointState) (w : List Value) : 
   pub begun : IsTrue state.begun ↔ (0 < length w)
   pub runs : RunsStand plan.machines.items plan.removers state.runs.items w
   pub others : OthersStand plan state.others w
+  pub recent : IfSome plan.words (λ words. AreLast state.recent.items w)
 
 -- the state stands after the first m samples of the instance
 abbrev pub StateStands : ItemInfo → Term → PointPlan → List Env → ℕ → PointState → Type 0

@@ -4,6 +4,7 @@
 
 mod counting;
 mod keys;
+mod lists;
 mod lookups;
 mod machines;
 mod plan;
@@ -12,5 +13,6 @@ mod point;
 mod rules;
 mod state;
 
-pub use plan::{Entry, Lookup, Machine, PointPlan, Removers};
+pub use lists::Listed;
+pub use plan::{Entry, Lookup, Machine, PointPlan, Removers, Words};
 pub use state::{PointState, Steps};

@@ -1,14 +1,16 @@
 //! The transitions of a point along its trace.
-ghost use Rattle.std.specs.Prelude.{◌≡◌, ◌≢◌, ◌↔◌, ◌⊎◌, ◌∷◌, ◌++◌, [], ℕ, ◌<◌, List, length, All, AllPairs, Contains, IfOk, OnOk, IsTrue, if◌then◌else◌};
+ghost use Rattle.std.specs.Prelude.{◌≡◌, ◌≢◌, ◌↔◌, ◌⊎◌, ◌∷◌, ◌++◌, [], ℕ, ◌<◌, List, length, All, AllPairs, Contains, IfOk, IfSome, OnOk, IsTrue, if◌then◌else◌};
 ghost use Rattle.trans_seq.specs.Windows.{EndsKept, EndsWindow};
 ghost use Rattle.trans_auto.specs.State.{Stands, SaysKept, SaysWindow, TakesSample};
 ghost use Rattle.trans_auto.specs.Removing.{IsStep};
 ghost use Rattle.design_data.specs.Laws.{Value};
 ghost use Rattle.point_sampler.specs.Plans.{removed_by};
 ghost use Rattle.point_sampler.specs.Points.{Fits, RunsStand, OthersStand, Remembers};
-ghost use Rattle.point_sampler.specs.Met.{AreSteps, Answered, Ascend, IsPlaceOf, StandApart, IsTransPlace, AreTransMet};
+ghost use Rattle.point_sampler.specs.Met.{AreSteps, Answered, Ascend, IsPlaceOf, StandApart, IsTransPlace, AreTransMet, AreAllTransMet, IsAnyTransPlace, IsListPlace, ListEnds};
+ghost use Rattle.point_sampler.specs.Lists.{AreOrdered, AreLast};
 
-use crate::plan::{Machine, PointPlan, Removers};
+use crate::lists::{add_ended, add_recent};
+use crate::plan::{Machine, PointPlan, Removers, Words};
 use crate::rules::note;
 use crate::state::{PointState, Steps};
 use cov_base::{Int, Memory};
@@ -212,8 +214,33 @@ fn push_some(
     Ok(())
 }
 
-/// Takes the automata of a point over the next value of the trace, and puts the places of the transition bins and
-/// default sequences that are met into `met`.
+/// Takes the table of lists over the next value of the trace, and appends the places of the bins that are met.
+fn push_list(
+    words: &Option<Words>,
+    recent: &mut Vec<Option<Int>>,
+    spare: &mut Vec<Option<Int>>,
+    found: &mut Vec<u32>,
+    value: &Option<Int>,
+    met: &mut Vec<u32>,
+) -> Result<(), Memory>
+    requires { IfSome words.now AreOrdered }
+    ensures recent { OnOk result ((w : List Value) → IfSome words.now (λ words. AreLast recent.old.items w) → IfSome words.now (λ words. AreLast recent.new.items (w ++ value.now ∷ []))) }
+    ensures ended { OnOk result ((w : List Value) → IfSome words.now (λ words. AreLast recent.old.items w)
+        → (place : ℕ) → Contains met.new.items place ↔ (Contains met.old.items place ⊎ ListEnds words.now (w ++ value.now ∷ []) place)) }
+    ensures once { OnOk result (AllPairs (λ a b. a ≢ b) met.old.items
+        → ((place : ℕ) → Contains met.old.items place → IsListPlace words.now place → ⊥) → AllPairs (λ a b. a ≢ b) met.new.items) }
+    ensures among { OnOk result ((place : ℕ) → Contains met.new.items place → Contains met.old.items place ⊎ IsListPlace words.now place) }
+{
+    let Some(words) = words else {
+        return Ok(());
+    };
+    add_recent(recent, spare, value)?;
+    add_ended(words, recent.as_slice(), found, met)?;
+    Ok(())
+}
+
+/// Takes the automata and the table of a point over the next value of the trace, and puts the places of the transition
+/// bins and default sequences that are met into `met`.
 pub(crate) fn push_value(
     plan: &PointPlan,
     state: &mut PointState,
@@ -221,12 +248,13 @@ pub(crate) fn push_value(
 ) -> Result<(), Memory>
     requires fits { Fits plan.now state.old }
     requires apart { StandApart plan.now }
+    requires words { IfSome plan.now.words AreOrdered }
     ensures fits { OnOk result (Fits plan.now state.new) }
     ensures remembers { OnOk result ((w : List Value) → Remembers plan.now state.old w
         → Remembers plan.now state.new (w ++ value.now ∷ [])) }
     ensures met { OnOk result ((w : List Value) → Remembers plan.now state.old w
-        → AreTransMet plan.now w value.now state.new.met.items) }
-    ensures among { OnOk result ((place : ℕ) → Contains state.new.met.items place → IsTransPlace plan.now place) }
+        → AreAllTransMet plan.now w value.now state.new.met.items) }
+    ensures among { OnOk result ((place : ℕ) → Contains state.new.met.items place → IsAnyTransPlace plan.now place) }
     ensures once { OnOk result (AllPairs (λ a b. a ≢ b) state.new.met.items) }
 {
     state.met.clear();
@@ -236,6 +264,14 @@ pub(crate) fn push_value(
         state.runs.as_mut_slice(),
         &mut state.others,
         state.begun,
+        value,
+        &mut state.met,
+    )?;
+    push_list(
+        &plan.words,
+        &mut state.recent,
+        &mut state.spare,
+        &mut state.found,
         value,
         &mut state.met,
     )?;

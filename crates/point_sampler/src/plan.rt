@@ -1,6 +1,7 @@
 //! What is prepared of a point before its samples are counted. All records and threads share it.
 
 use cov_base::Int;
+use cov_tree::List;
 use design_data::BinKind;
 use trans_auto::{Removing, Watcher};
 use value_index::Index;
@@ -10,7 +11,7 @@ use value_index::Index;
 pub struct PointPlan {
     /// One for each bin.
     pub(crate) entries: Vec<Entry>,
-    /// The automata of the transition bins, in order.
+    /// The automata of the transition bins that the table doesn't have, in order.
     pub(crate) machines: Vec<Machine>,
     /// The sequences that take windows away.
     pub(crate) removers: Removers,
@@ -20,6 +21,17 @@ pub struct PointPlan {
     pub(crate) lookup: Option<Lookup>,
     /// The places of the default sequences.
     pub(crate) sequences: Vec<u32>,
+    /// The table of the bins that have one list each. There is none where there are default sequences.
+    pub(crate) words: Option<Words>,
+}
+
+/// The lists of the transition bins that have one list each, in the order of a dictionary.
+#[derive(Drop, Debug)]
+pub struct Words {
+    /// Each list with its last value first.
+    pub(crate) lists: Vec<List<Int>>,
+    /// For each the place of its bin.
+    pub(crate) places: Vec<u32>,
 }
 
 /// An index of the bins of values, by keys: how far a value stands above the least one.

@@ -1,5 +1,5 @@
 //! How a point is prepared.
-ghost use Rattle.std.specs.Prelude.{◌≡◌, ◌++◌, ◌≤◌, ◌<◌, ◌^◌, ℕ, ◌+◌, [], length, List, slice_get, Some, IfOk, OnOk, IfSome, if◌then◌else◌};
+ghost use Rattle.std.specs.Prelude.{◌≡◌, ◌++◌, ◌≤◌, ◌<◌, ◌^◌, ℕ, ◌+◌, [], length, List, slice_get, Some, None, IfOk, OnOk, IfSome, if◌then◌else◌};
 ghost use Rattle.const_eval.specs.Terms.{Term};
 ghost use Rattle.cov_ground.specs.Limits.{most_bins, most_cells};
 ghost use Rattle.trans_seq.specs.Cells.{cells_of_seqs};
@@ -7,11 +7,14 @@ ghost use Rattle.design_data.specs.declared.infos.ItemInfo.{ItemInfo as Item};
 ghost use Rattle.design_data.specs.declared.infos.BinInfo.{BinInfo as Bin};
 ghost use Rattle.design_data.specs.Limits.{IsPointRule};
 ghost use Rattle.record_codec.specs.Samples.{Env};
-ghost use Rattle.point_sampler.specs.Plans.{IsPoint, IsPlanOf, IsLookupOf, IsGuardAt, AreEntries, AreRemovers, machine_of, machines_from, places_from, is_default_sequence as is_default_sequence_of};
+ghost use Rattle.point_sampler.specs.Plans.{IsPoint, IsPlanOf, IsLookupOf, IsGuardAt, AreEntries, AreRemovers, is_watched, machine_of, machines_from, places_from, is_default_sequence as is_default_sequence_of};
 ghost use Rattle.point_sampler.specs.Points.{Fits, StateStands, RunsStand};
+ghost use Rattle.point_sampler.specs.Lists.{AreLists};
+ghost use Rattle.design_data.specs.declared.infos.BinRule.TheVariants.{Trans};
 
+use crate::lists::{list_of_seqs, words_of};
 use crate::lookups::lookup_of;
-use crate::plan::{Entry, Lookup, Machine, PointPlan, Removers};
+use crate::plan::{Entry, Lookup, Machine, PointPlan, Removers, Words};
 use crate::rules::note;
 use crate::state::{PointState, Steps};
 use cov_base::Memory;
@@ -59,36 +62,77 @@ fn entries_of(alloc: Global, bins: &[BinInfo]) -> Result<Vec<Entry>, Memory>
     Ok(entries)
 }
 
-/// Appends the automaton of a transition bin.
+/// Whether the bin of these sequences needs an automaton.
+fn needs_machine(alloc: Global, table: bool, seqs: &[Seq]) -> Result<bool, Memory>
+    ensures { IfOk result (λ needs. needs ≡ is_watched table seqs.now) }
+{
+    if !table {
+        return Ok(true);
+    }
+    let word = list_of_seqs(alloc, seqs)?;
+    Ok(word.is_none())
+}
+
+/// Appends the automaton of a transition bin, if it needs one.
 fn add_machine(
     alloc: Global,
+    table: bool,
     item: &ItemInfo,
     place: u32,
     bin: &BinInfo,
     machines: &mut Vec<Machine>,
 ) -> Result<(), Memory>
     requires { IsPointRule item.now bin.now.kind bin.now.rule }
-    ensures { OnOk result (machines.new.items ≡ machines.old.items ++ machine_of place bin.now.kind bin.now.rule) }
+    ensures { OnOk result (machines.new.items ≡ machines.old.items ++ machine_of table place bin.now.kind bin.now.rule) }
 {
-    if let BinRule::Trans(seqs) = &bin.rule {
-        let watcher = Watcher::new(alloc, seqs.as_slice()).map_err(|_| Memory)?;
-        machines.push(Machine {
+    match &bin.rule {
+        BinRule::Trans(seqs) => add_watcher(
+            alloc,
+            table,
+            item,
             place,
-            kind: bin.kind,
-            watcher,
-        })?;
+            bin,
+            seqs.as_slice(),
+            machines,
+        ),
+        _ => Ok(()),
     }
+}
+
+/// Appends the automaton of these sequences of a bin, if it needs one.
+fn add_watcher(
+    alloc: Global,
+    table: bool,
+    item: &ItemInfo,
+    place: u32,
+    bin: &BinInfo,
+    seqs: &[Seq],
+    machines: &mut Vec<Machine>,
+) -> Result<(), Memory>
+    requires few { cells_of_seqs seqs.now ≤ most_cells }
+    ensures { OnOk result (machines.new.items ≡ machines.old.items ++ machine_of table place bin.now.kind (Trans seqs.now)) }
+{
+    let _ = item;
+    if !needs_machine(alloc, table, seqs)? {
+        return Ok(());
+    }
+    let watcher = Watcher::new(alloc, seqs).map_err(|_| Memory)?;
+    machines.push(Machine {
+        place,
+        kind: bin.kind,
+        watcher,
+    })?;
     Ok(())
 }
 
-/// The automata of the transition bins.
-fn machines_of(alloc: Global, item: &ItemInfo) -> Result<Vec<Machine>, Memory>
+/// The automata of the transition bins that need one.
+fn machines_of(alloc: Global, table: bool, item: &ItemInfo) -> Result<Vec<Machine>, Memory>
     requires { IsPoint item.now }
-    ensures { IfOk result (λ machines. machines.items ≡ machines_from 0 item.now.bins) }
+    ensures { IfOk result (λ machines. machines.items ≡ machines_from table 0 item.now.bins) }
 {
     let mut machines = Vec::new(alloc);
     for (place, bin) in item.bins.as_slice().iter().enumerate() {
-        add_machine(alloc, item, place as u32, bin, &mut machines)?;
+        add_machine(alloc, table, item, place as u32, bin, &mut machines)?;
     }
     Ok(machines)
 }
@@ -163,6 +207,24 @@ fn removers_of(alloc: Global, item: &ItemInfo, removing_seqs: &[Seq]) -> Result<
     })
 }
 
+/// The table of the lists of a point without default sequences.
+fn table_of(
+    alloc: Global,
+    item: &ItemInfo,
+    removers: &Removers,
+    sequences: &[u32],
+) -> Result<Option<Words>, Memory>
+    requires point { IsPoint item.now }
+    requires removers { AreRemovers item.now removers.now }
+    ensures words { IfOk result (λ made. IfSome made (AreLists item.now)) }
+    ensures alone { IfOk result (λ made. 0 < length sequences.now → made ≡ None) }
+{
+    if !sequences.is_empty() {
+        return Ok(None);
+    }
+    words_of(alloc, item, removers)
+}
+
 /// The automata of a point's transitions, the bins standing prepared.
 fn plan_with(
     alloc: Global,
@@ -177,10 +239,11 @@ fn plan_with(
     requires lookup { IfSome lookup (IsLookupOf item.now.bins) }
     ensures { IfOk result (λ plan. IsPlanOf item.now plan) }
 {
-    let machines = machines_of(alloc, item)?;
     let sequences = sequences_of(alloc, item.bins.as_slice())?;
     let removers = removers_of(alloc, item, removing_seqs)?;
     let others = watcher(alloc, removing_seqs)?;
+    let words = table_of(alloc, item, &removers, sequences.as_slice())?;
+    let machines = machines_of(alloc, words.is_some(), item)?;
     Ok(PointPlan {
         entries,
         machines,
@@ -188,6 +251,7 @@ fn plan_with(
         others,
         lookup,
         sequences,
+        words,
     })
 }
 
@@ -234,6 +298,9 @@ impl PointState {
                 ignoring: Step::new(alloc),
                 none: Step::new(alloc),
             },
+            recent: Vec::new(alloc),
+            spare: Vec::new(alloc),
+            found: Vec::new(alloc),
             met: Vec::new(alloc),
         })
     }

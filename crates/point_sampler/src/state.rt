@@ -1,5 +1,6 @@
 //! What a point remembers from one sample to the next.
 
+use cov_base::Int;
 use trans_auto::{Step, TransState};
 
 /// What a point remembers from one sample to the next, and room for what a sample meets. Each record has its own.
@@ -13,6 +14,11 @@ pub struct PointState {
     pub(crate) others: TransState,
     /// What the latest sample does to the sequences that take windows away.
     pub(crate) steps: Steps,
+    /// The last values of the trace, where there is a table of lists.
+    pub(crate) recent: Vec<Option<Int>>,
+    /// Room for the last values, and for the lists that the trace ends with.
+    pub(crate) spare: Vec<Option<Int>>,
+    pub(crate) found: Vec<u32>,
     /// The places of the bins whose rule the latest sample meets.
     pub(crate) met: Vec<u32>,
 }

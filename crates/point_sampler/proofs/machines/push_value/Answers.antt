@@ -1,6 +1,7 @@
 use Rattle.std.proofs.Common.{◌≡◌, ap, ℕ, List, length, ◌++◌, ◌∷◌, [], refl, arith, length-append, subst, sym}
 use Rattle.std.proofs.lemmas.List.{with_items_is}
 use Rattle.point_sampler.specs.Points.{RunsStand}
+use Rattle.point_sampler.proofs.Tables.{all_met, all_among}
 use Rattle.point_sampler.proofs.machines.push_value.Goals as goal
 
 pub returns-clause-remembers : goal.returns-clause-remembers
@@ -11,8 +12,15 @@ returns-clause-remembers c = λ w h. record {
       subst (λ (rs : List (List (ℕ × ℕ))). RunsStand c.args.plan.now.machines.items c.args.plan.now.removers rs (w ++ c.args.value.now ∷ [])) (sym (with_items_is c.args.state.now.runs c.push_some.new.runs len))
       (c.in_ok-push_some.ensures.runs w (subst (λ (rs : List (List (ℕ × ℕ))). RunsStand c.args.plan.now.machines.items c.args.plan.now.removers rs w) (sym c.as_mut_slice.ensures.value) h.runs));
   others = c.in_ok-push_some.ensures.others w h.others;
+  recent = c.in_ok-push_list.ensures.recent w h.recent;
 }
 
 pub returns-clause-met : goal.returns-clause-met
-returns-clause-met c = λ w h. c.in_ok-push_some.ensures.met w h.begun
-    (subst (λ (rs : List (List (ℕ × ℕ))). RunsStand c.args.plan.now.machines.items c.args.plan.now.removers rs w) (sym c.as_mut_slice.ensures.value) h.runs) h.others
+returns-clause-met c = λ w h. all_met c.args.plan.now w c.args.value.now c.push_some.new.met.items c.push_list.new.met.items (c.in_ok-push_some.ensures.met w h.begun
+    (subst (λ (rs : List (List (ℕ × ℕ))). RunsStand c.args.plan.now.machines.items c.args.plan.now.removers rs w) (sym c.as_mut_slice.ensures.value) h.runs) h.others) (c.in_ok-push_list.ensures.ended w h.recent)
+
+pub returns-clause-among : goal.returns-clause-among
+returns-clause-among c = all_among c.args.plan.now c.push_some.new.met.items c.push_list.new.met.items c.in_ok-push_some.ensures.among c.in_ok-push_list.ensures.among
+
+pub returns-clause-once : goal.returns-clause-once
+returns-clause-once c = c.in_ok-push_list.ensures.once c.in_ok-push_some.ensures.once (λ place m l. c.requires.apart.lists place (c.in_ok-push_some.ensures.among place m) l)

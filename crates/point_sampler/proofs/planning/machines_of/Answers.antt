@@ -12,4 +12,4 @@ loop-place-preserved c =
     let bin = c.bin-item.result in
     let lt : place < length bins = omega (arith, c.loop-place-test.true, ap (λ (b : List BinInfo). length b) c.as_slice-bin-items.ensures) in
     let is : bin ≡ get_or bins place bin = c.bin-item.is ∙ ap (λ (b : List BinInfo). get_or b place bin) c.as_slice-bin-items.ensures in
-    c.in_ok-add_machine.ensures ∙ ap (λ (ms : List Machine). ms ++ machine_of place bin.kind bin.rule) c.loop-place.invariant ∙ sym (machines_more bins place bin lt is)
+    c.in_ok-add_machine.ensures ∙ ap (λ (ms : List Machine). ms ++ machine_of c.args.table place bin.kind bin.rule) c.loop-place.invariant ∙ sym (machines_more c.args.table bins place bin lt is)

@@ -3,4 +3,4 @@ use Rattle.point_sampler.specs.Plans.{machines_from}
 use Rattle.point_sampler.proofs.planning.machines_of.Given as goal
 
 abbrev pub invariant-loop-place : goal.invariant-loop-place
-invariant-loop-place l = l.machines.items ≡ machines_from 0 (take l.place l.item.bins)
+invariant-loop-place l = l.machines.items ≡ machines_from l.table 0 (take l.place l.item.bins)

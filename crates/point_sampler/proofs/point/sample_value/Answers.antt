@@ -1,10 +1,13 @@
 use Rattle.std.proofs.Common.{◌<◌, ◌∙◌, length, arith, inl, inr}
 use Rattle.std.proofs.lemmas.Option.{slice_get_within}
-use Rattle.point_sampler.proofs.Meeting.{apart_of, are_met, met_within, met_once}
+use Rattle.point_sampler.proofs.Meeting.{apart_of, are_ordered, are_met, met_within, met_once}
 use Rattle.point_sampler.proofs.point.sample_value.Goals as goal
 
 pub push_value-requires-clause-apart : goal.push_value-requires-clause-apart
 push_value-requires-clause-apart c = apart_of c.args.item.now c.args.plan.now c.requires.plan
+
+pub push_value-requires-clause-words : goal.push_value-requires-clause-words
+push_value-requires-clause-words c = are_ordered c.args.item.now c.args.plan.now.words c.requires.plan.words
 
 pub count_met-requires-clause-within : goal.count_met-requires-clause-within
 count_met-requires-clause-within c = met_within c.args.item.now c.args.plan.now c.requires.plan c.args.value.now c.push_value.new.state.met.items c.as_slice-2.result.now c.in_ok-push_value.ensures.among (c.as_slice-2.ensures.value ∙ c.in_ok-add_values.ensures)
@@ -13,7 +16,7 @@ pub count_met-requires-clause-once : goal.count_met-requires-clause-once
 count_met-requires-clause-once c = met_once c.args.item.now c.args.plan.now c.requires.plan c.args.value.now c.push_value.new.state.met.items c.as_slice-2.result.now c.in_ok-push_value.ensures.among (c.as_slice-2.ensures.value ∙ c.in_ok-add_values.ensures) c.in_ok-push_value.ensures.once
 
 pub returns-clause-remembers : goal.returns-clause-remembers
-returns-clause-remembers c = λ w h. let r = c.in_ok-push_value.ensures.remembers w h in record { begun = r.begun; runs = r.runs; others = r.others }
+returns-clause-remembers c = λ w h. let r = c.in_ok-push_value.ensures.remembers w h in record { begun = r.begun; runs = r.runs; others = r.others; recent = r.recent }
 
 pub returns-clause-taken : goal.returns-clause-taken
 returns-clause-taken c = λ w h. record {
