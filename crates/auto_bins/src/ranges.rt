@@ -10,7 +10,7 @@ use cov_base::{Int, Memory};
 use std::alloc::Global;
 
 /// A type of numbers: `width` bits, 1 to 64, in two's complement where it is signed.
-#[derive(Clone, Copy, Debug, PartialEq, Eq)]
+#[derive(Clone, Copy, PartialEq, Eq)]
 pub struct Typ2 {
     pub width: u8,
     pub signed: bool,

@@ -9,9 +9,9 @@ ghost use Rattle.const_eval.specs.Fronts.{IsFront, GivesFront};
 ghost use Rattle.const_eval.specs.Binding.{Gives, has_width as tests_width, literal, found as found_of, constant_of, index_number, is_outside as tests_outside, selected, with_part, parts_behind, any_unsized, concatenated, concatenation, seen, bound_of, place_of, unsized_of};
 
 use crate::{BindFault, Bound, Meaning, Scope, Typ, eval, first_signal, typ};
-use cov_base::Int;
+use cov_base::{Int, Memory};
 use cov_tree::{Expr, Literal, Name};
-use std::alloc::{AllocError, Global};
+use std::alloc::Global;
 
 /// The expression with each name replaced by what it stands for, or its first fault: of a select that of its name, then
 /// of its indexes from left to right, each of which is bound, looked at for signals and computed before the next, then
@@ -40,15 +40,15 @@ fn bind_within(
     ensures { Gives result (bound_of (names_with item scope.now) expr.now) }
 {
     match expr {
-        Expr::Num { lit, at } => bind_literal(lit, *at),
+        Expr::Num { lit, at } => bind_literal(alloc, lit, *at),
         Expr::Name { name, at } => {
             let meaning = find(scope, item, name, *at)?;
-            Ok(Bound::name(meaning, *at))
+            Ok(Bound::name(alloc, meaning, *at)?)
         }
         Expr::Bit { name, index, at } => {
             let meaning = find(scope, item, name, *at)?;
             let place = number_of_index(alloc, index.get(), scope, item)?;
-            select(meaning, place, place, *at)
+            select(alloc, meaning, place, place, *at)
         }
         Expr::Part {
             name,
@@ -59,7 +59,7 @@ fn bind_within(
             let meaning = find(scope, item, name, *at)?;
             let last = number_of_index(alloc, high.get(), scope, item)?;
             let first = number_of_index(alloc, low.get(), scope, item)?;
-            select(meaning, last, first, *at)
+            select(alloc, meaning, last, first, *at)
         }
         Expr::Concat { parts, at } => bind_concat(alloc, parts.as_slice(), scope, item, *at),
         Expr::Unary { op, arg, .. } => {
@@ -123,7 +123,7 @@ fn has_width(width: u8) -> bool
 }
 
 /// A literal without free bits.
-fn bind_literal(lit: &Literal, at: u32) -> Result<Bound, BindFault>
+fn bind_literal(alloc: Global, lit: &Literal, at: u32) -> Result<Bound, BindFault>
     ensures { Gives result (literal lit.now at) }
 {
     if !has_width(lit.width) {
@@ -136,7 +136,7 @@ fn bind_literal(lit: &Literal, at: u32) -> Result<Bound, BindFault>
         width: lit.width,
         signed: lit.signed,
     };
-    Ok(Bound::number(lit.bits, typ))
+    Ok(Bound::number(alloc, lit.bits, typ)?)
 }
 
 /// What a name stands for.
@@ -190,9 +190,9 @@ fn distance(from: i128, to: i128) -> u8
 }
 
 /// Bits of the value of a name, from one place of its span to another.
-fn select(meaning: Meaning, high: Int, low: Int, at: u32) -> Result<Bound, BindFault>
+fn select(alloc: Global, meaning: Meaning, high: Int, low: Int, at: u32) -> Result<Bound, BindFault>
     requires { HasWidth (typ_in meaning) }
-    ensures { result ≡ selected meaning high low at }
+    ensures { Gives result (selected meaning high low at) }
 {
     let Some(base) = meaning.low() else {
         return Err(BindFault::BadSelect { at });
@@ -204,7 +204,7 @@ fn select(meaning: Meaning, high: Int, low: Int, at: u32) -> Result<Bound, BindF
     }
     let skip = distance(i128::from(base), first);
     let count = distance(first, last) + 1;
-    Ok(Bound::part(meaning, skip, count, at))
+    Ok(Bound::part(alloc, meaning, skip, count, at)?)
 }
 
 /// The parts of a concatenation so far.
@@ -219,7 +219,7 @@ enum Front {
 }
 
 /// The front with one part more.
-fn extended(alloc: Global, front: Front, part: Bound) -> Result<Front, AllocError>
+fn extended(alloc: Global, front: Front, part: Bound) -> Result<Front, Memory>
     ensures { (terms : Option Term) → IsFront front terms → IfOk result (λ next. IsFront next (Some (with_part terms part))) }
 {
     match front {

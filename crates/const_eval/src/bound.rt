@@ -8,13 +8,13 @@ ghost use Rattle.const_eval.specs.Nodes.{IsWithin, IsTyped, term_of};
 use crate::typs::{ONE_BIT, common, either_typ, typ_of_binary};
 use crate::{Meaning, Typ};
 use cov_base::Memory;
-use cov_tree::{BinOp, UnOp};
+use cov_tree::{BinOp, Boxed, UnOp};
 use std::alloc::{AllocError, Global};
 use std::marker::Model;
 
 /// An expression with its type.
 #[cycle(typed)]
-#[derive(Drop, Debug)]
+#[derive(Drop)]
 pub(crate) struct Typed {
     pub(crate) typ: Typ,
     pub(crate) node: Node,
@@ -22,7 +22,7 @@ pub(crate) struct Typed {
 
 /// An expression by its outermost form.
 #[cycle(typed)]
-#[derive(Drop, Debug)]
+#[derive(Drop)]
 pub(crate) enum Node {
     Number { bits: u64 },
     Name { meaning: Meaning, at: u32 },
@@ -34,10 +34,18 @@ pub(crate) enum Node {
     Cond(Box<Typed>, Box<Typed>, Box<Typed>),
 }
 
-/// An expression whose names are bound: it is seen as the expression with each name replaced by its meaning.
-#[derive(Drop, Debug)]
+/// An expression whose names are bound: it is seen as the expression with each name replaced by its meaning. It takes one
+/// word where it stands, since most bins have none. Its drop is one function, in place of the cases of a node wherever an
+/// owner of it may let it go.
 pub struct Bound {
-    pub(crate) typed: Typed,
+    pub(crate) typed: Boxed<Typed>,
+}
+
+impl Drop for Bound {
+    fn drop(self) {
+        let Bound { typed } = self;
+        drop(typed);
+    }
 }
 
 impl Model for Bound {
@@ -59,105 +67,100 @@ impl Bound {
     pub fn copy(&self, alloc: Global) -> Result<Bound, Memory>
         ensures { IfOk result (λ copy. copy ≡ self.now) }
     {
-        let typed = self.typed.copy(alloc)?;
+        let typed = self.typed.get().copy(alloc)?;
+        Bound::of(alloc, typed.typ, typed.node)
+    }
+
+    /// The expression of this form, with its type.
+    fn of(alloc: Global, typ: Typ, node: Node) -> Result<Bound, Memory>
+        requires { IsTyped (record { typ = typ; node = node }) }
+        ensures { IfOk result (λ bound. bound ≡ term_of (record { typ = typ; node = node })) }
+    {
+        let typed = Boxed::of(alloc, Typed { typ, node })?;
         Ok(Bound { typed })
     }
 
     /// A number of so many bits.
-    pub(crate) fn number(bits: u64, typ: Typ) -> Bound
+    pub(crate) fn number(alloc: Global, bits: u64, typ: Typ) -> Result<Bound, Memory>
         requires { HasWidth typ }
-        ensures { result ≡ term.number bits typ }
+        ensures { IfOk result (λ bound. bound ≡ term.number bits typ) }
     {
-        Bound {
-            typed: Typed {
-                typ,
-                node: Node::Number { bits },
-            },
-        }
+        Bound::of(alloc, typ, Node::Number { bits })
     }
 
     /// The value of a name.
-    pub(crate) fn name(meaning: Meaning, at: u32) -> Bound
+    pub(crate) fn name(alloc: Global, meaning: Meaning, at: u32) -> Result<Bound, Memory>
         requires { HasWidth (typ_in meaning) }
-        ensures { result ≡ term.name meaning at }
+        ensures { IfOk result (λ bound. bound ≡ term.name meaning at) }
     {
-        Bound {
-            typed: Typed {
-                typ: meaning.typ(),
-                node: Node::Name { meaning, at },
-            },
-        }
+        Bound::of(alloc, meaning.typ(), Node::Name { meaning, at })
     }
 
     /// Bits of the value of a name.
-    pub(crate) fn part(meaning: Meaning, skip: u8, width: u8, at: u32) -> Bound
+    pub(crate) fn part(
+        alloc: Global,
+        meaning: Meaning,
+        skip: u8,
+        width: u8,
+        at: u32,
+    ) -> Result<Bound, Memory>
         requires least { 1 ≤ width }
         requires within { IsWithin (typ_in meaning) skip width }
-        ensures { result ≡ term.part meaning skip width at }
+        ensures { IfOk result (λ bound. bound ≡ term.part meaning skip width at) }
     {
-        Bound {
-            typed: Typed {
-                typ: Typ {
-                    width,
-                    signed: false,
-                },
-                node: Node::Part { meaning, skip, at },
-            },
-        }
+        let typ = Typ {
+            width,
+            signed: false,
+        };
+        Bound::of(alloc, typ, Node::Part { meaning, skip, at })
+    }
+
+    /// The expression itself.
+    fn into_typed(self) -> Typed
+        ensures typed { IsTyped result }
+        ensures term { term_of result ≡ self }
+    {
+        let Bound { typed } = self;
+        typed.into_inner()
     }
 
     /// A concatenation of one part.
-    pub(crate) fn alone(alloc: Global, part: Bound) -> Result<Bound, AllocError>
+    pub(crate) fn alone(alloc: Global, part: Bound) -> Result<Bound, Memory>
         ensures { IfOk result (λ bound. bound ≡ term.alone part) }
     {
-        let Bound { typed } = part;
+        let typed = part.into_typed();
         let typ = Typ {
             width: typed.own_typ().width,
             signed: false,
         };
         let inner = Box::new(alloc, typed)?;
-        Ok(Bound {
-            typed: Typed {
-                typ,
-                node: Node::Alone(inner),
-            },
-        })
+        Bound::of(alloc, typ, Node::Alone(inner))
     }
 
     /// A concatenation with one part more.
-    pub(crate) fn joined(alloc: Global, front: Bound, part: Bound) -> Result<Bound, AllocError>
+    pub(crate) fn joined(alloc: Global, front: Bound, part: Bound) -> Result<Bound, Memory>
         requires { (term.typ_of front).width + (term.typ_of part).width ≤ 64 }
         ensures { IfOk result (λ bound. bound ≡ term.joined front part) }
     {
-        let Bound { typed: left } = front;
-        let Bound { typed: right } = part;
+        let left = front.into_typed();
+        let right = part.into_typed();
         let typ = Typ {
             width: left.own_typ().width + right.own_typ().width,
             signed: false,
         };
         let left = Box::new(alloc, left)?;
         let right = Box::new(alloc, right)?;
-        Ok(Bound {
-            typed: Typed {
-                typ,
-                node: Node::Joined(left, right),
-            },
-        })
+        Bound::of(alloc, typ, Node::Joined(left, right))
     }
 
     /// An operator before one operand.
-    pub(crate) fn unary(alloc: Global, op: UnOp, arg: Bound) -> Result<Bound, AllocError>
+    pub(crate) fn unary(alloc: Global, op: UnOp, arg: Bound) -> Result<Bound, Memory>
         ensures { IfOk result (λ bound. bound ≡ term.unary op arg) }
     {
-        let Bound { typed } = arg;
+        let typed = arg.into_typed();
         let typ = either_typ(op, typed.own_typ(), ONE_BIT);
         let inner = Box::new(alloc, typed)?;
-        Ok(Bound {
-            typed: Typed {
-                typ,
-                node: Node::Unary(op, inner),
-            },
-        })
+        Bound::of(alloc, typ, Node::Unary(op, inner))
     }
 
     /// An operator between two operands.
@@ -166,20 +169,15 @@ impl Bound {
         op: BinOp,
         left: Bound,
         right: Bound,
-    ) -> Result<Bound, AllocError>
+    ) -> Result<Bound, Memory>
         ensures { IfOk result (λ bound. bound ≡ term.binary op left right) }
     {
-        let Bound { typed: left } = left;
-        let Bound { typed: right } = right;
+        let left = left.into_typed();
+        let right = right.into_typed();
         let typ = typ_of_binary(op, left.own_typ(), right.own_typ());
         let left = Box::new(alloc, left)?;
         let right = Box::new(alloc, right)?;
-        Ok(Bound {
-            typed: Typed {
-                typ,
-                node: Node::Binary(op, left, right),
-            },
-        })
+        Bound::of(alloc, typ, Node::Binary(op, left, right))
     }
 
     /// `?:`
@@ -188,22 +186,17 @@ impl Bound {
         test: Bound,
         first: Bound,
         second: Bound,
-    ) -> Result<Bound, AllocError>
+    ) -> Result<Bound, Memory>
         ensures { IfOk result (λ bound. bound ≡ term.choice test first second) }
     {
-        let Bound { typed: test } = test;
-        let Bound { typed: first } = first;
-        let Bound { typed: second } = second;
+        let test = test.into_typed();
+        let first = first.into_typed();
+        let second = second.into_typed();
         let typ = common(first.own_typ(), second.own_typ());
         let test = Box::new(alloc, test)?;
         let first = Box::new(alloc, first)?;
         let second = Box::new(alloc, second)?;
-        Ok(Bound {
-            typed: Typed {
-                typ,
-                node: Node::Cond(test, first, second),
-            },
-        })
+        Bound::of(alloc, typ, Node::Cond(test, first, second))
     }
 }
 

@@ -10,7 +10,7 @@ use cov_base::Int;
 pub const ITEM: u16 = 65_535;
 
 /// What a name in an expression stands for.
-#[derive(Clone, Copy, Debug, PartialEq, Eq)]
+#[derive(Clone, Copy, PartialEq, Eq)]
 pub enum Meaning {
     /// A signal, by its place in the list of signals.
     Signal {

@@ -11,7 +11,7 @@ use crate::{Bound, ITEM, Meaning};
 pub fn first_signal(bound: &Bound, with_item: bool) -> Option<u32>
     ensures { result ≡ first_signal_of with_item bound.now }
 {
-    bound.typed.first_signal(with_item)
+    bound.typed.get().first_signal(with_item)
 }
 
 /// The place, where a name at it stands for a signal.

@@ -5,7 +5,7 @@ ghost use Rattle.const_eval.specs.Typs.{HasWidth, common as common_of, one_bit, 
 use cov_tree::{BinOp, UnOp};
 
 /// The type of an expression: how many bits it has, and whether they are read in two's complement.
-#[derive(Clone, Copy, Debug, PartialEq, Eq)]
+#[derive(Clone, Copy, PartialEq, Eq)]
 pub struct Typ {
     /// How many bits, 1 to 64 in all that `bind` accepts.
     pub width: u8,

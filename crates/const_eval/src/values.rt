@@ -26,7 +26,7 @@ pub fn typ(bound: &Bound) -> Typ
     ensures value { result ≡ typ_of_term bound.now }
     ensures width { HasWidth result }
 {
-    bound.typed.own_typ()
+    bound.typed.get().own_typ()
 }
 
 /// The value of the expression, or None where it is unknown. `signals` are the values of the signals by their places; a
@@ -35,8 +35,9 @@ pub fn eval(bound: &Bound, signals: &[Option<Int>], item: Option<Int>) -> Option
     ensures { result ≡ value bound.now signals.now item }
 {
     let sample = Sample { signals, item };
+    let typed = bound.typed.get();
     let mut out = 0;
-    if bound.typed.value(bound.typed.own_typ(), &sample, &mut out) {
+    if typed.value(typed.own_typ(), &sample, &mut out) {
         Int::new(out)
     } else {
         None

@@ -16,7 +16,7 @@ use std::marker::Model;
 
 /// A set of numbers: the list of its intervals, ascending, each with its low and its high end, no two of which
 /// overlap or touch. Two sets of the same numbers are the same list.
-#[derive(Drop, Debug)]
+#[derive(Drop)]
 pub struct ValueSet {
     intervals: Vec<(Int, Int)>,
     counts: Counts,

@@ -15,7 +15,7 @@ use elab_values::Made;
 use trans_seq::{Item, Seq};
 
 /// How many items and bins a design has so far, and how many intervals its bins have.
-#[derive(Clone, Copy, Debug, PartialEq, Eq)]
+#[derive(Clone, Copy, PartialEq, Eq)]
 pub struct Counts {
     pub items: u32,
     pub bins: u32,

@@ -28,12 +28,24 @@ use elab_values::{ItemDecls, Made};
 use name_map::NameMap;
 use std::alloc::Global;
 
-/// What stands at the head of a cross.
-#[derive(Drop)]
+/// What stands at the head of a cross. Its drop is one function.
 pub struct CrossHead {
     pub name: Name,
     pub guard: Option<Bound>,
     pub options: Options,
+}
+
+impl Drop for CrossHead {
+    fn drop(self) {
+        let CrossHead {
+            name,
+            guard,
+            options,
+        } = self;
+        drop(name);
+        drop(guard);
+        drop(options);
+    }
 }
 
 // ---- names
@@ -279,27 +291,29 @@ fn bins_of(
 
 // ---- a cross
 
-/// A cross with these bins.
-fn item_of(alloc: Global, head: CrossHead, axes: List<u32>, bins: List<BinInfo>) -> ItemInfo
-    ensures { result ≡ record { name = head.name; weight = head.options.weight; type_weight = head.options.type_weight; goal = head.options.goal; at_least = head.options.at_least; guard = head.guard; shape = Cross axes; first_bin = 0; bins = bins; ignored = []; illegal = [] } }
-{
-    let CrossHead {
-        name,
-        guard,
-        options,
-    } = head;
-    ItemInfo {
-        name,
-        weight: options.weight,
-        type_weight: options.type_weight,
-        goal: options.goal,
-        at_least: options.at_least,
-        guard,
-        shape: ItemShape::Cross(axes),
-        first_bin: 0,
-        bins,
-        ignored: List::new(alloc),
-        illegal: List::new(alloc),
+impl CrossHead {
+    /// A cross with these bins.
+    fn into_item(self, alloc: Global, axes: List<u32>, bins: List<BinInfo>) -> ItemInfo
+        ensures { result ≡ record { name = self.name; weight = self.options.weight; type_weight = self.options.type_weight; goal = self.options.goal; at_least = self.options.at_least; guard = self.guard; shape = Cross axes; first_bin = 0; bins = bins; ignored = []; illegal = [] } }
+    {
+        let CrossHead {
+            name,
+            guard,
+            options,
+        } = self;
+        ItemInfo {
+            name,
+            weight: options.weight,
+            type_weight: options.type_weight,
+            goal: options.goal,
+            at_least: options.at_least,
+            guard,
+            shape: ItemShape::Cross(axes),
+            first_bin: 0,
+            bins,
+            ignored: List::new(alloc),
+            illegal: List::new(alloc),
+        }
     }
 }
 
@@ -326,7 +340,7 @@ fn keep_cross(
     ensures { OnOk result (items.new ≡ with_cross head axes bins counts items.old) }
 {
     let bins = infos(alloc, bins.into_vec())?;
-    let item = item_of(alloc, head, axes, bins);
+    let item = head.into_item(alloc, axes, bins);
     keep_item(alloc, item, no_decls(alloc), counts, items)
 }
 

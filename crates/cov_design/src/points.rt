@@ -29,13 +29,27 @@ use elab_values::{Domain, ItemDecls, Made, PointBins, Settings};
 use std::alloc::Global;
 use trans_seq::Seq;
 
-/// What stands at the head of a point.
-#[derive(Drop)]
+/// What stands at the head of a point. Its drop is one function.
 pub struct Head {
     pub name: Name,
     pub expr: Bound,
     pub guard: Option<Bound>,
     pub options: Options,
+}
+
+impl Drop for Head {
+    fn drop(self) {
+        let Head {
+            name,
+            expr,
+            guard,
+            options,
+        } = self;
+        drop(name);
+        drop(expr);
+        drop(guard);
+        drop(options);
+    }
 }
 
 fn numbered_name(alloc: Global, k: usize) -> Result<Name, Memory>
@@ -88,28 +102,30 @@ fn decls_of(
     })
 }
 
-/// A point with these bins and sequences.
-fn item_of(head: Head, bins: List<BinInfo>, ignored: List<Seq>, illegal: List<Seq>) -> ItemInfo
-    ensures { result ≡ record { name = head.name; weight = head.options.weight; type_weight = head.options.type_weight; goal = head.options.goal; at_least = head.options.at_least; guard = head.guard; shape = Point head.expr; first_bin = 0; bins = bins; ignored = ignored; illegal = illegal } }
-{
-    let Head {
-        name,
-        expr,
-        guard,
-        options,
-    } = head;
-    ItemInfo {
-        name,
-        weight: options.weight,
-        type_weight: options.type_weight,
-        goal: options.goal,
-        at_least: options.at_least,
-        guard,
-        shape: ItemShape::Point(expr),
-        first_bin: 0,
-        bins,
-        ignored,
-        illegal,
+impl Head {
+    /// A point with these bins and sequences.
+    fn into_item(self, bins: List<BinInfo>, ignored: List<Seq>, illegal: List<Seq>) -> ItemInfo
+        ensures { result ≡ record { name = self.name; weight = self.options.weight; type_weight = self.options.type_weight; goal = self.options.goal; at_least = self.options.at_least; guard = self.guard; shape = Point self.expr; first_bin = 0; bins = bins; ignored = ignored; illegal = illegal } }
+    {
+        let Head {
+            name,
+            expr,
+            guard,
+            options,
+        } = self;
+        ItemInfo {
+            name,
+            weight: options.weight,
+            type_weight: options.type_weight,
+            goal: options.goal,
+            at_least: options.at_least,
+            guard,
+            shape: ItemShape::Point(expr),
+            first_bin: 0,
+            bins,
+            ignored,
+            illegal,
+        }
     }
 }
 
@@ -133,7 +149,7 @@ fn keep_point(
     } = found;
     let decls = decls_of(alloc, domain, names.as_slice(), bins.as_slice())?;
     let bins = infos(alloc, bins.into_vec())?;
-    let item = item_of(head, bins, ignored, illegal);
+    let item = head.into_item(bins, ignored, illegal);
     keep_item(alloc, item, decls, counts, items)
 }
 

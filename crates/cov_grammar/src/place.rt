@@ -5,7 +5,7 @@ ghost use Rattle.cov_grammar.specs.declared.place.Stop.TheVariants.{Memory};
 use std::alloc::{AllocError, AllocFailed};
 
 /// A place among the tokens.
-#[derive(Clone, Copy, Debug, PartialEq, Eq)]
+#[derive(Clone, Copy, PartialEq, Eq)]
 pub struct Place {
     /// How many tokens stand before it.
     pub at: usize,
@@ -14,7 +14,7 @@ pub struct Place {
 }
 
 /// What a text may use up.
-#[derive(Clone, Copy, Debug, PartialEq, Eq)]
+#[derive(Clone, Copy, PartialEq, Eq)]
 pub struct Room {
     /// How many levels of an expression or of a selection may be open at once.
     pub levels: usize,
@@ -23,7 +23,7 @@ pub struct Room {
 }
 
 /// Why a reading stops. The places are places in the list of tokens.
-#[derive(Clone, Copy, Debug, PartialEq, Eq)]
+#[derive(Clone, Copy, PartialEq, Eq)]
 pub enum Stop {
     /// Memory ran out.
     Memory,
@@ -58,7 +58,7 @@ impl From<cov_tree::Memory> for Stop {
 }
 
 /// Where an expression stands.
-#[derive(Clone, Copy, Debug, PartialEq, Eq)]
+#[derive(Clone, Copy, PartialEq, Eq)]
 pub enum Standing {
     /// Where a `[` behind a name opens an index.
     Plain,

@@ -4,7 +4,7 @@ use cov_tree::Name;
 use record_codec::Record;
 
 /// A question to a store, or a change that is wanted of it.
-#[derive(Drop, Debug)]
+#[derive(Drop)]
 pub enum Ask {
     /// How many bins there are, where the history has come to this point.
     Hello { point: u64 },

@@ -4,14 +4,14 @@ use design_data::Design;
 use record_codec::Record;
 
 /// A text with the design that it declares.
-#[derive(Drop, Debug)]
+#[derive(Drop)]
 pub struct Revision {
     pub text: Name,
     pub design: Design,
 }
 
 /// A change of a store.
-#[derive(Drop, Debug)]
+#[derive(Drop)]
 pub enum Event {
     /// A record is admitted as a test.
     Admit(Record),
@@ -26,7 +26,7 @@ pub enum Event {
 }
 
 /// A change with the number of the caller who made it.
-#[derive(Drop, Debug)]
+#[derive(Drop)]
 pub struct Entry {
     pub caller: u32,
     pub event: Event,

@@ -4,7 +4,7 @@ ghost use Rattle.cov_lexer.specs.Bytes.{is_letter, is_digit, is_word, is_number,
 ghost use Rattle.cov_lexer.specs.Literals.{base_of, digit_bits, radix};
 
 /// The base of a number.
-#[derive(Clone, Copy, Debug, PartialEq, Eq)]
+#[derive(Clone, Copy, PartialEq, Eq)]
 pub(crate) enum Base {
     Binary,
     Octal,
@@ -13,7 +13,7 @@ pub(crate) enum Base {
 }
 
 /// Bytes that stand in runs.
-#[derive(Clone, Copy, Debug, PartialEq, Eq)]
+#[derive(Clone, Copy, PartialEq, Eq)]
 pub(crate) enum Class {
     /// What a name goes on with.
     Word,

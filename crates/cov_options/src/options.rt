@@ -10,7 +10,7 @@ use std::alloc::Global;
 /// What the options of one covergroup, coverpoint or cross are (IEEE 1800-2017, 19.7). A field is named as its option,
 /// with `type_` before it where the word is `type_option`. A mark ends in `_set` and says that [`Options::set`] has set
 /// its option.
-#[derive(Drop, Debug)]
+#[derive(Drop)]
 pub struct Options {
     /// `option.weight`, 0 to 2^31 - 1, by default 1.
     pub weight: u32,

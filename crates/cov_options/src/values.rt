@@ -4,7 +4,7 @@ use cov_tree::Name;
 use thiserror::Error;
 
 /// What an option is set in.
-#[derive(Clone, Copy, Debug, PartialEq, Eq)]
+#[derive(Clone, Copy, PartialEq, Eq)]
 pub enum Level {
     /// A covergroup.
     Group,
@@ -15,7 +15,7 @@ pub enum Level {
 }
 
 /// What an option is set to.
-#[derive(Drop, Debug)]
+#[derive(Drop)]
 pub enum OptValue {
     /// The value of a constant expression.
     Number(Int),

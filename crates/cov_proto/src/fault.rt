@@ -6,13 +6,13 @@ ghost use Rattle.cov_proto.specs.Frames.{longest_body};
 use std::alloc::{AllocError, AllocFailed};
 
 /// The field or the byte at fault has so many bytes left, its own among them.
-#[derive(Clone, Copy, Debug, PartialEq, Eq)]
+#[derive(Clone, Copy, PartialEq, Eq)]
 pub(crate) struct BadAt {
     pub(crate) left: usize,
 }
 
 /// Why what takes memory stops.
-#[derive(Clone, Copy, Debug, PartialEq, Eq)]
+#[derive(Clone, Copy, PartialEq, Eq)]
 pub(crate) enum Fault {
     /// At a fault that has so many bytes left.
     At { left: usize },

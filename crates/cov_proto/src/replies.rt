@@ -3,7 +3,7 @@ use cov_tree::Name;
 use ucis_model::Answer;
 
 /// What a reply says.
-#[derive(Drop, Debug)]
+#[derive(Drop)]
 pub enum Body {
     /// What the store answers.
     Store(Answer),
@@ -41,7 +41,7 @@ pub enum Body {
 }
 
 /// What is answered, and the point of the history at which it holds.
-#[derive(Drop, Debug)]
+#[derive(Drop)]
 pub struct Reply {
     pub point: u64,
     pub body: Body,

@@ -3,7 +3,7 @@ use cov_tree::Name;
 use thiserror::Error;
 
 /// What is asked of a session. A path has bytes 20 to 7E, and an empty one is that of the root.
-#[derive(Drop, Debug)]
+#[derive(Drop)]
 pub enum Request {
     /// How many bins there are, where the history has come to this point.
     Hello { point: u64 },

@@ -5,7 +5,7 @@ ghost use Rattle.cov_serve.specs.Words.{behind, readers_of, journal_of, flags_of
 use crate::seats::seats;
 
 /// The places of the words that name something, from 0, and the number of seats.
-#[derive(Clone, Copy, Debug, PartialEq, Eq)]
+#[derive(Clone, Copy, PartialEq, Eq)]
 pub struct ServeWords {
     /// Where the name of the design text stands.
     pub design: u32,

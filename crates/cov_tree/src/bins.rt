@@ -2,7 +2,7 @@
 use crate::{Expr, List, Name};
 
 /// An end of a range.
-#[derive(Drop, Debug)]
+#[derive(Drop)]
 pub enum End {
     /// A number.
     Value(Expr),
@@ -11,7 +11,7 @@ pub enum End {
 }
 
 /// An element of a list of values.
-#[derive(Drop, Debug)]
+#[derive(Drop)]
 pub enum Elem {
     /// One number.
     One(Expr),
@@ -20,7 +20,7 @@ pub enum Elem {
 }
 
 /// How often the values of a step follow one another (IEEE 1800-2017, 19.5.2). A single count stands as both ends.
-#[derive(Drop, Debug)]
+#[derive(Drop)]
 pub enum Times {
     /// Once.
     Once,
@@ -33,7 +33,7 @@ pub enum Times {
 }
 
 /// A step of a transition, at its first token.
-#[derive(Drop, Debug)]
+#[derive(Drop)]
 pub struct Step {
     /// Its values, one or more.
     pub elems: List<Elem>,
@@ -44,7 +44,7 @@ pub struct Step {
 }
 
 /// How many bins a declaration of bins has.
-#[derive(Drop, Debug)]
+#[derive(Drop)]
 pub enum Size {
     /// One, without brackets.
     Scalar,
@@ -55,7 +55,7 @@ pub enum Size {
 }
 
 /// What a declaration of bins counts.
-#[derive(Drop, Debug)]
+#[derive(Drop)]
 pub enum Right {
     /// `{elems}`, and those numbers alone for which `keep` holds where `with` stands.
     Ranges {
@@ -87,7 +87,7 @@ pub enum Word {
 }
 
 /// A declaration of bins of a coverpoint, at its first token.
-#[derive(Drop, Debug)]
+#[derive(Drop)]
 pub struct BinsDecl {
     /// Whether `wildcard` stands.
     pub wildcard: bool,
@@ -106,7 +106,7 @@ pub struct BinsDecl {
 }
 
 /// The value of an option.
-#[derive(Drop, Debug)]
+#[derive(Drop)]
 pub enum OptText {
     /// A number.
     Number(Expr),
@@ -115,7 +115,7 @@ pub enum OptText {
 }
 
 /// An option of a group, a point or a cross (IEEE 1800-2017, 19.7), at its first token.
-#[derive(Drop, Debug)]
+#[derive(Drop)]
 pub struct OptDecl {
     /// Whether its word is `type_option`, and not `option`.
     pub on_type: bool,

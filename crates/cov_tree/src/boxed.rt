@@ -6,7 +6,7 @@ use std::alloc::Global;
 use std::marker::Model;
 
 /// A `Box` that contracts see as the value in it, so that two trees of the same values are equal.
-#[derive(Drop, Debug)]
+#[derive(Drop)]
 pub struct Boxed<T> {
     inner: Box<T>,
 }

@@ -2,7 +2,7 @@
 use crate::{EdgeText, Expr, Formal, List, Member, Name, Shared};
 
 /// A type as it is written (IEEE 1800-2017, 6.11).
-#[derive(Drop, Debug)]
+#[derive(Drop)]
 pub enum TypeText {
     /// `bit`, `logic` or `reg`, with the ends of its span, high and low, where it has one; at its word.
     Vector {
@@ -23,7 +23,7 @@ pub enum TypeText {
 }
 
 /// A declaration.
-#[derive(Drop, Debug)]
+#[derive(Drop)]
 pub enum Decl {
     /// An enumeration with its constants in order and the values that they are given (IEEE 1800-2017, 6.19), at the word `typedef`.
     Enum {
@@ -58,7 +58,7 @@ pub enum Decl {
 }
 
 /// The syntax tree of a design text: its declarations in order.
-#[derive(Drop, Debug)]
+#[derive(Drop)]
 pub struct DesignText {
     /// The declarations.
     pub decls: List<Decl>,

@@ -73,7 +73,7 @@ pub enum BinOp {
 
 /// An expression. Each `at` is the first byte of the expression's first token in the design text, and of a `Binary` that of its operator.
 /// Parentheses leave no node.
-#[derive(Drop, Debug)]
+#[derive(Drop)]
 pub enum Expr {
     /// An integer literal.
     Num {

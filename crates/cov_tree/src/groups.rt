@@ -2,7 +2,7 @@
 use crate::{BinsDecl, Boxed, Elem, Expr, List, Name, OptDecl, TypeText, Word};
 
 /// A coverpoint (IEEE 1800-2017, 19.5), at its label where it has one, else at its word.
-#[derive(Drop, Debug)]
+#[derive(Drop)]
 pub struct PointDecl {
     /// Its label.
     pub label: Option<Name>,
@@ -19,7 +19,7 @@ pub struct PointDecl {
 }
 
 /// A selection of products of a cross (IEEE 1800-2017, 19.6.1).
-#[derive(Drop, Debug)]
+#[derive(Drop)]
 pub enum Sel {
     /// `binsof(point.bin) intersect {meets}`, at the word `binsof`.
     BinsOf {
@@ -37,7 +37,7 @@ pub enum Sel {
 }
 
 /// A declaration of a bin of a cross, at its word.
-#[derive(Drop, Debug)]
+#[derive(Drop)]
 pub struct CrossBins {
     /// The word.
     pub word: Word,
@@ -52,7 +52,7 @@ pub struct CrossBins {
 }
 
 /// A cross of coverpoints (IEEE 1800-2017, 19.6), at its label where it has one, else at its word.
-#[derive(Drop, Debug)]
+#[derive(Drop)]
 pub struct CrossDecl {
     /// Its label.
     pub label: Option<Name>,
@@ -69,7 +69,7 @@ pub struct CrossDecl {
 }
 
 /// A member of a covergroup.
-#[derive(Drop, Debug)]
+#[derive(Drop)]
 pub enum Member {
     /// An option of the group.
     Opt(OptDecl),
@@ -80,7 +80,7 @@ pub enum Member {
 }
 
 /// A formal of a covergroup (IEEE 1800-2017, 19.3), at its direction where it has one, else at its type.
-#[derive(Drop, Debug)]
+#[derive(Drop)]
 pub struct Formal {
     /// Whether it stands for a variable. A formal without a direction has that of the formal before it, the first one `input` (13.3).
     pub by_ref: bool,
@@ -108,7 +108,7 @@ pub enum EdgeKind {
 }
 
 /// A part of a coverage event (IEEE 1800-2017, 19.3).
-#[derive(Drop, Debug)]
+#[derive(Drop)]
 pub struct EdgeText {
     /// Which changes.
     pub kind: EdgeKind,

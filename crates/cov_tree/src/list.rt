@@ -6,7 +6,7 @@ use std::alloc::Global;
 use std::marker::Model;
 
 /// Elements in order.
-#[derive(Drop, Debug)]
+#[derive(Drop)]
 pub struct List<T> {
     items: Vec<T>,
 }

@@ -7,7 +7,7 @@ use std::marker::Model;
 use std::sync::Arc;
 
 /// A value that stands once in memory and several times in a tree. Contracts see it as the value itself.
-#[derive(Drop, Debug)]
+#[derive(Drop)]
 pub struct Shared<T> {
     inner: Arc<T>,
 }

@@ -2,7 +2,7 @@
 use crate::Status;
 
 /// A status and the text that is printed with it.
-#[derive(Drop, Debug)]
+#[derive(Drop)]
 pub(crate) struct Answer {
     pub(crate) status: Status,
     pub(crate) text: Vec<u8>,

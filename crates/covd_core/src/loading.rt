@@ -56,7 +56,7 @@ pub(crate) fn load<F: Shelf>(
 }
 
 /// Why a design text is refused: the word of the kind of its fault, and the byte at which it stands.
-#[derive(Clone, Copy, Debug)]
+#[derive(Clone, Copy)]
 pub struct Refusal {
     pub kind: &'static str,
     pub at: u32,

@@ -144,7 +144,7 @@ fn had_text<F: Shelf>(alloc: Global, name: &str, shelf: &mut F) -> Result<HadTex
 }
 
 /// Why a dump is refused: the word of the kind, and its number.
-#[derive(Clone, Copy, Debug)]
+#[derive(Clone, Copy)]
 pub struct DumpRefusal {
     pub kind: &'static str,
     pub number: u64,

@@ -7,7 +7,7 @@ use crate::answer::Answer;
 use cov_base::Memory;
 
 /// Want of memory, or the status and the line of a refusal.
-#[derive(Drop, Debug)]
+#[derive(Drop)]
 pub(crate) enum Stop {
     Memory,
     Refused(Answer),

@@ -3,7 +3,7 @@
 use cov_tree::List;
 
 /// What is worked out of a cross once for a design. It serves any number of records.
-#[derive(Drop, Debug)]
+#[derive(Drop)]
 pub struct CrossPlan {
     /// How many coverage bins each of its points has.
     pub sizes: List<u32>,
@@ -15,7 +15,7 @@ pub struct CrossPlan {
 }
 
 /// The bins of a cross's products.
-#[derive(Drop, Debug)]
+#[derive(Drop)]
 pub enum Table {
     /// The bins of each product, by its number: the bins of the last point run fastest.
     Rows(List<List<u32>>),

@@ -6,7 +6,7 @@ use cov_base::Memory;
 use std::alloc::Global;
 
 /// What a cross keeps along the samples of its instance.
-#[derive(Drop, Debug)]
+#[derive(Drop)]
 pub struct CrossState {
     /// How many samples there were.
     pub samples: u32,

@@ -5,7 +5,7 @@ ghost use Rattle.cross_select.specs.Selections.{is_selected, is_chosen_at};
 use cov_tree::{Boxed, List};
 
 /// A selection of products. A product is one bin of each crossed point, by its number.
-#[derive(Drop, Debug)]
+#[derive(Drop)]
 pub enum Select {
     /// The products whose bin at the index `axis` is chosen; `chosen` says so for each bin number of that point.
     Bins { axis: u16, chosen: List<bool> },

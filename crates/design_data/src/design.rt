@@ -9,7 +9,7 @@ use cov_tree::List;
 use std::alloc::Global;
 
 /// A design. It is always within its limits: whoever makes one shows them.
-#[derive(Drop, Debug)]
+#[derive(Drop)]
 pub struct Design {
     pub signals: List<Signal>,
     pub groups: List<GroupInfo>,

@@ -8,7 +8,7 @@ use trans_seq::Seq;
 use wildcard_bins::Pattern;
 
 /// A signal, or an argument of a group's sample function (IEEE 1800-2017, 19.8.1).
-#[derive(Drop, Debug)]
+#[derive(Drop)]
 pub struct Signal {
     pub name: Name,
     /// Its bits, 1 to 64.
@@ -18,7 +18,7 @@ pub struct Signal {
 }
 
 /// A covergroup, with what its type options say (19.7.1).
-#[derive(Drop, Debug)]
+#[derive(Drop)]
 pub struct GroupInfo {
     pub name: Name,
     /// `type_option.weight`
@@ -30,7 +30,7 @@ pub struct GroupInfo {
 }
 
 /// An instance of a covergroup, with what its options say (19.7).
-#[derive(Drop, Debug)]
+#[derive(Drop)]
 pub struct InstInfo {
     pub name: Name,
     /// The index of its group in the design.
@@ -48,7 +48,7 @@ pub struct InstInfo {
 }
 
 /// A coverpoint (19.5) or a cross (19.6) of an instance.
-#[derive(Drop, Debug)]
+#[derive(Drop)]
 pub struct ItemInfo {
     pub name: Name,
     /// `option.weight`
@@ -73,7 +73,7 @@ pub struct ItemInfo {
 }
 
 /// What an item counts.
-#[derive(Drop, Debug)]
+#[derive(Drop)]
 pub enum ItemShape {
     /// The values of an expression.
     Point(Bound),
@@ -81,8 +81,7 @@ pub enum ItemShape {
     Cross(List<u32>),
 }
 
-/// A bin.
-#[derive(Drop, Debug)]
+/// A bin. Its drop is one function, in place of the cases of its rule wherever an owner of it may let it go.
 pub struct BinInfo {
     pub name: Name,
     pub kind: BinKind,
@@ -91,8 +90,22 @@ pub struct BinInfo {
     pub guard: Option<Bound>,
 }
 
+impl Drop for BinInfo {
+    fn drop(self) {
+        let BinInfo {
+            name,
+            kind: _,
+            rule,
+            guard,
+        } = self;
+        drop(name);
+        drop(rule);
+        drop(guard);
+    }
+}
+
 /// The kind of a bin: the word that declares it, or that it is a default bin.
-#[derive(Clone, Copy, Debug, PartialEq, Eq)]
+#[derive(Clone, Copy, PartialEq, Eq)]
 pub enum BinKind {
     /// A bin that counts for coverage.
     CvgBin,
@@ -105,7 +118,7 @@ pub enum BinKind {
 }
 
 /// What a bin counts.
-#[derive(Drop, Debug)]
+#[derive(Drop)]
 pub enum BinRule {
     /// A value of this set (19.5.1), which is what removal has left.
     Values(ValueSet),

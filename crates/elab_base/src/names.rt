@@ -11,7 +11,7 @@ use name_map::NameMap;
 use std::alloc::Global;
 
 /// What a name stands for.
-#[derive(Clone, Copy, Debug, PartialEq, Eq)]
+#[derive(Clone, Copy, PartialEq, Eq)]
 pub enum What {
     /// An enumeration, by its place among the enumerations.
     Type {

@@ -15,7 +15,7 @@ use name_map::NameMap;
 use std::alloc::Global;
 
 /// What a name of a cross stands for.
-#[derive(Drop, Debug)]
+#[derive(Drop)]
 pub enum Axis {
     /// A point, by its index among the instance's items.
     Item(u32),

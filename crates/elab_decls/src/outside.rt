@@ -16,7 +16,7 @@ pub struct Outside {
 }
 
 /// An enumeration (IEEE 1800-2017, 6.19).
-#[derive(Drop, Debug)]
+#[derive(Drop)]
 pub struct Enumeration {
     /// Its base.
     pub typ: Typ,
@@ -27,7 +27,7 @@ pub struct Enumeration {
 }
 
 /// A type as an expression sees it.
-#[derive(Clone, Copy, Debug, PartialEq, Eq)]
+#[derive(Clone, Copy, PartialEq, Eq)]
 pub struct Shape {
     /// How many bits it has, and whether they are signed.
     pub typ: Typ,

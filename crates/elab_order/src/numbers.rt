@@ -10,7 +10,7 @@ use design_data::{InstInfo, ItemInfo};
 use std::alloc::Global;
 
 /// The group of an instance, and how many bins it has.
-#[derive(Drop, Debug)]
+#[derive(Drop)]
 pub struct Load {
     pub group: u32,
     pub bins: u32,

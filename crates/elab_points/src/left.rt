@@ -18,6 +18,7 @@ use elab_base::ElabFault;
 use elab_transitions::Removers;
 use elab_values::{Domain, Made, PointBins, Settings};
 use std::alloc::Global;
+use std::mem;
 use trans_seq::Seq;
 
 /// What is left of a set, with no room to spare: a point may have very many of them.
@@ -60,24 +61,15 @@ fn bin_left(
 ) -> Result<BinInfo, Memory>
     ensures { IfOk result (λ left. left ≡ left_of_bin all.now illegal.now bin) }
 {
-    let BinInfo {
-        name,
-        kind,
-        rule,
-        guard,
-    } = bin;
-    let rule = match kind {
+    let mut bin = bin;
+    let rule = mem::replace(&mut bin.rule, BinRule::Default);
+    bin.rule = match bin.kind {
         BinKind::CvgBin => rule_left(alloc, all, rule)?,
         BinKind::IgnoreBin => rule_left(alloc, illegal, rule)?,
         BinKind::IllegalBin => rule,
         BinKind::DefaultBin => rule,
     };
-    Ok(BinInfo {
-        name,
-        kind,
-        rule,
-        guard,
-    })
+    Ok(bin)
 }
 
 fn has_some(rule: &BinRule) -> bool

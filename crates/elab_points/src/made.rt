@@ -37,7 +37,7 @@ pub struct Head {
 }
 
 /// How a point makes bins of values, besides what their declarations say.
-#[derive(Clone, Copy, Debug, PartialEq, Eq)]
+#[derive(Clone, Copy, PartialEq, Eq)]
 pub struct Manner {
     /// Whether a filter is applied to each part of `b[n]`, after the numbers are spread.
     pub distribute: bool,
@@ -46,7 +46,7 @@ pub struct Manner {
 }
 
 /// How many bins a declaration asks for: `b`, `b[]`, or `b[n]`.
-#[derive(Clone, Copy, Debug, PartialEq, Eq)]
+#[derive(Clone, Copy, PartialEq, Eq)]
 pub enum Wanted {
     /// One of all numbers.
     One,
@@ -57,7 +57,7 @@ pub enum Wanted {
 }
 
 /// The bins that a declaration makes.
-#[derive(Drop, Debug)]
+#[derive(Drop)]
 pub enum Plan {
     /// One of all numbers.
     One,

@@ -19,7 +19,7 @@ use std::alloc::Global;
 use trans_seq::Seq;
 
 /// The transition bins of a declaration.
-#[derive(Drop, Debug)]
+#[derive(Drop)]
 pub struct TransBins {
     /// Its bins, in order.
     pub bins: List<Made>,

@@ -15,7 +15,7 @@ use trans_auto::Removing;
 use trans_seq::{Item, Repeat, Seq};
 
 /// The ignored and the illegal sequences of a point, as they are declared. Contracts see these two lists.
-#[derive(Drop, Debug)]
+#[derive(Drop)]
 pub struct Removers {
     ignored: List<Seq>,
     illegal: List<Seq>,

@@ -16,7 +16,7 @@ use std::alloc::Global;
 use trans_seq::{ExpandFault, Repeat, Seq, cells, cells_of_seqs, expand_all};
 
 /// What stands before a declaration of a point.
-#[derive(Clone, Copy, Debug, PartialEq, Eq)]
+#[derive(Clone, Copy, PartialEq, Eq)]
 pub struct Before {
     /// The place of the declaration among those of the point.
     pub declared: u32,
@@ -27,7 +27,7 @@ pub struct Before {
 }
 
 /// The bins that a declaration makes.
-#[derive(Drop, Debug)]
+#[derive(Drop)]
 pub(crate) enum Plan {
     /// One of all sequences.
     One,

@@ -13,7 +13,7 @@ use std::alloc::Global;
 use trans_seq::Repeat;
 
 /// A step with its expressions computed.
-#[derive(Drop, Debug)]
+#[derive(Drop)]
 pub(crate) struct ListedStep {
     pub(crate) elements: List<Listed>,
     pub(crate) repeat: Repeat,

@@ -9,7 +9,7 @@ use cov_tree::{List, Name};
 use std::alloc::Global;
 
 /// A constant of an enumeration (IEEE 1800-2017, 6.19).
-#[derive(Drop, Debug)]
+#[derive(Drop)]
 pub struct Constant {
     pub name: Name,
     pub value: Int,
@@ -17,7 +17,7 @@ pub struct Constant {
 
 /// The numbers of a coverpoint, with the least and the greatest of them: all numbers of its expression's type, or the
 /// constants of an enumeration, where the expression is the name of something enumerated.
-#[derive(Drop, Debug)]
+#[derive(Drop)]
 pub struct Domain {
     /// The type of the expression.
     pub typ: Typ,

@@ -14,7 +14,7 @@ use std::alloc::Global;
 use wildcard_bins::Pattern;
 
 /// An element of a range list.
-#[derive(Clone, Copy, Debug, PartialEq, Eq)]
+#[derive(Clone, Copy, PartialEq, Eq)]
 pub enum Listed {
     /// The numbers from the low to the high end; none where the ends are the wrong way round.
     Range { low: Int, high: Int },

@@ -6,7 +6,7 @@ use name_map::NameMap;
 use trans_seq::Seq;
 
 /// A bin on the way.
-#[derive(Drop, Debug)]
+#[derive(Drop)]
 pub struct Made {
     /// The bin itself.
     pub bin: BinInfo,
@@ -17,7 +17,7 @@ pub struct Made {
 }
 
 /// What the bins of a point depend on besides their declarations.
-#[derive(Clone, Copy, Debug, PartialEq, Eq)]
+#[derive(Clone, Copy, PartialEq, Eq)]
 pub struct Settings {
     /// The most automatic bins, 1 to 65,536.
     pub auto_bin_max: u32,
@@ -28,7 +28,7 @@ pub struct Settings {
 }
 
 /// What the declarations of a point make.
-#[derive(Drop, Debug)]
+#[derive(Drop)]
 pub struct PointBins {
     /// The bins that have something left, in order, automatic ones behind the declared ones.
     pub bins: List<Made>,

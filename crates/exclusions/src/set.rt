@@ -8,7 +8,7 @@ use std::alloc::Global;
 use std::marker::Model;
 
 /// The nodes of a tree that are out: excluded by themselves. Contracts see a truth value for each node.
-#[derive(Drop, Debug)]
+#[derive(Drop)]
 pub struct Exclusions {
     flags: Vec<bool>,
     count: u32,

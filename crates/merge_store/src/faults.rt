@@ -3,7 +3,7 @@ use thiserror::Error;
 use ucis_model::Which;
 
 /// What became of a record that isn't refused.
-#[derive(Clone, Copy, Debug, PartialEq, Eq)]
+#[derive(Clone, Copy, PartialEq, Eq)]
 pub enum Admitted {
     /// It is a test now; the point is that after its admission.
     New { point: u64 },

@@ -9,10 +9,17 @@ use std::alloc::Global;
 use std::marker::Model;
 
 /// Names with what they stand for, in the order in which they came. Contracts see the list of pairs; the first pair of
-/// a name counts, and each name stands in one pair.
-#[derive(Drop)]
+/// a name counts, and each name stands in one pair. Its drop is one function, in place of the parts of the map wherever
+/// an owner of it may let it go.
 pub struct NameMap<M> {
     map: IndexMap<Vec<u8>, M>,
+}
+
+impl<M: Drop> Drop for NameMap<M> {
+    fn drop(self) {
+        let NameMap { map } = self;
+        drop(map);
+    }
 }
 
 impl<M> Model for NameMap<M> {

@@ -7,7 +7,7 @@ use std::marker::Model;
 
 /// A weighted mean that is given its pairs of a weight and a value one after another, and takes no memory. Contracts see
 /// the sums of the pairs given so far.
-#[derive(Drop, Debug)]
+#[derive(Drop)]
 pub struct Mean {
     pairs: u64,
     weight: u128,

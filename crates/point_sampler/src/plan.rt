@@ -6,7 +6,7 @@ use trans_auto::{Removing, Watcher};
 use value_index::Index;
 
 /// What is prepared of a point: its tables are linear in its bins and their intervals.
-#[derive(Drop, Debug)]
+#[derive(Drop)]
 pub struct PointPlan {
     /// One for each bin.
     pub(crate) entries: Vec<Entry>,
@@ -23,7 +23,7 @@ pub struct PointPlan {
 }
 
 /// An index of the bins of values, by keys: how far a value stands above the least one.
-#[derive(Drop, Debug)]
+#[derive(Drop)]
 pub struct Lookup {
     /// The value whose key is 0.
     pub(crate) least: Int,
@@ -33,7 +33,7 @@ pub struct Lookup {
 }
 
 /// What is asked of a bin that a sample meets.
-#[derive(Clone, Copy, Drop, Debug)]
+#[derive(Clone, Copy, Drop)]
 pub struct Entry {
     /// Whether it counts for coverage.
     pub(crate) covers: bool,
@@ -44,7 +44,7 @@ pub struct Entry {
 }
 
 /// The automaton of a transition bin.
-#[derive(Drop, Debug)]
+#[derive(Drop)]
 pub struct Machine {
     /// The bin's place among those of its point.
     pub(crate) place: u32,
@@ -54,7 +54,7 @@ pub struct Machine {
 }
 
 /// The sequences that take windows away from coverage bins, from ignore bins, and from no bin.
-#[derive(Drop, Debug)]
+#[derive(Drop)]
 pub struct Removers {
     pub(crate) covering: Removing,
     pub(crate) ignoring: Removing,

@@ -19,7 +19,7 @@ use std::marker::Model;
 
 /// A set of products of a cross: a bit for each product, in order. Contracts see the words, of which `Marks` says which
 /// products they hold.
-#[derive(Drop, Debug)]
+#[derive(Drop)]
 pub struct ProductBits {
     words: Vec<u64>,
 }

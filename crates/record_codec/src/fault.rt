@@ -33,7 +33,7 @@ pub enum RecordFault {
 }
 
 /// The first fault of the bytes in reading order, or want of memory. A place is told by the number of bytes left there.
-#[derive(Clone, Copy, Debug, PartialEq, Eq)]
+#[derive(Clone, Copy, PartialEq, Eq)]
 pub(crate) enum Fault {
     /// A field that begins there runs past the end.
     Short { left: usize },

@@ -4,7 +4,7 @@ ghost use Rattle.record_codec.specs.Limits.{IsWithinLimits, IsWithinLimits-prop}
 use cov_tree::{List, Name};
 
 /// One test of a simulation. It is always within its limits: whoever makes one shows them.
-#[derive(Drop, Debug)]
+#[derive(Drop)]
 pub struct Record {
     /// The version of its form: 1, or 2, in which samples may have arguments.
     pub version: u16,
@@ -29,7 +29,7 @@ pub struct Record {
 }
 
 /// The fields of a record, before they are known to be within its limits.
-#[derive(Drop, Debug)]
+#[derive(Drop)]
 pub struct Fields {
     pub version: u16,
     pub id: Name,
@@ -43,7 +43,7 @@ pub struct Fields {
 }
 
 /// What a record says before its events: the same fields, in the same ranges.
-#[derive(Drop, Debug)]
+#[derive(Drop)]
 pub struct Start {
     pub version: u16,
     pub id: Name,
@@ -56,7 +56,7 @@ pub struct Start {
 }
 
 /// A signal: its name of 1 to 1,024 printable bytes without spaces, its width of 1 to 64 bits, and whether it is signed.
-#[derive(Drop, Debug)]
+#[derive(Drop)]
 pub struct SignalRow {
     pub name: Name,
     pub width: u8,
@@ -64,7 +64,7 @@ pub struct SignalRow {
 }
 
 /// An argument of a group's sample function: its width of 1 to 64 bits, and whether it is signed.
-#[derive(Clone, Copy, Debug, PartialEq, Eq)]
+#[derive(Clone, Copy, PartialEq, Eq)]
 pub struct ArgRow {
     pub width: u8,
     pub signed: bool,
@@ -72,7 +72,7 @@ pub struct ArgRow {
 
 /// An instance of a covergroup: its name and its group's, each of 1 to 1,024 printable bytes without spaces, and the
 /// arguments of its sample function, at most 16; none in version 1.
-#[derive(Drop, Debug)]
+#[derive(Drop)]
 pub struct InstRow {
     pub name: Name,
     pub group: Name,
@@ -80,7 +80,7 @@ pub struct InstRow {
 }
 
 /// One step of a record.
-#[derive(Drop, Debug)]
+#[derive(Drop)]
 pub enum Event {
     /// The signal of this number has these bits from now on; with None it is Unknown: some bit of it is x or z.
     Set {
@@ -95,7 +95,7 @@ pub enum Event {
 }
 
 /// What a record says of its test, before the tables.
-#[derive(Drop, Debug)]
+#[derive(Drop)]
 pub(crate) struct TestRow {
     pub(crate) id: Name,
     pub(crate) status: u8,

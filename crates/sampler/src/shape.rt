@@ -7,7 +7,7 @@ use design_data::{Design, GroupInfo, InstInfo, Signal};
 use record_codec::{ArgRow, InstRow, Record, SignalRow};
 
 /// The record's tables are not the design's.
-#[derive(Clone, Copy, Debug, PartialEq, Eq)]
+#[derive(Clone, Copy, PartialEq, Eq)]
 pub struct WrongShape {
     /// The first place that differs, one side having none included: that of a signal, or that of an instance, counted
     /// on after the design's signals.

@@ -7,7 +7,7 @@ use std::alloc::Global;
 use std::marker::Model;
 
 /// How often each bin was hit in a test. Bins are numbered from 0; those that were never hit have no row.
-#[derive(Drop, Debug)]
+#[derive(Drop)]
 pub struct Tally {
     rows: Vec<(u32, u64)>,
 }

@@ -13,7 +13,7 @@ pub use help::{HELP, VERSION, early_text};
 pub use hint::{Fault, place_hint};
 
 /// A line of a text: its number from 1, and the place of its first byte.
-#[derive(Clone, Copy, Debug, PartialEq, Eq)]
+#[derive(Clone, Copy, PartialEq, Eq)]
 pub struct Line {
     pub number: u32,
     pub start: usize,

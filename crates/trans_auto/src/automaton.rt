@@ -16,7 +16,7 @@ use std::marker::Model;
 use trans_seq::{Seq, cells_of_seqs};
 
 /// The automaton of a bin's own sequences, and of those that remove windows from it.
-#[derive(Drop, Debug)]
+#[derive(Drop)]
 pub struct Automaton {
     own: Side,
     removed: Side,

@@ -32,7 +32,7 @@ pub(crate) enum Mark {
 }
 
 /// What a step has to know of an item.
-#[derive(Drop, Clone, Copy, Debug)]
+#[derive(Drop, Clone, Copy)]
 pub(crate) struct ItemCells {
     /// Its cells.
     pub(crate) all: u128,

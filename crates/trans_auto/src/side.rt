@@ -15,7 +15,7 @@ use std::marker::Model;
 use trans_seq::Seq;
 
 /// The sequences of one side of an automaton. Contracts see them alone.
-#[derive(Drop, Debug)]
+#[derive(Drop)]
 pub(crate) struct Side {
     seqs: Vec<Seq>,
     cells: Vec<List<ItemCells>>,

@@ -14,7 +14,7 @@ use cov_base::Int;
 use trans_seq::{Item, Seq, is_inside};
 
 /// The cells of a side by what they are.
-#[derive(Drop, Clone, Copy, Debug)]
+#[derive(Drop, Clone, Copy)]
 pub(crate) struct Masks {
     /// Those of runs.
     pub(crate) runs: u128,

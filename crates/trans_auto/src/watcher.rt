@@ -18,7 +18,7 @@ use std::marker::Model;
 use trans_seq::{Seq, cells_of_seqs};
 
 /// The automaton of a bin's own sequences.
-#[derive(Drop, Debug)]
+#[derive(Drop)]
 pub struct Watcher {
     own: Side,
 }
@@ -33,7 +33,7 @@ impl Model for Watcher {
 }
 
 /// What a sample says of a bin's windows.
-#[derive(Clone, Copy, Debug, PartialEq, Eq)]
+#[derive(Clone, Copy, PartialEq, Eq)]
 pub struct Answer {
     /// Whether a window that ends with the sample counts: it is a list of an own sequence and of no removing one.
     pub counts: bool,

@@ -9,7 +9,7 @@ use std::alloc::Global;
 /// How often the values of an item stand (IEEE 1800-2017, 19.5.2). Written repetitions have 1 <= low <= high. All
 /// other bounds have their plain meaning too: with a low end of 0 the item may be passed over, and with the ends the
 /// wrong way round it has no list.
-#[derive(Clone, Copy, Debug, PartialEq, Eq)]
+#[derive(Clone, Copy, PartialEq, Eq)]
 pub enum Repeat {
     /// One sample inside.
     Once,
@@ -22,7 +22,7 @@ pub enum Repeat {
 }
 
 /// One item of a sequence: the values, and how often they stand.
-#[derive(Drop, Debug, PartialEq, Eq)]
+#[derive(Drop, PartialEq, Eq)]
 pub struct Item {
     /// The values that are inside. An unknown sample never is.
     pub set: ValueSet,
@@ -31,7 +31,7 @@ pub struct Item {
 }
 
 /// A transition sequence: its items one after another.
-#[derive(Drop, Debug)]
+#[derive(Drop)]
 pub struct Seq {
     /// The items in order.
     pub items: List<Item>,

@@ -4,7 +4,7 @@ use design_data::BinKind;
 use tally::Ranked;
 
 /// What a node of the history is.
-#[derive(Clone, Copy, Debug, PartialEq, Eq)]
+#[derive(Clone, Copy, PartialEq, Eq)]
 pub enum HistoryKind {
     /// A test that was admitted.
     Test,
@@ -13,7 +13,7 @@ pub enum HistoryKind {
 }
 
 /// A test of the history.
-#[derive(Drop, Debug)]
+#[derive(Drop)]
 pub struct HistoryNode {
     pub kind: HistoryKind,
     /// The point of the history after its admission.
@@ -29,7 +29,7 @@ pub struct HistoryNode {
 }
 
 /// A bin with its count.
-#[derive(Clone, Copy, Debug, PartialEq, Eq)]
+#[derive(Clone, Copy, PartialEq, Eq)]
 pub struct CountRow {
     /// The number of the bin.
     pub bin: u32,
@@ -40,7 +40,7 @@ pub struct CountRow {
 }
 
 /// The coverage of a node.
-#[derive(Clone, Copy, Debug, PartialEq, Eq)]
+#[derive(Clone, Copy, PartialEq, Eq)]
 pub struct CoverRow {
     /// 0 to 1,000,000.
     pub millionths: u32,
@@ -68,7 +68,7 @@ pub enum Which {
 }
 
 /// What a store answers.
-#[derive(Drop, Debug)]
+#[derive(Drop)]
 pub enum Answer {
     /// How many bins the design has.
     Welcome { bins: u32 },
@@ -106,7 +106,7 @@ pub enum Answer {
 }
 
 /// An answer with the point of the history at which it holds.
-#[derive(Drop, Debug)]
+#[derive(Drop)]
 pub struct Answered {
     pub point: u64,
     pub answer: Answer,

@@ -3,7 +3,7 @@ use cov_tree::Name;
 use design_data::BinKind;
 
 /// What a node stands for.
-#[derive(Clone, Copy, Debug, PartialEq, Eq)]
+#[derive(Clone, Copy, PartialEq, Eq)]
 pub enum NodeKind {
     /// All that the design covers.
     Root,
@@ -20,7 +20,7 @@ pub enum NodeKind {
 }
 
 /// A node of a design.
-#[derive(Drop, Debug)]
+#[derive(Drop)]
 pub struct Node {
     pub kind: NodeKind,
     /// Its own name, without those above it.

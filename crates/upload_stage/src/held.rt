@@ -9,7 +9,7 @@ use std::alloc::Global;
 use std::marker::Model;
 
 /// The places of an open upload. Contracts see for each the byte received there, if any was.
-#[derive(Drop, Debug)]
+#[derive(Drop)]
 pub(crate) struct Held {
     /// The bytes up to the last that was received; there is room for all.
     bytes: Vec<u8>,

@@ -11,7 +11,7 @@ use std::alloc::Global;
 use std::marker::Model;
 
 /// Where at most one upload is gathered. Contracts see none, or for each place the byte received there, if any was.
-#[derive(Drop, Debug)]
+#[derive(Drop)]
 pub struct Stage {
     open: Option<Held>,
 }

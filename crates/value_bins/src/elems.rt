@@ -11,7 +11,7 @@ use std::marker::Model;
 /// A range list: it stands for the numbers of its ranges, one range after the other, each from its low to its high
 /// end, and a number that stands in several ranges is listed several times (IEEE 1800-2017, 19.5.7). A range whose low
 /// end exceeds its high end stands for no number. Contracts see the list of the ranges.
-#[derive(Drop, Debug)]
+#[derive(Drop)]
 pub struct Elems {
     ranges: Vec<(Int, Int)>,
 }

@@ -13,7 +13,7 @@ use cov_ground::Memory;
 use std::alloc::Global;
 
 /// For each value the bins whose set has it.
-#[derive(Drop, Debug)]
+#[derive(Drop)]
 pub struct Index {
     cuts: Vec<u64>,
     shift: u32,

@@ -6,13 +6,13 @@ use std::alloc::Global;
 use std::marker::Model;
 
 /// Where a row stands in the flat list.
-#[derive(Clone, Copy, Debug)]
+#[derive(Clone, Copy)]
 pub struct Place {
     from: usize,
     to: usize,
 }
 
-#[derive(Drop, Debug)]
+#[derive(Drop)]
 pub struct Rows {
     places: Vec<Place>,
     flat: Vec<u32>,
@@ -59,7 +59,7 @@ impl Rows {
 }
 
 /// One row while it is built.
-#[derive(Drop, Debug)]
+#[derive(Drop)]
 pub(crate) struct Row {
     bins: Vec<u32>,
 }

@@ -3,14 +3,14 @@ use crate::Steps;
 use cov_tree::{List, Name, Shared};
 
 /// A value change dump: its variables in order of declaration, and its steps in order of time.
-#[derive(Drop, Debug)]
+#[derive(Drop)]
 pub struct Dump {
     pub vars: List<DumpVar>,
     pub steps: Steps,
 }
 
 /// A declared variable.
-#[derive(Drop, Debug)]
+#[derive(Drop)]
 pub struct DumpVar {
     /// The names of the scopes that it stands in, from the outermost on, joined by dots; a dot where it stands in none.
     pub scope: Shared<Name>,
@@ -25,7 +25,7 @@ pub struct DumpVar {
 }
 
 /// The changes at one time.
-#[derive(Drop, Debug)]
+#[derive(Drop)]
 pub struct DumpStep {
     /// The time, in the dump's own unit.
     pub time: u64,
@@ -33,7 +33,7 @@ pub struct DumpStep {
 }
 
 /// A change of the value of a code.
-#[derive(Clone, Copy, Debug, PartialEq, Eq)]
+#[derive(Clone, Copy, PartialEq, Eq)]
 pub struct Change {
     /// The number of the code.
     pub code: u32,
@@ -44,7 +44,7 @@ pub struct Change {
 }
 
 /// A bit of four values (IEEE 1800-2017, 6.3.1).
-#[derive(Clone, Copy, Debug, PartialEq, Eq)]
+#[derive(Clone, Copy, PartialEq, Eq)]
 pub enum Bit4 {
     Zero,
     One,

@@ -9,7 +9,7 @@ use std::marker::Model;
 use std::mem;
 
 /// The times and changes of a dump in their order, packed into bytes.
-#[derive(Drop, Debug)]
+#[derive(Drop)]
 pub(crate) struct Packed {
     bytes: Vec<u8>,
 }

@@ -12,7 +12,7 @@ use std::alloc::Global;
 use std::marker::Model;
 
 /// The steps of a dump in order of time, packed into fewer bytes than the dump's text has.
-#[derive(Drop, Debug)]
+#[derive(Drop)]
 pub struct Steps {
     items: Packed,
 }

@@ -11,7 +11,7 @@ use cov_tree::{Decl, EdgeKind, EdgeText, Expr, List};
 use std::alloc::Global;
 
 /// An edge that is watched.
-#[derive(Drop, Debug)]
+#[derive(Drop)]
 pub(crate) struct Watch {
     /// Which changes make the edge.
     pub(crate) kind: EdgeKind,
@@ -22,7 +22,7 @@ pub(crate) struct Watch {
 }
 
 /// The edges of each instance, and the groups, by their numbers, that have an instance whose event can't be watched.
-#[derive(Drop, Debug)]
+#[derive(Drop)]
 pub(crate) struct Watches {
     pub(crate) events: List<List<Watch>>,
     pub(crate) bad: List<u32>,

@@ -2,7 +2,7 @@
 
 /// A pattern of bits: a literal of a wildcard bin. It stands for the numbers of its width and sign that have its bits
 /// at each place that isn't free.
-#[derive(Clone, Copy, Debug, PartialEq, Eq)]
+#[derive(Clone, Copy, PartialEq, Eq)]
 pub struct Pattern {
     /// The number of places, 1 to 64. What `bits` and `free` have at further places counts for nothing.
     pub width: u8,

@@ -10,7 +10,7 @@ use crate::numbers::size_of;
 use std::alloc::Global;
 
 /// For each interval how many numbers stand before it, and how many there are.
-#[derive(Drop, Debug)]
+#[derive(Drop)]
 pub(super) struct Counts {
     pub(super) starts: Vec<u128>,
     pub(super) total: u128,
