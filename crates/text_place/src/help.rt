@@ -63,7 +63,7 @@ What is printed goes to standard output. The exit status is one of:
 /// What `covd --version` prints: the version, and the toolchain with which it is proved.
 pub const VERSION: &str = "\
 covd 0.1.0
-proved with rattle-kit-13b logic dac8208d650f15bf
+proved with rattle-kit-13f logic dac8208d650f15bf
 ";
 
 /// The text that is asked for by the only word, which is `--help` or `--version`. The words don't have the program's
