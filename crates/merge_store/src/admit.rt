@@ -16,7 +16,6 @@ use crate::marks::mark_rows;
 use crate::room::put;
 use crate::{AdmitFault, Admitted, Store};
 use sampler::Prepared;
-use sha2::{Digest, Sha256};
 
 /// What becomes of a record, apart from want of memory.
 pub(crate) enum Judged {
@@ -63,7 +62,7 @@ impl Store {
             if kept.prepared.bytes() == prepared.bytes() {
                 return Judged::Here { point: kept.point };
             }
-            let digest = kept.digest;
+            let digest = kept.prepared.digest();
             return Judged::Refused(AdmitFault::IdTaken { digest });
         }
         if since < self.revised {
@@ -111,12 +110,10 @@ impl Store {
             tally.rows(),
         );
         let point = self.entries.as_slice().len() as u64 + 1;
-        let digest = Sha256::digest(prepared.bytes());
         let test = Kept {
             point,
             prepared,
             tally,
-            digest,
         };
         add_test(&mut self.tests, id, test);
         let event = HeldEvent::Admit(content);

@@ -1,8 +1,4 @@
 //! What a store keeps of an entry and of a test.
-ghost use Rattle.std.specs.Prelude.{◌≡◌};
-ghost use Rattle.sha2.specs.Sha256.{sha256};
-ghost use Rattle.record_codec.specs.Spelling.{spelling};
-
 use cov_tree::Name;
 use design_data::Design;
 use record_codec::Record;
@@ -32,11 +28,8 @@ pub(crate) struct Held {
 pub(crate) struct Kept {
     /// The point after its admission.
     pub(crate) point: u64,
-    /// Its record with the record's bytes, as they were handed in.
+    /// Its record with the record's bytes and their digest, as they were handed in.
     pub(crate) prepared: Prepared,
     /// Its tally under the design of now.
     pub(crate) tally: Arc<Tally>,
-    /// The SHA-256 of the record's bytes.
-    pub(crate) digest: [u8; 32],
-    pub(crate) ghost digested: { digest ≡ sha256 (spelling prepared.of) },
 }

@@ -188,7 +188,7 @@ impl Store {
             status: content.status,
             seed: content.seed,
             time: content.time,
-            digest: test.digest,
+            digest: test.prepared.digest(),
             id: content.id.copy(self.alloc)?,
             user: content.user.copy(self.alloc)?,
         })

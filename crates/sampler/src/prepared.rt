@@ -1,6 +1,7 @@
 //! A record that is binned and encoded.
 ghost use Rattle.std.specs.Prelude.{◌≡◌, IfOk};
 ghost use Rattle.std.specs.Arc.{arc_value};
+ghost use Rattle.sha2.specs.Sha256.{sha256};
 ghost use Rattle.record_codec.specs.Spelling.{spelling};
 ghost use Rattle.sampler.specs.Plans.{IsDesignPlan, IsTallyOf};
 
@@ -9,23 +10,26 @@ use crate::plan::Plan;
 use cov_base::{Gate, Memory};
 use design_data::Design;
 use record_codec::{Record, encode};
+use sha2::{Digest, Sha256};
 use std::alloc::Global;
 use std::marker::Model;
 use std::sync::Arc;
 use tally::Tally;
 
-/// A record with its encoding and its tally under a design.
+/// A record with its encoding, the digest of that, and its tally under a design.
 #[derive(Drop)]
 pub struct Prepared {
     design: Arc<Design>,
     rec: Arc<Record>,
     bytes: Vec<u8>,
+    digest: [u8; 32],
     tally: Arc<Tally>,
 }
 
 impl Model for Prepared {
     ghost use Rattle.std.specs.Prelude.{◌≡◌};
     ghost use Rattle.std.specs.Arc.{arc_value};
+    ghost use Rattle.sha2.specs.Sha256.{sha256};
     ghost use Rattle.record_codec.specs.Spelling.{spelling};
     ghost use Rattle.sampler.specs.Plans.{IsTallyOf};
     ghost use Rattle.sampler.specs.Preparing.{Whole};
@@ -39,11 +43,11 @@ impl Model for Prepared {
 
     ghost view = { λ p. record { under = arc_value p.design; of = arc_value p.rec; content = p.bytes.items; counted = arc_value p.tally } };
 
-    ghost invariant = { λ p. (p.bytes.items ≡ spelling (arc_value p.rec)) × IsTallyOf (arc_value p.design) (arc_value p.rec) (arc_value p.tally) };
+    ghost invariant = { λ p. (p.bytes.items ≡ spelling (arc_value p.rec)) × (p.digest ≡ sha256 p.bytes.items) × IsTallyOf (arc_value p.design) (arc_value p.rec) (arc_value p.tally) };
 }
 
 impl Prepared {
-    /// The record with its encoding, and with this tally, which is its own under the design.
+    /// The record with its encoding and the digest of that, and with this tally, which is its own under the design.
     pub fn of(
         alloc: Global,
         design: &Arc<Design>,
@@ -55,6 +59,7 @@ impl Prepared {
         ensures of { IfOk result (λ p. p.of ≡ rec) }
     {
         let bytes = encode(alloc, &rec)?;
+        let digest = Sha256::digest(bytes.as_slice());
         let rec = Arc::new(alloc, rec)?;
         let tally = Arc::new(alloc, tally)?;
         let design = design.clone()?;
@@ -62,6 +67,7 @@ impl Prepared {
             design,
             rec,
             bytes,
+            digest,
             tally,
         })
     }
@@ -93,6 +99,13 @@ impl Prepared {
         ensures spelled { self.now.content ≡ spelling self.now.of }
     {
         self.bytes.as_slice()
+    }
+
+    /// The SHA-256 of the record's encoding. It was taken when the record was prepared.
+    pub fn digest(&self) -> [u8; 32]
+        ensures { result ≡ sha256 (spelling self.now.of) }
+    {
+        self.digest
     }
 
     /// How often each bin of the design is hit in the record.
