@@ -126,7 +126,7 @@ impl Bound {
 
     /// A concatenation of one part.
     pub(crate) fn alone(alloc: Global, part: Bound) -> Result<Bound, Memory>
-        ensures alone { IfOk result (λ bound. bound ≡ term.alone part) }
+        ensures value { IfOk result (λ bound. bound ≡ term.alone part) }
         ensures width { IfOk result (λ bound. (term.typ_of bound).width ≤ 64) }
     {
         let typed = part.into_typed();
