@@ -12,8 +12,10 @@ pub mod NoForm
 pub mod OneAnswer
 pub mod OneDesign
 pub mod Parsing
+pub mod Printed
 pub mod Records
 pub mod Refusals
+pub mod Standing
 pub mod Trees
 pub mod Unread
 pub mod Unserved

@@ -9,6 +9,7 @@ pub mod Filling
 pub mod Digits
 pub mod Admission
 pub mod Statuses
+pub mod Walks
 pub mod Steps
 pub use Rattle.cov_base.specs.Loads
 pub use Rattle.cov_compile.specs.Compiling
@@ -22,6 +23,8 @@ pub use Rattle.record_codec.specs.Limits
 pub use Rattle.record_codec.specs.Reading
 pub use Rattle.record_codec.specs.Spelling
 pub use Rattle.sampler.specs.Shape
+pub use Rattle.ucis_model.specs.Nodes
+pub use Rattle.ucis_model.specs.Paths
 pub use Rattle.vcd_reader.specs.Reading as DumpReading
 pub use Rattle.vcd_reader.specs.Records
 pub use Rattle.cov_history.specs.History

@@ -1,6 +1,6 @@
 -- The lines that are printed. Each ends with a newline, and numbers are decimal.
-use Rattle.std.specs.Prelude.{◌≡◌, ℕ, ◌+◌, ◌==◌, List, [], ◌∷◌, ◌++◌, codes, decimal, length, slice_get, Option, Some, None, if◌then◌else◌}
-use Rattle.std.specs.List.{flat_map}
+use Rattle.std.specs.Prelude.{◌≡◌, ℕ, List, [], ◌∷◌, ◌++◌, codes, decimal, length, slice_get, Option, Some, None}
+use Rattle.std.specs.List.{flat_map, range_with_len}
 use Rattle.cov_lexer.specs.declared.token.LexFault.TheVariants as lexing
 use Rattle.cov_parser.specs.declared.fault.ParseFault.TheVariants as parsing
 use Rattle.record_codec.specs.declared.fault.RecordFault.{RecordFault}
@@ -8,12 +8,13 @@ use Rattle.record_codec.specs.declared.fault.RecordFault.TheVariants.{Short, Bad
 use Rattle.cov_compile.specs.declared.fault.CompileFault.{CompileFault}
 use Rattle.cov_compile.specs.declared.fault.CompileFault.TheVariants.{Lex, Parse, Elab}
 use Rattle.design_data.specs.declared.design.Design.{Design}
-use Rattle.design_data.specs.declared.infos.BinInfo.{BinInfo}
 use Rattle.design_data.specs.declared.infos.BinKind.{BinKind}
 use Rattle.design_data.specs.declared.infos.BinKind.TheVariants.{CvgBin, IllegalBin, IgnoreBin, DefaultBin}
-use Rattle.design_data.specs.declared.infos.GroupInfo.{GroupInfo}
-use Rattle.design_data.specs.declared.infos.InstInfo.{InstInfo}
-use Rattle.design_data.specs.declared.infos.ItemInfo.{ItemInfo}
+use Rattle.ucis_model.specs.declared.node.Node.{Node}
+use Rattle.ucis_model.specs.declared.node.NodeKind.{NodeKind}
+use Rattle.ucis_model.specs.declared.node.NodeKind.TheVariants as node_kinds
+use Rattle.ucis_model.specs.Nodes.{nodes_of}
+use Rattle.ucis_model.specs.Paths.{node_at, path_of}
 use Rattle.elab_base.specs.declared.fault.ElabFault.TheVariants as elaborating
 use Rattle.elab_base.specs.declared.fault.ElabKind.{ElabKind}
 use Rattle.elab_base.specs.declared.fault.ElabKind.TheVariants as kinds
@@ -30,10 +31,6 @@ kind_word IllegalBin = codes "ILLEGALBIN"
 kind_word IgnoreBin = codes "IGNOREBIN"
 kind_word DefaultBin = codes "DEFAULTBIN"
 
--- two names, with `/` between them
-abbrev pub joined : List ℕ → List ℕ → List ℕ
-joined above name = above ++ 47 ∷ name
-
 abbrev pub count_at : Option ℕ → ℕ
 count_at None = 0
 count_at (Some count) = count
@@ -43,39 +40,31 @@ abbrev pub count_column : Option (List ℕ) → ℕ → List ℕ
 count_column None number = []
 count_column (Some counts) number = 32 ∷ decimal (count_at (slice_get counts number))
 
--- bin NUMBER KIND PATH, or bin NUMBER KIND COUNT PATH; the path is the names of group, instance, item and bin
-abbrev pub bin_line : Option (List ℕ) → ℕ → List ℕ → BinInfo → List ℕ
-bin_line counts number above bin =
-    codes "bin " ++ (decimal number ++ 32 ∷ (kind_word bin.kind ++ (count_column counts number ++ 32 ∷ (joined above bin.name ++ newline))))
+-- bin NUMBER KIND PATH, or bin NUMBER KIND COUNT PATH
+abbrev pub bin_line : Option (List ℕ) → (number : ℕ) → BinKind → (path : List ℕ) → List ℕ
+bin_line counts number kind path =
+    codes "bin " ++ (decimal number ++ 32 ∷ (kind_word kind ++ (count_column counts number ++ 32 ∷ (path ++ newline))))
 
--- a line for each bin of an item, numbered from `number` on
-abbrev pub bin_lines : Option (List ℕ) → ℕ → List ℕ → List BinInfo → List ℕ
-bin_lines counts number above [] = []
-bin_lines counts number above (bin ∷ bins) = bin_line counts number above bin ++ bin_lines counts (number + 1) above bins
+-- the line of a node, where it is a bin
+abbrev pub line_of : Option (List ℕ) → NodeKind → (number : ℕ) → (path : List ℕ) → List ℕ
+line_of counts node_kinds.Root number path = []
+line_of counts node_kinds.CoverGroup number path = []
+line_of counts node_kinds.CoverInstance number path = []
+line_of counts node_kinds.CoverPoint number path = []
+line_of counts node_kinds.Cross number path = []
+line_of counts (node_kinds.Bin kind) number path = bin_line counts number kind path
 
-abbrev pub item_lines : Option (List ℕ) → List ℕ → ItemInfo → List ℕ
-item_lines counts above item = bin_lines counts item.first_bin (joined above item.name) item.bins
+-- the line of the node at a place; the path is the node's own, by which it is found
+abbrev pub node_line : Option (List ℕ) → List Node → (place : ℕ) → List ℕ
+node_line counts nodes place = line_of counts (node_at nodes place).kind (node_at nodes place).first_bin (path_of nodes place)
 
-abbrev pub instance_lines : Option (List ℕ) → List ℕ → InstInfo → List ℕ
-instance_lines counts group inst = flat_map (item_lines counts (joined group inst.name)) inst.items
+-- a line for each bin among nodes, in their order
+abbrev pub node_lines : Option (List ℕ) → List Node → List ℕ
+node_lines counts nodes = flat_map (node_line counts nodes) (range_with_len 0 (length nodes))
 
--- the lines of an instance that is one of the group at this place
-abbrev pub lines_of_instance : Option (List ℕ) → List ℕ → ℕ → InstInfo → List ℕ
-lines_of_instance counts name place inst = if inst.group == place then instance_lines counts name inst else []
-
--- the lines of a group's instances
-abbrev pub group_lines : Option (List ℕ) → List InstInfo → ℕ → GroupInfo → List ℕ
-group_lines counts instances place group = flat_map (lines_of_instance counts group.name place) instances
-
--- the lines of groups, of which the first has this place
-abbrev pub lines_from : Option (List ℕ) → List InstInfo → ℕ → List GroupInfo → List ℕ
-lines_from counts instances place [] = []
-lines_from counts instances place (group ∷ groups) = group_lines counts instances place group ++ lines_from counts instances (place + 1) groups
-
--- a line for each bin of a design in the order of their numbers: group by group, and in each its instances, their items
--- and bins
-abbrev pub design_lines : Option (List ℕ) → Design → List ℕ
-design_lines counts d = lines_from counts d.instances 0 d.groups
+-- A line for each bin of a design in the order of its nodes, which is that of the numbers of bins.
+unfoldable pub design_lines : Option (List ℕ) → Design → List ℕ
+design_lines counts d = node_lines counts (nodes_of d)
 
 -- `test ID`, and a line for each bin with its count
 abbrev pub count_text : Design → List ℕ → List ℕ → List ℕ

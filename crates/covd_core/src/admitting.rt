@@ -14,9 +14,11 @@ use cov_base::{Memory, OpenGate};
 use design_data::Design;
 use merge_store::{AdmitFault, Store};
 use record_codec::Record;
-use sampler::{Plan, Prepared, prepare_under};
+use sampler::{Plan, Prepared};
+use sampler_threads::bin_record_par_under;
 use std::alloc::Global;
 use std::sync::Arc;
+use std::thread::Threads;
 
 /// Why the k-th record isn't admitted. No record is prepared under an older design, so that none is too late.
 fn refused(alloc: Global, k: u64, fault: AdmitFault) -> Result<Stop, Memory>
@@ -44,8 +46,10 @@ fn admit_prepared(alloc: Global, store: &mut Store, k: u64, prepared: Prepared) 
     }
 }
 
-/// Admits the k-th record by caller 0. `plan` is what is worked out of the design, once for all records.
-pub(crate) fn admit_record(
+/// Admits the k-th record by caller 0, which is binned in threads. `plan` is what is worked out of the design, once for
+/// all records.
+pub(crate) fn admit_record<R: Threads + Sync>(
+    rt: &R,
     alloc: Global,
     design: &Arc<Design>,
     plan: &Plan,
@@ -59,7 +63,7 @@ pub(crate) fn admit_record(
     ensures opening { opening_of store.new ≡ opening_of store.old }
     ensures admits { Admits (arc_value design.now) k (entries_of store.old) rec (entries_of store.new) result }
 {
-    let prepared = prepare_under(alloc, plan, design, rec, &OpenGate)?;
+    let prepared = bin_record_par_under(rt, alloc, plan, design, rec, &OpenGate)?;
     admit_prepared(alloc, store, k, prepared)?;
     Ok(())
 }

@@ -19,6 +19,7 @@ use record_codec::{Record, decode};
 use sampler::{Plan, shape_fits};
 use std::alloc::Global;
 use std::sync::Arc;
+use std::thread::Threads;
 
 /// The bytes of a record's file.
 fn read<F: Shelf>(alloc: Global, name: &str, shelf: &mut F) -> Result<Vec<u8>, Stop>
@@ -48,7 +49,8 @@ fn decoded(alloc: Global, k: u64, design: &Design, bytes: &[u8]) -> Result<Recor
 }
 
 /// Takes the k-th record in: load, decoding, shape, admission.
-fn take_file<F: Shelf>(
+fn take_file<R: Threads + Sync, F: Shelf>(
+    rt: &R,
     alloc: Global,
     design: &Arc<Design>,
     plan: &Plan,
@@ -66,12 +68,13 @@ fn take_file<F: Shelf>(
 {
     let bytes = read(alloc, name, shelf)?;
     let rec = decoded(alloc, k, design, &bytes)?;
-    admit_record(alloc, design, plan, store, k, rec)?;
+    admit_record(rt, alloc, design, plan, store, k, rec)?;
     Ok(())
 }
 
 /// Takes the records of these files in, in order, up to the first that is refused.
-pub(crate) fn fill<F: Shelf>(
+pub(crate) fn fill<R: Threads + Sync, F: Shelf>(
+    rt: &R,
     alloc: Global,
     design: &Arc<Design>,
     plan: &Plan,
@@ -91,7 +94,7 @@ pub(crate) fn fill<F: Shelf>(
     let mut rest = names;
     while let Some((name, later)) = rest.split_first() {
         k += 1;
-        take_file(alloc, design, plan, store, k, name.as_str(), shelf)?;
+        take_file(rt, alloc, design, plan, store, k, name.as_str(), shelf)?;
         rest = later;
     }
     Ok(())

@@ -1,7 +1,10 @@
 //! The lines of designs and counts.
 ghost use Rattle.std.specs.Prelude.{◌≡◌, ◌++◌, ◌+◌, ◌<◌, length, IfOk, OnOk, decimal, slice_get};
-ghost use Rattle.covd_core.specs.Columns.{counts_of, path_above};
-ghost use Rattle.covd_core.specs.Lines.{kind_word, joined, count_at, count_column, bin_line, bin_lines, item_lines, instance_lines, lines_of_instance, group_lines, design_lines, count_text, check_text, number_line};
+ghost use Rattle.std.specs.List.{flat_map};
+ghost use Rattle.ucis_model.specs.Paths.{below};
+ghost use Rattle.covd_core.specs.Columns.{counts_of};
+ghost use Rattle.covd_core.specs.Lines.{kind_word, count_at, count_column, bin_line, design_lines, count_text, check_text, number_line};
+ghost use Rattle.covd_core.specs.Walks.{bin_lines, item_lines, instance_lines, lines_of_instance, group_lines, lines_from};
 
 use crate::texts::{append, append_count, append_number};
 use cov_base::Memory;
@@ -27,24 +30,25 @@ pub(crate) enum Column<'a> {
     Counted(&'a [u64]),
 }
 
-// The names above the bins of an item.
-#[derive(Drop)]
-pub(crate) struct Above<'a> {
-    group: &'a Name,
-    instance: &'a Name,
-    item: &'a Name,
+/// A path with a name below it.
+fn append_below(text: &mut Vec<u8>, path: &[u8], name: &Name) -> Result<(), Memory>
+    ensures { OnOk result (text.new.items ≡ text.old.items ++ below path.now name.now) }
+{
+    if path.is_empty() {
+        return append(text, name.as_slice());
+    }
+    append(text, path)?;
+    append(text, b"/")?;
+    append(text, name.as_slice())
 }
 
-fn append_path(text: &mut Vec<u8>, above: &Above<'_>, bin: &Name) -> Result<(), Memory>
-    ensures { OnOk result (text.new.items ≡ text.old.items ++ joined (path_above above.now) bin.now) }
+/// The path of what has this name below a path.
+fn path_below(alloc: Global, path: &[u8], name: &Name) -> Result<Vec<u8>, Memory>
+    ensures { IfOk result (λ whole. whole.items ≡ below path.now name.now) }
 {
-    append(text, above.group.as_slice())?;
-    append(text, b"/")?;
-    append(text, above.instance.as_slice())?;
-    append(text, b"/")?;
-    append(text, above.item.as_slice())?;
-    append(text, b"/")?;
-    append(text, bin.as_slice())
+    let mut whole = Vec::new(alloc);
+    append_below(&mut whole, path, name)?;
+    Ok(whole)
 }
 
 // The count of the bin of this number.
@@ -73,10 +77,10 @@ fn append_bin(
     text: &mut Vec<u8>,
     column: &Column<'_>,
     number: u64,
-    above: &Above<'_>,
+    path: &[u8],
     bin: &BinInfo,
 ) -> Result<(), Memory>
-    ensures { OnOk result (text.new.items ≡ text.old.items ++ bin_line (counts_of column.now) number (path_above above.now) bin.now) }
+    ensures { OnOk result (text.new.items ≡ text.old.items ++ bin_line (counts_of column.now) number bin.now.kind (below path.now bin.now.name)) }
 {
     append(text, b"bin ")?;
     append_number(text, number)?;
@@ -84,32 +88,57 @@ fn append_bin(
     append(text, kind_name(bin.kind).as_bytes())?;
     append_column(text, column, number)?;
     append(text, b" ")?;
-    append_path(text, above, &bin.name)?;
+    append_below(text, path, &bin.name)?;
     append(text, b"\n")
 }
 
-fn append_item(
+// The lines of bins below the path of their item.
+fn append_bins(
     text: &mut Vec<u8>,
     column: &Column<'_>,
-    group: &Name,
-    instance: &Name,
+    first: u32,
+    path: &[u8],
+    bins: &[BinInfo],
+) -> Result<(), Memory>
+    ensures { OnOk result (text.new.items ≡ text.old.items ++ bin_lines (counts_of column.now) first path.now bins.now) }
+{
+    for (place, bin) in bins.iter().enumerate() {
+        append_bin(text, column, first as u64 + place as u64, path, bin)?;
+    }
+    Ok(())
+}
+
+// The lines of an item below the path of its instance.
+fn append_item(
+    alloc: Global,
+    text: &mut Vec<u8>,
+    column: &Column<'_>,
+    above: &[u8],
     item: &ItemInfo,
 ) -> Result<(), Memory>
-    ensures { OnOk result (text.new.items ≡ text.old.items ++ item_lines (counts_of column.now) (joined group.now instance.now) item.now) }
+    ensures { OnOk result (text.new.items ≡ text.old.items ++ item_lines (counts_of column.now) above.now item.now) }
 {
-    let above = Above {
-        group,
-        instance,
-        item: &item.name,
-    };
-    for (place, bin) in item.bins.as_slice().iter().enumerate() {
-        let number = item.first_bin as u64 + place as u64;
-        append_bin(text, column, number, &above, bin)?;
+    let path = path_below(alloc, above, &item.name)?;
+    append_bins(text, column, item.first_bin, &path, item.bins.as_slice())
+}
+
+fn append_items(
+    alloc: Global,
+    text: &mut Vec<u8>,
+    column: &Column<'_>,
+    above: &[u8],
+    items: &[ItemInfo],
+) -> Result<(), Memory>
+    ensures { OnOk result (text.new.items ≡ text.old.items ++ flat_map (item_lines (counts_of column.now) above.now) items.now) }
+{
+    for item in items {
+        append_item(alloc, text, column, above, item)?;
     }
     Ok(())
 }
 
 fn append_instance(
+    alloc: Global,
     text: &mut Vec<u8>,
     column: &Column<'_>,
     group: &Name,
@@ -117,14 +146,13 @@ fn append_instance(
 ) -> Result<(), Memory>
     ensures { OnOk result (text.new.items ≡ text.old.items ++ instance_lines (counts_of column.now) group.now instance.now) }
 {
-    for item in instance.items.as_slice() {
-        append_item(text, column, group, &instance.name, item)?;
-    }
-    Ok(())
+    let path = path_below(alloc, group.as_slice(), &instance.name)?;
+    append_items(alloc, text, column, &path, instance.items.as_slice())
 }
 
 // The lines of an instance, where it is one of the group at this place.
 fn append_instance_of(
+    alloc: Global,
     text: &mut Vec<u8>,
     column: &Column<'_>,
     group: &Name,
@@ -134,13 +162,14 @@ fn append_instance_of(
     ensures { OnOk result (text.new.items ≡ text.old.items ++ lines_of_instance (counts_of column.now) group.now place instance.now) }
 {
     if instance.group as usize == place {
-        append_instance(text, column, group, instance)
+        append_instance(alloc, text, column, group, instance)
     } else {
         Ok(())
     }
 }
 
 fn append_group(
+    alloc: Global,
     text: &mut Vec<u8>,
     column: &Column<'_>,
     instances: &[InstInfo],
@@ -150,18 +179,36 @@ fn append_group(
     ensures { OnOk result (text.new.items ≡ text.old.items ++ group_lines (counts_of column.now) instances.now place group.now) }
 {
     for instance in instances {
-        append_instance_of(text, column, &group.name, place, instance)?;
+        append_instance_of(alloc, text, column, &group.name, place, instance)?;
+    }
+    Ok(())
+}
+
+fn append_groups(
+    alloc: Global,
+    text: &mut Vec<u8>,
+    column: &Column<'_>,
+    instances: &[InstInfo],
+    groups: &[GroupInfo],
+) -> Result<(), Memory>
+    ensures { OnOk result (text.new.items ≡ text.old.items ++ lines_from (counts_of column.now) instances.now 0 groups.now) }
+{
+    for (place, group) in groups.iter().enumerate() {
+        append_group(alloc, text, column, instances, place, group)?;
     }
     Ok(())
 }
 
 // A line for each bin.
-fn append_design(text: &mut Vec<u8>, column: &Column<'_>, design: &Design) -> Result<(), Memory>
+fn append_design(
+    alloc: Global,
+    text: &mut Vec<u8>,
+    column: &Column<'_>,
+    design: &Design,
+) -> Result<(), Memory>
     ensures { OnOk result (text.new.items ≡ text.old.items ++ design_lines (counts_of column.now) design.now) }
 {
-    for (place, group) in design.groups().iter().enumerate() {
-        append_group(text, column, design.instances(), place, group)?;
-    }
+    append_groups(alloc, text, column, design.instances(), design.groups())?;
     Ok(())
 }
 
@@ -178,7 +225,7 @@ pub(crate) fn count_lines(
     append(&mut text, b"test ")?;
     append(&mut text, id)?;
     append(&mut text, b"\n")?;
-    append_design(&mut text, &Column::Counted(counts), design)?;
+    append_design(alloc, &mut text, &Column::Counted(counts), design)?;
     Ok(text)
 }
 
@@ -190,6 +237,6 @@ pub(crate) fn check_lines(alloc: Global, design: &Design) -> Result<Vec<u8>, Mem
     append_count(&mut text, "signals", design.signals().len())?;
     append_count(&mut text, "instances", design.instances().len())?;
     append_count(&mut text, "bins", design.bin_count() as usize)?;
-    append_design(&mut text, &Column::Bare, design)?;
+    append_design(alloc, &mut text, &Column::Bare, design)?;
     Ok(text)
 }

@@ -19,6 +19,7 @@ use record_maker::{MakeFault, make_record};
 use sampler::Plan;
 use std::alloc::Global;
 use std::sync::Arc;
+use std::thread::Threads;
 
 /// That the record of a test would be above a limit.
 fn too_much(alloc: Global, test: u32, which: &str, n: u64) -> Result<Stop, Memory>
@@ -42,7 +43,8 @@ fn made(alloc: Global, design: &Design, seed: u64, rounds: u32, test: u32) -> Re
 }
 
 /// Makes the record of a test and takes it in.
-fn take_made(
+fn take_made<R: Threads + Sync>(
+    rt: &R,
     alloc: Global,
     design: &Arc<Design>,
     plan: &Plan,
@@ -57,12 +59,13 @@ fn take_made(
     ensures takes { TakesMade (arc_value design.now) seed rounds test (entries_of store.old) (entries_of store.new) result }
 {
     let rec = made(alloc, design, seed, rounds, test)?;
-    admit_record(alloc, design, plan, store, test as u64, rec)?;
+    admit_record(rt, alloc, design, plan, store, test as u64, rec)?;
     Ok(())
 }
 
 /// Takes the records of so many tests in, in order, up to the first that is refused.
-pub(crate) fn fill_made(
+pub(crate) fn fill_made<R: Threads + Sync>(
+    rt: &R,
     alloc: Global,
     design: &Arc<Design>,
     plan: &Plan,
@@ -81,6 +84,7 @@ pub(crate) fn fill_made(
         left -= 1;
         test += 1;
         take_made(
+            rt,
             alloc,
             design,
             plan,

@@ -61,7 +61,7 @@ fn filled_into<R: Threads + Sync, F: Shelf>(
     ensures later { F.faults shelf.old ≤ F.faults shelf.new }
     ensures answer { IfOk result (λ a. Fills (F.files shelf.old) (F.faults shelf.old) (F.faults shelf.new) (arc_value design.now) 1 [] (map string_bytes names.now) a.status a.text.items) }
 {
-    match fill(alloc, design, plan, store, names, shelf) {
+    match fill(rt, alloc, design, plan, store, names, shelf) {
         Ok(()) => printed(rt, alloc, store),
         Err(stop) => stop.into_answer(),
     }
@@ -116,7 +116,7 @@ fn made_into<R: Threads + Sync>(
     requires fresh { entries_of store.old ≡ [] }
     ensures { IfOk result (λ a. FillsMade (arc_value design.now) numbers.seed numbers.rounds 1 [] numbers.tests a.status a.text.items) }
 {
-    match fill_made(alloc, design, plan, store, numbers) {
+    match fill_made(rt, alloc, design, plan, store, numbers) {
         Ok(()) => printed(rt, alloc, store),
         Err(stop) => stop.into_answer(),
     }

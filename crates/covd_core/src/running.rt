@@ -17,7 +17,8 @@ use std::thread::Threads;
 /// `make DESIGN SEED EVENTS TESTS`, which print the report of a store that is filled with the records of files or of a
 /// generator; and `record DESIGN DUMP SCOPE ID`, which writes the bytes of the record of a value change dump. What they
 /// write is built whole before its first byte is written, and nothing is read. `session DESIGN` answers the requests that come over the link, over a store that begins
-/// without tests, until a Bye or the end of what comes. Threads are started to rank tests.
+/// without tests, until a Bye or the end of what comes. Threads are started to bin records and to rank
+/// tests.
 pub fn run<R: Threads + Sync, F: Shelf, L: Link>(
     rt: &R,
     alloc: Global,

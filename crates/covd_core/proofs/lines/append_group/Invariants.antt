@@ -1,7 +1,7 @@
 use Rattle.std.proofs.Common.{◌≡◌, ◌++◌, take}
 use Rattle.covd_core.specs.Columns.{counts_of}
 use Rattle.std.specs.List.{flat_map}
-use Rattle.covd_core.specs.Lines.{lines_of_instance}
+use Rattle.covd_core.specs.Walks.{lines_of_instance}
 use Rattle.covd_core.proofs.lines.append_group.Given as goal
 
 abbrev pub invariant-loop-instance : goal.invariant-loop-instance

@@ -7,7 +7,7 @@ use Rattle.covd_core.proofs.Fillings.{made_on, made_stops}
 use Rattle.covd_core.proofs.making.fill_made.Goals as goal
 
 pub loop-left-preserved : goal.loop-left-preserved
-loop-left-preserved c =
+loop-left-preserved g c =
     let d = arc_value c.args.design.now in
     let n = c.args.numbers in
     let takes = c.in_ok-take_made.ensures.takes in
@@ -19,7 +19,7 @@ loop-left-preserved c =
     }
 
 pub returns-in_err-take_made-clause-filled : goal.returns-in_err-take_made-clause-filled
-returns-in_err-take_made-clause-filled c =
+returns-in_err-take_made-clause-filled g c =
     let d = arc_value c.args.design.now in
     let n = c.args.numbers in
     let p = err_from_is_err_and c.from_residual.result c.from_residual.ensures.1 in

@@ -1,9 +1,0 @@
-use Rattle.std.proofs.Common.{◌≡◌, ◌++◌, drop}
-use Rattle.covd_core.specs.Columns.{counts_of}
-use Rattle.covd_core.specs.Lines.{lines_from}
-use Rattle.covd_core.proofs.lines.append_design.Given as goal
-
-abbrev pub invariant-loop-place : goal.invariant-loop-place
-invariant-loop-place l =
-    let counts = counts_of l.column in
-    l.text.items ++ lines_from counts l.design.instances l.place (drop l.place l.design.groups) ≡ l.initial.text.items ++ lines_from counts l.design.instances 0 l.design.groups
