@@ -6,3 +6,5 @@ pub mod Meeting
 pub mod Standing
 mod Still
 mod Keyed
+mod Resting
+mod Bounds

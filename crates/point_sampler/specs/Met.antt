@@ -64,6 +64,10 @@ pub record StandApart (plan : PointPlan) : Type 0 where
   pub once : AllPairs (λ a b. a ≢ b) plan.sequences.items
   pub apart : (place : ℕ) → IsPlaceOf plan.machines.items place → Contains plan.sequences.items place → ⊥
 
+-- there are neither automata nor default sequences
+abbrev pub IsStill : PointPlan → Type 0
+IsStill plan = (length plan.machines.items ≡ 0) × (length plan.sequences.items ≡ 0)
+
 abbrev pub IsTransPlace : PointPlan → ℕ → Type 0
 IsTransPlace plan place = IsPlaceOf plan.machines.items place ⊎ Contains plan.sequences.items place
 

@@ -1,9 +1,11 @@
 -- What the plan of a point prepares.
-use Rattle.std.specs.Prelude.{◌≡◌, ℤ, pos, ◌+ℤ◌, ℕ, ◌+◌, ◌^◌, ◌<◌, ◌≤◌, List, [], ◌∷◌, ◌++◌, length, filter, take, slice_get, Option, Some, None, IfSome, Bool, true, false, not, if◌then◌else◌}
+use Rattle.std.specs.Prelude.{◌≡◌, ◌⊎◌, ⊤, ℤ, pos, ◌+ℤ◌, ◌<ℤ◌, ℕ, ◌+◌, ◌^◌, ◌<◌, ◌≤◌, List, [], ◌∷◌, ◌++◌, length, filter, take, slice_get, slice_index_or, Option, Some, None, IfSome, Bool, true, false, not, if◌then◌else◌}
 use Rattle.std.specs.List.{AllByRecursion}
 use Rattle.cov_ground.specs.Limits.{most_bins, most_cells}
 use Rattle.const_eval.specs.Terms.{Term}
 use Rattle.trans_seq.specs.declared.seq.Seq.{Seq}
+use Rattle.trans_seq.specs.declared.seq.Item.{Item}
+use Rattle.trans_seq.specs.declared.seq.Repeat.TheVariants.{Once}
 use Rattle.trans_seq.specs.Windows.{is_known_in}
 use Rattle.trans_seq.specs.Cells.{cells_of_seqs}
 use Rattle.design_data.specs.declared.infos.ItemInfo.{ItemInfo}
@@ -21,6 +23,7 @@ use Rattle.value_index.specs.Finds.{Finds}
 use Rattle.point_sampler.specs.declared.plan.Lookup.{Lookup}
 use Rattle.point_sampler.specs.declared.plan.PointPlan.{PointPlan}
 use Rattle.point_sampler.specs.declared.plan.Entry.{Entry}
+use Rattle.point_sampler.specs.declared.plan.Entrance.{Entrance}
 use Rattle.point_sampler.specs.declared.plan.Machine.{Machine}
 use Rattle.point_sampler.specs.declared.plan.Removers.{Removers}
 
@@ -98,6 +101,28 @@ abbrev pub machines_from : ℕ → List BinInfo → List Machine
 machines_from place [] = []
 machines_from place (bin ∷ bins) = machine_of place bin.kind bin.rule ++ machines_from (place + 1) bins
 
+-- the value is Unknown or beyond the bounds that there are
+abbrev pub IsBeyond : Entrance → Value → Type 0
+IsBeyond entrance None = ⊤
+IsBeyond entrance (Some v) = (v <ℤ entrance.low) ⊎ (entrance.high <ℤ v)
+
+abbrev pub IsOut : Entrance → Value → Type 0
+IsOut entrance v = (entrance.bounded ≡ true) × IsBeyond entrance v
+
+-- the first of the items stands for one value, and this is none of its values
+abbrev pub BeginsElsewhere : Value → List Item → Type 0
+BeginsElsewhere v [] = ⊤
+BeginsElsewhere v (item ∷ items) = (item.repeat ≡ Once) × (is_known_in item.set v ≡ false)
+
+-- with a value beyond the bounds no window of the sequences begins
+abbrev pub IsEntrance : List Seq → Entrance → Type 0
+IsEntrance seqs entrance = (v : Value) → IsOut entrance v → AllByRecursion (λ seq. BeginsElsewhere v seq.items) seqs
+
+-- the entrances are those of the automata
+pub record AreEntrances (machines : List Machine) (entrances : List Entrance) : Type 0 where
+  pub same : length entrances ≡ length machines
+  pub at : (k : ℕ) (machine : Machine) (entrance : Entrance) → k < length machines → IsEntrance (slice_index_or machines k machine).watcher (slice_index_or entrances k entrance)
+
 -- the sequences whose windows a bin of this kind doesn't count
 abbrev pub removed_by : Removers → BinKind → List Seq
 removed_by removers CvgBin = removers.covering
@@ -127,6 +152,7 @@ pub record AreRemovers (item : ItemInfo) (removers : Removers) : Type 0 where
 pub record IsPlanOf (item : ItemInfo) (plan : PointPlan) : Type 0 where
   pub entries : AreEntries item.bins plan.entries.items
   pub machines : plan.machines.items ≡ machines_from 0 item.bins
+  pub entrances : AreEntrances plan.machines.items plan.entrances.items
   pub removers : AreRemovers item plan.removers
   pub others : plan.others ≡ item.ignored ++ item.illegal
   pub lookup : IfSome plan.lookup (IsLookupOf item.bins)

@@ -5,6 +5,7 @@
 #![tactic(auto)]
 
 mod counting;
+mod entrances;
 mod keys;
 mod lookups;
 mod machines;
@@ -14,5 +15,5 @@ mod point;
 mod rules;
 mod state;
 
-pub use plan::{Entry, Lookup, Machine, PointPlan, Removers};
+pub use plan::{Entrance, Entry, Lookup, Machine, PointPlan, Removers};
 pub use state::{PointState, Steps};

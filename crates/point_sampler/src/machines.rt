@@ -2,18 +2,18 @@
 ghost use Rattle.std.specs.Prelude.{◌≡◌, ◌≢◌, ◌↔◌, ◌⊎◌, ◌∷◌, ◌++◌, [], ℕ, ◌<◌, List, length, All, AllPairs, Contains, IfOk, OnOk, IsTrue, if◌then◌else◌};
 ghost use Rattle.trans_seq.specs.Windows.{EndsKept, EndsWindow};
 ghost use Rattle.trans_auto.specs.State.{Stands, SaysKept, SaysWindow, TakesSample};
-ghost use Rattle.trans_auto.specs.Removing.{IsStep};
 ghost use Rattle.design_data.specs.Laws.{Value};
-ghost use Rattle.point_sampler.specs.Plans.{removed_by};
+ghost use Rattle.point_sampler.specs.Plans.{removed_by, IsEntrance, AreEntrances};
 ghost use Rattle.point_sampler.specs.Points.{Fits, RunsStand, OthersStand, Remembers};
-ghost use Rattle.point_sampler.specs.Met.{AreSteps, Answered, Ascend, IsPlaceOf, StandApart, IsTransPlace, AreTransMet};
+ghost use Rattle.point_sampler.specs.Met.{AreSteps, IsStill, Answered, Ascend, IsPlaceOf, StandApart, IsTransPlace, AreTransMet};
 
-use crate::plan::{Machine, PointPlan, Removers};
+use crate::entrances::rests;
+use crate::plan::{Entrance, Machine, PointPlan, Removers};
 use crate::rules::note;
 use crate::state::{PointState, Steps};
 use cov_base::{Int, Memory};
 use design_data::BinKind;
-use trans_auto::{Answer, Step, TransState, Watcher};
+use trans_auto::{Answer, TransState, Watcher};
 
 /// What the sample does to the sequences that take windows away.
 fn begin(removers: &Removers, steps: &mut Steps, value: &Option<Int>)
@@ -22,6 +22,18 @@ fn begin(removers: &Removers, steps: &mut Steps, value: &Option<Int>)
     removers.covering.begin(&mut steps.covering, *value);
     removers.ignoring.begin(&mut steps.ignoring, *value);
     removers.none.begin(&mut steps.none, *value);
+}
+
+/// The same, unless it has been done.
+fn begin_once(removers: &Removers, steps: &mut Steps, is_ready: &mut bool, value: &Option<Int>)
+    requires ready { IsTrue is_ready.old → AreSteps removers.now value.now steps.old }
+    ensures steps { AreSteps removers.now value.now steps.new }
+{
+    if *is_ready {
+        return;
+    }
+    begin(removers, steps, value);
+    *is_ready = true;
 }
 
 /// Takes the automaton of a bin of a kind over the next value of the trace.
@@ -52,21 +64,62 @@ fn push_one(
     }
 }
 
+/// Takes the automaton of a bin over the next value of the trace, in no time where no window stands or begins there.
+fn push_machine(
+    machine: &Machine,
+    entrance: &Entrance,
+    removers: &Removers,
+    steps: &mut Steps,
+    is_ready: &mut bool,
+    runs: &mut TransState,
+    value: &Option<Int>,
+) -> Result<Answer, Memory>
+    requires entrance { IsEntrance machine.now.watcher entrance.now }
+    requires ready { IsTrue is_ready.old → AreSteps removers.now value.now steps.old }
+    ensures ready { OnOk result (IsTrue is_ready.new → AreSteps removers.now value.now steps.new) }
+    ensures counts { IfOk result (λ answer.
+        SaysKept machine.now.watcher (removed_by removers.now machine.now.kind) runs.old value.now answer.counts) }
+    ensures ends { IfOk result (λ answer.
+        SaysWindow machine.now.watcher (removed_by removers.now machine.now.kind) runs.old value.now answer.ends) }
+    ensures stands { OnOk result
+        (TakesSample machine.now.watcher (removed_by removers.now machine.now.kind) runs.old value.now runs.new) }
+{
+    if rests(entrance, runs, value) {
+        return Ok(Answer {
+            counts: false,
+            ends: false,
+        });
+    }
+    begin_once(removers, steps, is_ready, value);
+    let answer = push_one(
+        &machine.watcher,
+        machine.kind,
+        removers,
+        steps,
+        runs,
+        value,
+    )?;
+    Ok(answer)
+}
+
 /// Takes the automata of a point over the next value of the trace: puts the places of the bins that are met into `met`,
 /// and says whether a window of any ends there.
 fn push_machines(
     machines: &[Machine],
+    entrances: &[Entrance],
     removers: &Removers,
     steps: &mut Steps,
+    is_ready: &mut bool,
     runs: &mut [TransState],
     value: &Option<Int>,
     met: &mut Vec<u32>,
 ) -> Result<bool, Memory>
     requires fits { length runs.old ≡ length machines.now }
+    requires entrances { AreEntrances machines.now entrances.now }
     requires ascend { Ascend machines.now }
-    requires steps { AreSteps removers.now value.now steps.old }
+    requires ready { IsTrue is_ready.old → AreSteps removers.now value.now steps.old }
     requires none { met.old.items ≡ [] }
-    ensures steps { OnOk result (AreSteps removers.now value.now steps.new) }
+    ensures ready { OnOk result (IsTrue is_ready.new → AreSteps removers.now value.now steps.new) }
     ensures runs { OnOk result ((w : List Value) → RunsStand machines.now removers.now runs.old w
         → RunsStand machines.now removers.now runs.new (w ++ value.now ∷ [])) }
     ensures says { IfOk result (λ ended. (w : List Value) → RunsStand machines.now removers.now runs.old w
@@ -77,11 +130,12 @@ fn push_machines(
     let mut ended = false;
     for k in 0..machines.len() {
         let machine = &machines[k];
-        let answer = push_one(
-            &machine.watcher,
-            machine.kind,
+        let answer = push_machine(
+            machine,
+            &entrances[k],
             removers,
             steps,
+            is_ready,
             &mut runs[k],
             value,
         )?;
@@ -109,13 +163,14 @@ fn is_alone(begun: bool, ended: bool, other_ended: bool) -> bool
 /// sequence, and says whether that is met there.
 fn push_others(
     plan: &PointPlan,
-    step: &mut Step,
+    steps: &mut Steps,
+    is_ready: &mut bool,
     others: &mut TransState,
     begun: bool,
     ended: bool,
     value: &Option<Int>,
 ) -> Result<bool, Memory>
-    requires { IsStep plan.now.removers.none value.now step.old }
+    requires ready { IsTrue is_ready.old → AreSteps plan.now.removers value.now steps.old }
     ensures stands { OnOk result ((w : List Value) → OthersStand plan.now others.old w
         → OthersStand plan.now others.new (w ++ value.now ∷ [])) }
     ensures says { IfOk result (λ met. (w : List Value) → 0 < length plan.now.sequences.items → OthersStand plan.now others.old w
@@ -124,7 +179,10 @@ fn push_others(
     if plan.sequences.is_empty() {
         return Ok(false);
     }
-    let answer = plan.others.push(&plan.removers.none, step, others, *value)?;
+    begin_once(&plan.removers, steps, is_ready, value);
+    let answer = plan
+        .others
+        .push(&plan.removers.none, &mut steps.none, others, *value)?;
     Ok(is_alone(begun, ended, answer.ends))
 }
 
@@ -139,8 +197,8 @@ fn add_sequences(sequences: &[u32], is_met: bool, met: &mut Vec<u32>) -> Result<
 }
 
 /// Whether the point has neither transition bins nor default sequences.
-fn is_still(plan: &PointPlan) -> bool
-    ensures { IsTrue result → (length plan.now.machines.items ≡ 0) × (length plan.now.sequences.items ≡ 0) }
+pub(crate) fn is_still(plan: &PointPlan) -> bool
+    ensures { IsTrue result → IsStill plan.now }
 {
     plan.machines.is_empty() && plan.sequences.is_empty()
 }
@@ -156,6 +214,7 @@ fn push_all(
     met: &mut Vec<u32>,
 ) -> Result<(), Memory>
     requires fits { length runs.old ≡ length plan.now.machines.items }
+    requires entrances { AreEntrances plan.now.machines.items plan.now.entrances.items }
     requires apart { StandApart plan.now }
     requires none { met.old.items ≡ [] }
     ensures runs { OnOk result ((w : List Value) → RunsStand plan.now.machines.items plan.now.removers runs.old w
@@ -168,16 +227,18 @@ fn push_all(
     ensures among { OnOk result ((place : ℕ) → Contains met.new.items place → IsTransPlace plan.now place) }
     ensures once { OnOk result (AllPairs (λ a b. a ≢ b) met.new.items) }
 {
-    begin(&plan.removers, steps, value);
+    let mut is_ready = false;
     let ended = push_machines(
         plan.machines.as_slice(),
+        plan.entrances.as_slice(),
         &plan.removers,
         steps,
+        &mut is_ready,
         runs,
         value,
         met,
     )?;
-    let alone = push_others(plan, &mut steps.none, others, begun, ended, value)?;
+    let alone = push_others(plan, steps, &mut is_ready, others, begun, ended, value)?;
     add_sequences(plan.sequences.as_slice(), alone, met)?;
     Ok(())
 }
@@ -193,6 +254,7 @@ fn push_some(
     met: &mut Vec<u32>,
 ) -> Result<(), Memory>
     requires fits { length runs.old ≡ length plan.now.machines.items }
+    requires entrances { AreEntrances plan.now.machines.items plan.now.entrances.items }
     requires apart { StandApart plan.now }
     requires none { met.old.items ≡ [] }
     ensures runs { OnOk result ((w : List Value) → RunsStand plan.now.machines.items plan.now.removers runs.old w
@@ -220,6 +282,7 @@ pub(crate) fn push_value(
     value: &Option<Int>,
 ) -> Result<(), Memory>
     requires fits { Fits plan.now state.old }
+    requires entrances { AreEntrances plan.now.machines.items plan.now.entrances.items }
     requires apart { StandApart plan.now }
     ensures fits { OnOk result (Fits plan.now state.new) }
     ensures remembers { OnOk result ((w : List Value) → Remembers plan.now state.old w

@@ -12,6 +12,8 @@ pub struct PointPlan {
     pub(crate) entries: Vec<Entry>,
     /// The automata of the transition bins, in order.
     pub(crate) machines: Vec<Machine>,
+    /// For each of them the values with which its windows may begin.
+    pub(crate) entrances: Vec<Entrance>,
     /// The sequences that take windows away.
     pub(crate) removers: Removers,
     /// The automaton of the ignored and illegal sequences, which a default sequence doesn't count either.
@@ -51,6 +53,14 @@ pub struct Machine {
     /// The bin's kind.
     pub(crate) kind: BinKind,
     pub(crate) watcher: Watcher,
+}
+
+/// The values with which windows of a bin may begin: where it is bounded, none that is Unknown or beyond the bounds.
+#[derive(Clone, Copy, Drop)]
+pub struct Entrance {
+    pub(crate) bounded: bool,
+    pub(crate) low: Int,
+    pub(crate) high: Int,
 }
 
 /// The sequences that take windows away from coverage bins, from ignore bins, and from no bin.

@@ -7,11 +7,12 @@ ghost use Rattle.design_data.specs.declared.infos.ItemInfo.{ItemInfo as Item};
 ghost use Rattle.design_data.specs.declared.infos.BinInfo.{BinInfo as Bin};
 ghost use Rattle.design_data.specs.Limits.{IsPointRule};
 ghost use Rattle.record_codec.specs.Samples.{Env};
-ghost use Rattle.point_sampler.specs.Plans.{IsPoint, IsPlanOf, IsLookupOf, IsGuardAt, AreEntries, AreRemovers, machine_of, machines_from, places_from, is_default_sequence as is_default_sequence_of};
+ghost use Rattle.point_sampler.specs.Plans.{IsPoint, IsPlanOf, IsLookupOf, IsGuardAt, AreEntries, AreEntrances, AreRemovers, machine_of, machines_from, places_from, is_default_sequence as is_default_sequence_of};
 ghost use Rattle.point_sampler.specs.Points.{Fits, StateStands, RunsStand};
 
+use crate::entrances::entrance_of;
 use crate::lookups::lookup_of;
-use crate::plan::{Entry, Lookup, Machine, PointPlan, Removers};
+use crate::plan::{Entrance, Entry, Lookup, Machine, PointPlan, Removers};
 use crate::rules::note;
 use crate::state::{PointState, Steps};
 use cov_base::Memory;
@@ -59,19 +60,24 @@ fn entries_of(alloc: Global, bins: &[BinInfo]) -> Result<Vec<Entry>, Memory>
     Ok(entries)
 }
 
-/// Appends the automaton of a transition bin.
+/// Appends the automaton of a transition bin, and its entrance.
 fn add_machine(
     alloc: Global,
     item: &ItemInfo,
     place: u32,
     bin: &BinInfo,
     machines: &mut Vec<Machine>,
+    entrances: &mut Vec<Entrance>,
 ) -> Result<(), Memory>
     requires { IsPointRule item.now bin.now.kind bin.now.rule }
-    ensures { OnOk result (machines.new.items ≡ machines.old.items ++ machine_of place bin.now.kind bin.now.rule) }
+    ensures machines { OnOk result (machines.new.items ≡ machines.old.items ++ machine_of place bin.now.kind bin.now.rule) }
+    ensures entrances { OnOk result (AreEntrances machines.old.items entrances.old.items
+        → AreEntrances machines.new.items entrances.new.items) }
 {
     if let BinRule::Trans(seqs) = &bin.rule {
-        let watcher = Watcher::new(alloc, seqs.as_slice()).map_err(|_| Memory)?;
+        let own = seqs.as_slice();
+        let watcher = watcher(alloc, own)?;
+        entrances.push(entrance_of(own))?;
         machines.push(Machine {
             place,
             kind: bin.kind,
@@ -81,14 +87,20 @@ fn add_machine(
     Ok(())
 }
 
-/// The automata of the transition bins.
-fn machines_of(alloc: Global, item: &ItemInfo) -> Result<Vec<Machine>, Memory>
-    requires { IsPoint item.now }
-    ensures { IfOk result (λ machines. machines.items ≡ machines_from 0 item.now.bins) }
+/// The automata of the transition bins; their entrances are put into `entrances`.
+fn machines_of(
+    alloc: Global,
+    item: &ItemInfo,
+    entrances: &mut Vec<Entrance>,
+) -> Result<Vec<Machine>, Memory>
+    requires point { IsPoint item.now }
+    requires none { entrances.old.items ≡ [] }
+    ensures machines { IfOk result (λ machines. machines.items ≡ machines_from 0 item.now.bins) }
+    ensures entrances { IfOk result (λ machines. AreEntrances machines.items entrances.new.items) }
 {
     let mut machines = Vec::new(alloc);
     for (place, bin) in item.bins.as_slice().iter().enumerate() {
-        add_machine(alloc, item, place as u32, bin, &mut machines)?;
+        add_machine(alloc, item, place as u32, bin, &mut machines, entrances)?;
     }
     Ok(machines)
 }
@@ -177,13 +189,15 @@ fn plan_with(
     requires lookup { IfSome lookup (IsLookupOf item.now.bins) }
     ensures { IfOk result (λ plan. IsPlanOf item.now plan) }
 {
-    let machines = machines_of(alloc, item)?;
+    let mut entrances = Vec::new(alloc);
+    let machines = machines_of(alloc, item, &mut entrances)?;
     let sequences = sequences_of(alloc, item.bins.as_slice())?;
     let removers = removers_of(alloc, item, removing_seqs)?;
     let others = watcher(alloc, removing_seqs)?;
     Ok(PointPlan {
         entries,
         machines,
+        entrances,
         removers,
         others,
         lookup,

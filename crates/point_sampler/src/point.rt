@@ -1,22 +1,68 @@
 //! One sample of a point.
-ghost use Rattle.std.specs.Prelude.{◌≡◌, ◌∷◌, ◌++◌, [], ℕ, ◌+◌, ◌≤◌, List, length, slice_index, OnOk};
+ghost use Rattle.std.specs.Prelude.{◌≡◌, ◌∷◌, ◌++◌, ◌+ℤ◌, [], ℕ, ◌+◌, ◌≤◌, pos, List, length, slice_index, Some, IfSome, OnOk};
 ghost use Rattle.design_data.specs.Laws.{Value};
 ghost use Rattle.record_codec.specs.Samples.{Env};
-ghost use Rattle.point_sampler.specs.Plans.{IsPoint, IsPlanOf};
+ghost use Rattle.point_sampler.specs.Plans.{IsPoint, IsPlanOf, IsLookupOf};
 ghost use Rattle.point_sampler.specs.Points.{IsSample, Fits, Remembers, PointStands, RowStands, IsOutside};
-ghost use Rattle.point_sampler.specs.Met.{ValueTaken};
+ghost use Rattle.point_sampler.specs.Met.{ValueTaken, IsStill};
 
 use crate::counting::count_met;
-use crate::machines::push_value;
-use crate::plan::PointPlan;
+use crate::keys::key_of;
+use crate::machines::{is_still, push_value};
+use crate::plan::{Lookup, PointPlan};
 use crate::rules::{add_values, holds};
 use crate::state::PointState;
 use const_eval::{Bound, eval};
 use cov_base::{Int, Memory};
 use design_data::ItemInfo;
 
-/// Takes the point over the next value of its trace.
-fn sample_value(
+/// The key of a value; None where it is Unknown or has none.
+fn key_in(lookup: &Lookup, value: &Option<Int>) -> Option<u64>
+    ensures { IfSome result (λ key. value.now ≡ Some (lookup.now.least +ℤ pos key)) }
+{
+    match value {
+        None => None,
+        Some(number) => key_of(lookup.least, *number),
+    }
+}
+
+/// Takes a point of bins of values alone over the next value of its trace, which has this key: its bins are counted as the
+/// index has them.
+fn sample_key(
+    plan: &PointPlan,
+    lookup: &Lookup,
+    key: u64,
+    item: &ItemInfo,
+    state: &mut PointState,
+    env: &[Option<Int>],
+    value: &Option<Int>,
+    counts: &mut [u64],
+    row: &mut Vec<u32>,
+) -> Result<(), Memory>
+    requires point { IsPoint item.now }
+    requires plan { IsPlanOf item.now plan.now }
+    requires still { IsStill plan.now }
+    requires lookup { IsLookupOf item.now.bins lookup.now }
+    requires key { value.now ≡ Some (lookup.now.least +ℤ pos key) }
+    requires fits { Fits plan.now state.old }
+    requires counts { item.now.first_bin + length item.now.bins ≤ length counts.old }
+    requires none { row.old.items ≡ [] }
+    ensures fits { OnOk result (Fits plan.now state.new) }
+    ensures remembers { OnOk result ((w : List Value) → Remembers plan.now state.old w
+        → Remembers plan.now state.new (w ++ value.now ∷ [])) }
+    ensures taken { OnOk result ((w : List Value) → Remembers plan.now state.old w
+        → ValueTaken item.now env.now w value.now counts.old counts.new row.new.items) }
+    ensures others { OnOk result ((number : ℕ) → IsOutside item.now number
+        → slice_index counts.new number ≡ slice_index counts.old number) }
+{
+    state.begun = true;
+    let hits = lookup.index.hits(key);
+    count_met(plan.entries.as_slice(), item, env, hits, counts, row)?;
+    Ok(())
+}
+
+/// Takes any point over the next value of its trace.
+fn sample_any(
     plan: &PointPlan,
     item: &ItemInfo,
     state: &mut PointState,
@@ -48,6 +94,41 @@ fn sample_value(
         counts,
         row,
     )?;
+    Ok(())
+}
+
+/// Takes the point over the next value of its trace.
+fn sample_value(
+    plan: &PointPlan,
+    item: &ItemInfo,
+    state: &mut PointState,
+    env: &[Option<Int>],
+    value: &Option<Int>,
+    counts: &mut [u64],
+    row: &mut Vec<u32>,
+) -> Result<(), Memory>
+    requires point { IsPoint item.now }
+    requires plan { IsPlanOf item.now plan.now }
+    requires fits { Fits plan.now state.old }
+    requires counts { item.now.first_bin + length item.now.bins ≤ length counts.old }
+    requires none { row.old.items ≡ [] }
+    ensures fits { OnOk result (Fits plan.now state.new) }
+    ensures remembers { OnOk result ((w : List Value) → Remembers plan.now state.old w
+        → Remembers plan.now state.new (w ++ value.now ∷ [])) }
+    ensures taken { OnOk result ((w : List Value) → Remembers plan.now state.old w
+        → ValueTaken item.now env.now w value.now counts.old counts.new row.new.items) }
+    ensures others { OnOk result ((number : ℕ) → IsOutside item.now number
+        → slice_index counts.new number ≡ slice_index counts.old number) }
+{
+    if is_still(plan) {
+        if let Some(lookup) = &plan.lookup {
+            if let Some(key) = key_in(lookup, value) {
+                sample_key(plan, lookup, key, item, state, env, value, counts, row)?;
+                return Ok(());
+            }
+        }
+    }
+    sample_any(plan, item, state, env, value, counts, row)?;
     Ok(())
 }
 

@@ -13,7 +13,7 @@ use Rattle.point_sampler.proofs.machines.push_machines.Goals as goal
 pub loop-k-init : goal.loop-k-init
 loop-k-init c = record {
   same = c.requires.fits;
-  steps = c.requires.steps;
+  ready = c.requires.ready;
   among = λ p in_met. absurd (in_none p (subst (λ (m : List ℕ). Contains m p) c.requires.none in_met));
   once = λ i j d lt within. absurd (omega (arith, within, ap (λ (m : List ℕ). length m) c.requires.none));
   runs = λ w h. taken_first c.args.machines.now c.args.removers.now w c.args.value.now c.args.runs.now _ refl h;
@@ -35,11 +35,11 @@ loop-k-preserved c =
     let here : (w : List Value) → SomeTaken machines removers w v k c.loop-k.runs → Stands machine.watcher (removed_by removers machine.kind) old w =
     λ w some. subst (λ (m : Machine). Stands m.watcher (removed_by removers m.kind) old w) (sym is) (some.left k machine c.index-runs-k.result (omega arith) lt) in
     record {
-      same = length-set c.loop-k.runs k c.push_one.new.runs ∙ inv.same;
-      steps = c.push_one.ensures.steps;
+      same = length-set c.loop-k.runs k c.push_machine.new.runs ∙ inv.same;
+      ready = c.in_ok-answer.ensures.ready;
       among = subst (λ (ms : List Machine). (p : ℕ) → Contains c.note.new.met.items p → IsPlaceOf ms p) (sym more) (among_more (take k machines) machine c.in_ok-answer.answer.counts c.loop-k.met.items c.note.new.met.items c.in_ok-note.ensures inv.among);
       once = once_more machines k machine c.in_ok-answer.answer.counts c.loop-k.met.items c.note.new.met.items c.requires.ascend lt is c.in_ok-note.ensures inv.among inv.once;
-      runs = λ w h. taken_more machines removers w v c.loop-k.runs k machine c.push_one.new.runs lt inv.same is (c.in_ok-answer.ensures.stands w (here w (inv.runs w h))) (inv.runs w h);
+      runs = λ w h. taken_more machines removers w v c.loop-k.runs k machine c.push_machine.new.runs lt inv.same is (c.in_ok-answer.ensures.stands w (here w (inv.runs w h))) (inv.runs w h);
       says = λ w h. subst (λ (ms : List Machine). Answered ms removers (w ++ v ∷ []) c.note.new.met.items c.either-ended.result) (sym more)
           (answered_more removers (w ++ v ∷ []) (take k machines) machine c.in_ok-answer.answer.counts c.in_ok-answer.answer.ends c.loop-k.met.items c.note.new.met.items c.loop-k.ended c.either-ended.result (inv.says w h)
           (c.in_ok-answer.ensures.counts w (here w (inv.runs w h))) (c.in_ok-answer.ensures.ends w (here w (inv.runs w h))) c.in_ok-note.ensures c.either-ended.ensures);

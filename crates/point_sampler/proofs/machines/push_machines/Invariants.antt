@@ -1,4 +1,4 @@
-use Rattle.std.proofs.Common.{◌≡◌, ◌≢◌, ◌∷◌, ◌++◌, [], ℕ, List, length, take}
+use Rattle.std.proofs.Common.{◌≡◌, ◌≢◌, ◌∷◌, ◌++◌, [], ℕ, List, length, take, IsTrue}
 use Rattle.std.specs.Prelude.{Contains, AllPairs}
 use Rattle.design_data.specs.Laws.{Value}
 use Rattle.point_sampler.specs.Points.{RunsStand}
@@ -8,7 +8,7 @@ use Rattle.point_sampler.proofs.machines.push_machines.Given as goal
 abbrev pub invariant-loop-k : goal.invariant-loop-k
 invariant-loop-k l = record {
   same : length l.runs ≡ length l.machines;
-  steps : AreSteps l.removers l.value l.steps;
+  ready : IsTrue l.is_ready → AreSteps l.removers l.value l.steps;
   among : (place : ℕ) → Contains l.met.items place → IsPlaceOf (take l.k l.machines) place;
   once : AllPairs (λ a b. a ≢ b) l.met.items;
   runs : (w : List Value) → RunsStand l.machines l.removers l.initial.runs w → SomeTaken l.machines l.removers w l.value l.k l.runs;

@@ -1,7 +1,7 @@
 use Rattle.std.proofs.Common.{◌<◌, ◌∙◌, length, arith, inl, inr}
 use Rattle.std.proofs.lemmas.Option.{slice_get_within}
 use Rattle.point_sampler.proofs.Meeting.{apart_of, are_met, met_within, met_once}
-use Rattle.point_sampler.proofs.point.sample_value.Goals as goal
+use Rattle.point_sampler.proofs.point.sample_any.Goals as goal
 
 pub push_value-requires-clause-apart : goal.push_value-requires-clause-apart
 push_value-requires-clause-apart c = apart_of c.args.item.now c.args.plan.now c.requires.plan
@@ -26,3 +26,6 @@ pub returns-clause-others : goal.returns-clause-others
 returns-clause-others c = λ number outside. c.in_ok-count_met.ensures.off number (λ place bin in_met on e.
     let lt : place < length c.args.item.now.bins = slice_get_within c.args.item.now.bins place bin on.is_bin in
     elim outside [ inl below ↦ absurd (omega (arith, below, e)) | inr above ↦ absurd (omega (arith, above, e, lt)) ])
+
+pub push_value-requires-clause-entrances : goal.push_value-requires-clause-entrances
+push_value-requires-clause-entrances c = c.requires.plan.entrances
