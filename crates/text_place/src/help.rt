@@ -8,9 +8,10 @@ covd counts the functional coverage of SystemVerilog designs.
 
 Usage:
   covd check DESIGN          prints how many signals, instances and bins the
-                             design has, and a line a bin
+                             design has, and a line a bin: covd check bus.sv
   covd count DESIGN RECORD   counts how often the record hits each bin of the
-                             design, and prints a line a bin
+                             design, and prints a line a bin:
+                             covd count bus.sv t1.rec
   covd report DESIGN RECORD ..
                              merges the records of tests and prints the coverage
                              and the ranking of the tests:
