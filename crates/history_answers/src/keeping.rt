@@ -17,7 +17,7 @@ use std::alloc::Global;
 use ucis_model::{HistoryKind, HistoryNode};
 
 /// A test with what is answered about it.
-#[derive(Drop, Debug)]
+#[derive(Drop)]
 pub(crate) struct Kept {
     /// Its row among the tests.
     pub(crate) row: HistoryNode,
