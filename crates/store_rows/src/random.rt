@@ -8,7 +8,7 @@ use std::alloc::Global;
 use std::thread::Threads;
 
 /// Asks over one history, after which another begins.
-const ROUND: u32 = 250;
+const ROUND: u32 = 100;
 
 /// Texts of the same tables.
 static TEXTS: [&str; 4] = [
@@ -19,18 +19,18 @@ static TEXTS: [&str; 4] = [
 ];
 
 /// Asks, in which `#N` stands for a number below N, PATH for the path of a node or one that no node has, STEPS for up to
-/// four steps of a record, and TEXT for one of the texts.
+/// three values that are set, each with a sample behind it, and TEXT for one of the texts.
 static ASKS: [&str; 32] = [
-    "hello #250",
+    "hello #100",
     "illegal #2",
     "tests #4",
     "name #24",
-    "fetch #14 #150",
+    "fetch #8 #150",
     "rank",
     "counts #3 PATH",
     "counts #3 PATH",
-    "of #3 t#12 PATH",
-    "of #3 t#12 PATH",
+    "of #3 t#6 PATH",
+    "of #3 t#6 PATH",
     "coverage PATH",
     "coverage PATH",
     "coverage PATH",
@@ -45,14 +45,14 @@ static ASKS: [&str; 32] = [
     "include PATH",
     "include PATH",
     "include PATH",
-    "admit t#12 STEPS",
-    "admit t#12 STEPS",
-    "admit t#12 STEPS",
-    "admit t#12 STEPS",
+    "admit t#6 STEPS",
+    "admit t#6 STEPS",
+    "admit t#6 STEPS",
+    "admit t#6 STEPS",
     "revise TEXT",
-    "late admit t#12 STEPS <- revise TEXT",
-    "late admit t#12 STEPS <- exclude PATH",
-    "late revise TEXT <- admit t#12 STEPS",
+    "late admit t#6 STEPS <- revise TEXT",
+    "late admit t#6 STEPS <- exclude PATH",
+    "late revise TEXT <- admit t#6 STEPS",
 ];
 
 /// One of these texts.
@@ -81,7 +81,7 @@ fn write_path(dice: &mut Dice, store: &Store, line: &mut String) -> Option<()> {
 
 /// Puts steps of a record behind a line.
 fn write_steps(alloc: Global, dice: &mut Dice, line: &mut String) -> Option<()> {
-    for _ in 0..dice.below(5) {
+    for _ in 0..dice.below(4) {
         line.push_str(" 0=").ok()?;
         write_number(alloc, line, dice.below(9))?;
         line.push_str(" ").ok()?;
