@@ -7,7 +7,7 @@ use merge_store::Store;
 use std::alloc::Global;
 use std::thread::Threads;
 
-/// Asks over one history, after which another begins.
+/// Asks of a round, which are put over one history.
 const ROUND: u32 = 100;
 
 /// Texts of the same tables.
@@ -152,30 +152,28 @@ fn command<R: Threads + Sync>(rt: &R, alloc: Global, dice: &mut Dice, stores: &m
     }
 }
 
-/// Puts random asks to both stores, over a history of their own: how many they answer otherwise.
-fn round<R: Threads + Sync>(rt: &R, alloc: Global, dice: &mut Dice, asks: u32) -> u32 {
+/// Puts a round of random asks to both stores, over a history of their own: how many they answer otherwise.
+fn round<R: Threads + Sync>(rt: &R, alloc: Global, dice: &mut Dice) -> u32 {
     let Some(mut stores) = Stores::of(alloc, one_of(dice, &TEXTS), false) else {
-        return asks;
+        return ROUND;
     };
     let mut otherwise = 0u32;
-    for _ in 0..asks {
+    for _ in 0..ROUND {
         let alike = command(rt, alloc, dice, &mut stores);
         otherwise = otherwise.saturating_add(u32::from(!alike));
     }
     otherwise
 }
 
-/// Puts random asks to both stores, as many as the first word says, by the row of numbers that the second begins: how many
-/// they answer otherwise.
+/// Puts random asks to both stores, as many rounds as the first word says, by the row of numbers that the second begins:
+/// how many they answer otherwise.
 pub fn random<R: Threads + Sync>(rt: &R, alloc: Global, words: &str) -> u32 {
-    let (asks, seed) = split(words);
-    let mut left: u32 = asks.parse().unwrap_or(0);
+    let (rounds, seed) = split(words);
+    let rounds: u32 = rounds.parse().unwrap_or(0);
     let mut dice = Dice::new(seed.parse().unwrap_or(0));
     let mut otherwise = 0u32;
-    while left > 0 {
-        let asks = left.min(ROUND);
-        otherwise = otherwise.saturating_add(round(rt, alloc, &mut dice, asks));
-        left -= asks;
+    for _ in 0..rounds {
+        otherwise = otherwise.saturating_add(round(rt, alloc, &mut dice));
     }
     otherwise
 }
