@@ -16,7 +16,7 @@ impl Dice {
     pub fn below(&mut self, many: u32) -> u32 {
         let next = self.state.wrapping_mul(6_364_136_223_846_793_005);
         self.state = next.wrapping_add(1_442_695_040_888_963_407);
-        let high = (self.state >> 33) as u32;
+        let high = u32::try_from(self.state >> 33).unwrap_or(0);
         high.checked_rem(many).unwrap_or(0)
     }
 }

@@ -55,10 +55,15 @@ static ASKS: [&str; 32] = [
     "late revise TEXT <- admit t#6 STEPS",
 ];
 
+/// A place among so many.
+fn place_in(dice: &mut Dice, many: usize) -> u32 {
+    dice.below(u32::try_from(many).unwrap_or(u32::MAX))
+}
+
 /// One of these texts.
 fn one_of(dice: &mut Dice, texts: &[&'static str]) -> &'static str {
-    let number = dice.below(texts.len() as u32);
-    texts.get(number as usize).copied().unwrap_or("")
+    let place = place_in(dice, texts.len());
+    texts.get(place as usize).copied().unwrap_or("")
 }
 
 /// Puts a number behind a line.
@@ -70,7 +75,7 @@ fn write_number(alloc: Global, line: &mut String, number: u32) -> Option<()> {
 /// Puts a path behind a line: that of a node, or one that no node has.
 fn write_path(dice: &mut Dice, store: &Store, line: &mut String) -> Option<()> {
     let many = store.nodes().len();
-    let place = dice.below((many as u32).saturating_add(1));
+    let place = place_in(dice, many.saturating_add(1));
     if place as usize >= many {
         return line.push_str("g/none").ok();
     }

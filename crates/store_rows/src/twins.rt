@@ -26,8 +26,10 @@ fn admission(alloc: Global, store: &Store, content: Record) -> Option<Twin>
         return None;
     }
     let since = store.point();
-    let prepared = prepare(alloc, design, content, &OpenGate).ok()?;
-    Some(Twin::Admit { since, prepared })
+    match prepare(alloc, design, content, &OpenGate) {
+        Ok(prepared) => Some(Twin::Admit { since, prepared }),
+        Err(_) => None,
+    }
 }
 
 /// A compiled text for which the tests of now are counted.
@@ -41,8 +43,13 @@ fn rebinned<R: Threads + Sync>(
     requires { same_tables_meant compiled.design (opening_of store.now) ≡ true }
     ensures { IfSome result (λ rebinned. IsReadied (opening_of store.now) (entries_of store.now) rebinned) }
 {
-    let basis = store.basis().ok()?;
-    rebin(rt, alloc, compiled, &basis, &OpenGate).ok()
+    let Ok(basis) = store.basis() else {
+        return None;
+    };
+    match rebin(rt, alloc, compiled, &basis, &OpenGate) {
+        Ok(rebinned) => Some(rebinned),
+        Err(_) => None,
+    }
 }
 
 /// To take the design of a text.

@@ -94,12 +94,7 @@ fn write_taken(alloc: Global, text: &mut String, digest: &[u8]) -> Result<(), Al
     write_hex(alloc, text, digest)
 }
 
-fn write_chunk(
-    alloc: Global,
-    text: &mut String,
-    len: u64,
-    bytes: &[u8],
-) -> Result<(), AllocError> {
+fn write_chunk(alloc: Global, text: &mut String, len: u64, bytes: &[u8]) -> Result<(), AllocError> {
     write!(text, "{len} bytes\nbytes ")?;
     write_hex(alloc, text, bytes)
 }
