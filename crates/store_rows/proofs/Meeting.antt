@@ -1,5 +1,5 @@
 -- What is made ready for a history is right for it, and stays right as the history grows.
-use Rattle.std.proofs.Common.{◌≡◌, ◌⊎◌, inl, inr, ℕ, ◌+◌, ◌≤◌, List, [], ◌∷◌, ◌++◌, length, map, take, Bool, true, Ok, refl, sym, ap, ◌∙◌, arith, length-append, append-nil}
+use Rattle.std.proofs.Common.{◌≡◌, ◌⊎◌, inl, inr, ℕ, ◌≤◌, List, ◌++◌, length, map, take, true, Ok, sym, ap, ◌∙◌, subst, arith, length-append}
 use Rattle.std.specs.Arc.{arc_value}
 use Rattle.std.proofs.lemmas.List.{take-append-le, take_all}
 use Rattle.design_data.specs.declared.design.Design.{Design}
@@ -63,5 +63,5 @@ meets_more opening h more other m = m
 -- what is ready for a history is ready for the one after an ask
 pub ready_still : (opening opening' : Design) (h h' : List Entry) (caller : ℕ) (a : At) (given : Answer) (later : Ask)
     → opening' ≡ opening → Serves opening caller h a given h' → Meets opening h later → Meets opening' h' later
-ready_still opening opening' h h' caller a given later o (inl s) m = rw (o, s.1) (meets_more opening h (made caller a given) later m)
-ready_still opening opening' h h' caller a given later o (inr s) m = rw (o, s.1.0) m
+ready_still opening opening' h h' caller a given later o (inl s) m = subst (λ d. Meets d h' later) (sym o) (subst (λ l. Meets opening l later) (sym s.1) (meets_more opening h (made caller a given) later m))
+ready_still opening opening' h h' caller a given later o (inr s) m = subst (λ d. Meets d h' later) (sym o) (subst (λ l. Meets opening l later) (sym s.1.0) m)
