@@ -12,9 +12,16 @@ const ROUND: u32 = 100;
 
 /// Texts of the same tables.
 static TEXTS: [&str; 4] = [
-    "bit [3:0] v; covergroup g; option.at_least = 2; p: coverpoint v { bins a = {0}; bins b = {[1:3]}; illegal_bins e = {7}; } q: coverpoint v { bins s = (1 => 2); bins d = default; } x: cross p, q; endgroup covergroup k; type_option.merge_instances = 1; p: coverpoint v { bins c[] = {[0:3]}; } endgroup g i = new; k m = new; k n = new;",
-    "bit [3:0] v; covergroup g; p: coverpoint v { bins a = {0}; bins c = {[1:9]}; } endgroup covergroup k; type_option.merge_instances = 1; p: coverpoint v { option.at_least = 3; bins c[] = {[0:7]}; ignore_bins h = {5}; } endgroup g i = new; k m = new; k n = new;",
-    "bit [3:0] v; covergroup g; p: coverpoint v { option.weight = 3; bins a[] = {[0:15]}; } q: coverpoint v { bins s = (0 => 1 => 2); } endgroup covergroup k; p: coverpoint v; endgroup g i = new; k m = new; k n = new;",
+    "bit [3:0] v; covergroup g; option.at_least = 2; p: coverpoint v { bins a = {0}; bins b = {[1:3]}; \
+     illegal_bins e = {7}; } q: coverpoint v { bins s = (1 => 2); bins d = default; } x: cross p, q; \
+     endgroup covergroup k; type_option.merge_instances = 1; p: coverpoint v { bins c[] = {[0:3]}; } \
+     endgroup g i = new; k m = new; k n = new;",
+    "bit [3:0] v; covergroup g; p: coverpoint v { bins a = {0}; bins c = {[1:9]}; } endgroup covergroup \
+     k; type_option.merge_instances = 1; p: coverpoint v { option.at_least = 3; bins c[] = {[0:7]}; \
+     ignore_bins h = {5}; } endgroup g i = new; k m = new; k n = new;",
+    "bit [3:0] v; covergroup g; p: coverpoint v { option.weight = 3; bins a[] = {[0:15]}; } q: coverpoint \
+     v { bins s = (0 => 1 => 2); } endgroup covergroup k; p: coverpoint v; endgroup g i = new; k m = new; \
+     k n = new;",
     "bit [3:0] v; covergroup g; endgroup covergroup k; endgroup g i = new; k m = new; k n = new;",
 ];
 

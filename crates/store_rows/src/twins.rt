@@ -41,7 +41,8 @@ fn rebinned<R: Threads + Sync>(
     compiled: Compiled,
 ) -> Option<Rebinned>
     requires { same_tables_meant compiled.design (opening_of store.now) ≡ true }
-    ensures { IfSome result (λ rebinned. IsReadied (opening_of store.now) (entries_of store.now) rebinned) }
+    ensures { IfSome result (λ rebinned. IsReadied (opening_of store.now) (entries_of store.now)
+        rebinned) }
 {
     let Ok(basis) = store.basis() else {
         return None;
