@@ -108,9 +108,7 @@ fn is_out(entrance: &Entrance, value: &Option<Int>) -> bool
     }
     match value {
         None => true,
-        Some(number) => {
-            number.get() < entrance.low.get() || entrance.high.get() < number.get()
-        }
+        Some(number) => { number.get() < entrance.low.get() || entrance.high.get() < number.get() }
     }
 }
 

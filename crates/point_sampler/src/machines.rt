@@ -91,14 +91,7 @@ fn push_machine(
         });
     }
     begin_once(removers, steps, is_ready, value);
-    let answer = push_one(
-        &machine.watcher,
-        machine.kind,
-        removers,
-        steps,
-        runs,
-        value,
-    )?;
+    let answer = push_one(&machine.watcher, machine.kind, removers, steps, runs, value)?;
     Ok(answer)
 }
 
