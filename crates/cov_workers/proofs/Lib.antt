@@ -1,2 +1,2 @@
-mod StoreParts
-mod Sharing
+pub mod StoreParts
+pub mod Sharing

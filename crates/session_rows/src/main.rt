@@ -14,9 +14,12 @@
 //! Callers of one store behind its lock: a line `before` says that what is there is asked before the second seat is split
 //! off, and isn't shown; a line `first` that what is there is asked by the first caller. A line `meet` serves the first
 //! caller and then, once both seats have met, the second, who asks what is there now. A line `rounds COUNT` serves so many
-//! connections of a door that has one, which asks what is there.
+//! connections of a door that has one, which asks what is there. A line `hold PLACE` serves both callers in two threads: the
+//! first is held at this place of its gate until the second, who comes once the first stands there, has been served. Behind
+//! what both were answered stands whether it was so.
 #![tactic(auto)]
 
+mod holding;
 mod seats;
 
 use cov_base::{MemLink, Memory, OpenGate, SureLink, SureShelf};
@@ -24,6 +27,7 @@ use cov_proto::{FrameStep, next_frame};
 use cov_session::{Alone, Ended, session};
 use covd_core::{Status, compile, run};
 use design_data::Design;
+use holding::hold_row;
 use merge_store::Store;
 use seats::{meet_row, rounds_row};
 use sha2::{Digest, Sha256};
@@ -346,6 +350,7 @@ fn row<R: Threads + Wait + Sync + Print>(
     }
     match line.split_once(' ') {
         Some(("rounds", count)) => rounds_row(rt, alloc, table, count),
+        Some(("hold", place)) => hold_row(rt, alloc, table, place),
         Some(("design", text)) => {
             table.design = Vec::from_slice(alloc, text.as_bytes())?;
             Ok(())

@@ -19,13 +19,13 @@ use std::{io, mem};
 use turn_lock::Seat;
 
 /// The most bytes of one read or write.
-const PIECE: usize = 65_536;
+pub(crate) const PIECE: usize = 65_536;
 
 /// A store behind its lock, and two seats.
-struct Seated {
-    shared: Shared<Store>,
-    first: Seat<Store>,
-    second: Seat<Store>,
+pub(crate) struct Seated {
+    pub(crate) shared: Shared<Store>,
+    pub(crate) first: Seat<Store>,
+    pub(crate) second: Seat<Store>,
 }
 
 /// A fresh store of this design, over whose first seat this was asked before the second was split off.
@@ -50,7 +50,7 @@ fn open_seats<R: Threads + Wait + Sync>(
 }
 
 /// What was written for a caller, and how its session ended.
-fn show<R: Print>(
+pub(crate) fn show<R: Print>(
     rt: &R,
     alloc: Global,
     who: &str,
@@ -63,7 +63,11 @@ fn show<R: Print>(
 }
 
 /// The seats of a row, or none where there is no design or no memory.
-fn seats_of<R: Threads + Wait + Sync>(rt: &R, alloc: Global, table: &mut Table) -> Option<Seated>
+pub(crate) fn seats_of<R: Threads + Wait + Sync>(
+    rt: &R,
+    alloc: Global,
+    table: &mut Table,
+) -> Option<Seated>
     ensures first { IfSome result (λ s. HasSeat opening_of IsSound s.shared s.first) }
     ensures second { IfSome result (λ s. HasSeat opening_of IsSound s.shared s.second) }
 {
@@ -74,9 +78,9 @@ fn seats_of<R: Threads + Wait + Sync>(rt: &R, alloc: Global, table: &mut Table) 
 
 /// What was written for a caller, and how its session ended.
 #[derive(Drop)]
-struct Served {
-    link: SureLink,
-    ended: Ended,
+pub(crate) struct Served {
+    pub(crate) link: SureLink,
+    pub(crate) ended: Ended,
 }
 
 /// Serves a caller, who asks this.
