@@ -64,4 +64,4 @@ meets_more opening h more other m = m
 pub ready_still : (opening opening' : Design) (h h' : List Entry) (caller : ℕ) (a : At) (given : Answer) (later : Ask)
     → opening' ≡ opening → Serves opening caller h a given h' → Meets opening h later → Meets opening' h' later
 ready_still opening opening' h h' caller a given later o (inl s) m = subst (λ d. Meets d h' later) (sym o) (subst (λ l. Meets opening l later) (sym s.1) (meets_more opening h (made caller a given) later m))
-ready_still opening opening' h h' caller a given later o (inr s) m = subst (λ d. Meets d h' later) (sym o) (subst (λ l. Meets opening l later) (sym s.1.0) m)
+ready_still opening opening' h h' caller a given later o (inr s) m = subst (λ d. Meets d h' later) (sym o) (subst (λ l. Meets opening l later) (sym s.1) m)

@@ -17,7 +17,7 @@ returns-in_err-rec-clause-takes g c =
     (not_made d c.args.seed c.args.rounds 1 c.args.test (entries_of c.args.store.now) (entries_of c.args.store.now) stop (subst (λ (x : Design). IsMade x c.args.seed c.args.rounds c.args.test (Err stop)) c.deref.ensures c.in_err-rec.ensures))
 
 pub admit_record-requires-clause-fits : goal.admit_record-requires-clause-fits
-admit_record-requires-clause-fits g c =
+admit_record-requires-clause-fits g c _ _ =
     made_fits (arc_value c.args.design.now) c.args.seed c.args.rounds c.args.test c.in_ok-rec.rec (subst (λ (x : Design). IsMade x c.args.seed c.args.rounds c.args.test (Ok c.in_ok-rec.rec)) c.deref.ensures c.in_ok-rec.ensures)
 
 pub returns-in_err-admit_record-clause-takes : goal.returns-in_err-admit_record-clause-takes
