@@ -3,3 +3,4 @@ pub mod Amounting
 pub mod Asked
 pub mod Changing
 pub mod Inside
+pub mod Following

@@ -1,14 +1,21 @@
 -- What is worked out of each test of a history.
-use Rattle.std.specs.Prelude.{ℕ, List, map, slice_index, sum_by, count_by, nat_lt}
+use Rattle.std.specs.Prelude.{ℕ, Bool, false, List, map, slice_index, sum_by, count_by, nat_lt, bytes_eq}
 use Rattle.design_data.specs.declared.design.Design.{Design}
 use Rattle.record_codec.specs.declared.record.Record.{Record}
 use Rattle.record_codec.specs.Spelling.{spelling}
 use Rattle.tally.specs.Rows.{rows_from}
+use Rattle.cov_history.specs.declared.entry.Event.{Event}
+use Rattle.cov_history.specs.declared.entry.Event.TheVariants.{Admit}
 use Rattle.cov_history.specs.declared.entry.Entry.{Entry}
 use Rattle.cov_history.specs.Tallies.{tally}
 use Rattle.cov_history.specs.History.{Test, tests_from}
 use Rattle.cov_history.specs.Answers.{test_row}
 use Rattle.history_answers.specs.declared.keeping.Kept.{Kept}
+
+-- the change admits a record of this id
+abbrev pub admits : (id : List ℕ) → Event → Bool
+admits id (Admit r) = bytes_eq id r.id
+admits id other = false
 
 abbrev pub test_of : (point : ℕ) → Record → Test
 test_of point r = record { point = point; content = r }

@@ -36,7 +36,7 @@ pub(crate) struct Amounts {
 }
 
 /// The first limit that is passed.
-fn passed(amounts: &Amounts) -> Option<Which>
+pub(crate) fn passed(amounts: &Amounts) -> Option<Which>
     ensures { result ≡ first_passed amounts.now }
 {
     let amounts = *amounts;

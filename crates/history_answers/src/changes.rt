@@ -23,7 +23,7 @@ use ucis_model::{Answer, tree};
 // ---- amounts afterwards
 
 /// What a history of such amounts amounts to with a record more, which is counted under a design.
-fn with_test(
+pub(crate) fn with_test(
     alloc: Global,
     design: &Design,
     before: &Amounts,

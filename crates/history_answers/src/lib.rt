@@ -4,6 +4,7 @@
 //! serves small histories alone, and what keeps a history otherwise can be compared with it.
 #![tactic(auto)]
 
+mod admitting;
 mod amounts;
 mod answering;
 mod bins;

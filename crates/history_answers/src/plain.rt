@@ -1,7 +1,10 @@
 //! A history that is kept as it is.
 ghost use Rattle.std.specs.Prelude.{◌≡◌, true};
+ghost use Rattle.std.specs.Option.{ForSome};
 ghost use Rattle.cov_history.specs.History.{is_legal};
+ghost use Rattle.history_answers.specs.Amounts.{AreAmounts};
 
+use crate::amounts::Amounts;
 use cov_history::Entry;
 use design_data::Design;
 
@@ -11,5 +14,8 @@ use design_data::Design;
 pub struct PlainStore {
     pub(crate) opening: Design,
     pub(crate) entries: Vec<Entry>,
+    /// What the history amounts to, where that is known.
+    pub(crate) amounts: Option<Amounts>,
     pub(crate) ghost legal: { is_legal opening entries.items ≡ true },
+    pub(crate) ghost known: { ForSome amounts (λ known. AreAmounts opening entries.items known) },
 }

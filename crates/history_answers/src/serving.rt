@@ -24,6 +24,7 @@ impl PlainStore {
         PlainStore {
             opening,
             entries: Vec::new(alloc),
+            amounts: None,
         }
     }
 
@@ -85,6 +86,7 @@ impl PlainStore {
         let Some(entry) = entry_of(caller, ask) else {
             return Ok(answer);
         };
+        self.amounts = None;
         self.entries.push(entry)?;
         Ok(answer)
     }

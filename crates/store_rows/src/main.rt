@@ -5,9 +5,9 @@
 //! long for that. `admit ID STEPS` asks to admit a record, whose steps are `S=V`, which sets signal S to V, and `I`, which
 //! samples instance I; `revise TEXT` asks to take the design of a text; the other asks are questions and exclusions.
 //! `late ASK <- OTHER` makes an ask ready, then puts the other, and then that one. `many N STEPS` admits the records n0, n1
-//! and so on, `again N PATH` asks so often for a coverage, and `random N SEED` puts N times 100 random asks, each time
-//! over a history of their own. Each line is written again, and behind it what the store answers; where the plain store
-//! answers otherwise, a line says so.
+//! and so on to both stores, of which the plain one works no answers out meanwhile; `again N PATH` asks so often for a
+//! coverage, and `random N SEED` puts N times 100 random asks, each time over a history of their own. Each line is written
+//! again, and behind it what the store answers; where the plain store answers otherwise, a line says so.
 #![tactic(auto)]
 
 mod asks;

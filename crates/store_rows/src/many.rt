@@ -1,6 +1,6 @@
 //! Long histories, and questions that are asked often.
 use crate::asks::split;
-use crate::serving::{Told, served};
+use crate::serving::{Told, admitted, served};
 use crate::stores::Stores;
 use merge_store::Store;
 use std::alloc::Global;
@@ -22,10 +22,13 @@ fn admits<R: Threads + Sync>(
     number: u32,
     steps: &str,
 ) -> bool {
-    match format!(in alloc; "admit n{number} {steps}") {
-        Ok(line) => is_new(&served(rt, alloc, stores, line.as_str())),
-        Err(_) => false,
+    let Ok(line) = format!(in alloc; "admit n{number} {steps}") else {
+        return false;
+    };
+    if stores.alone {
+        return is_new(&served(rt, alloc, stores, line.as_str()));
     }
+    admitted(rt, alloc, stores, line.as_str())
 }
 
 /// Admits as many records as the first word says, each with the steps of the others: how many are new.

@@ -14,6 +14,7 @@ use merge_store::Store;
 use std::alloc::Global;
 use std::thread::Threads;
 use store_core::Ask as Twin;
+use ucis_model::Answer;
 
 /// What the store answered, as text, and whether the plain store, if there is one, answered the same.
 #[derive(Drop)]
@@ -116,4 +117,22 @@ pub fn late<R: Threads + Sync>(
     let ask = plain_ask(alloc, stores, first);
     let before = served(rt, alloc, stores, second);
     (before, Some(put(rt, alloc, stores, ask, twin)))
+}
+
+/// Whether the record of an ask follows the history of a plain store, which then has it.
+fn follows(alloc: Global, plain: &mut PlainStore, ask: Option<Ask>) -> bool {
+    match ask {
+        Some(Ask::Admit { content, .. }) => plain.admit(alloc, 0, content).unwrap_or(false),
+        _ => false,
+    }
+}
+
+/// Admits the record of a line to both stores, of which the plain one works no answer out: whether it is new to both.
+pub fn admitted<R: Threads + Sync>(rt: &R, alloc: Global, stores: &mut Stores, line: &str) -> bool {
+    let Some(twin) = twin_ask(rt, alloc, &stores.store, line) else {
+        return false;
+    };
+    let ask = plain_ask(alloc, stores, line);
+    let given = stores.store.serve(rt, 0, twin);
+    matches!(given.answer, Answer::New) && follows(alloc, &mut stores.plain, ask)
 }

@@ -11,4 +11,7 @@ invariant_of-self g c =
     let s = c.args.self.now in
     let m : is_made c.in_ok-answer.answer ≡ true = search in
     let more = still_legal s.opening s.entries.items c.args.caller c.args.ask c.in_ok-answer.answer c.in-Some.entry s.legal c.requires (c.in_ok-answer.ensures c.args.caller) m c.in-Some.ensures in
-    record { legal = subst (λ (es : List Entry). is_legal s.opening es ≡ true) (sym c.push.ensures.items) (still_if s.opening s.entries.items c.in-Some.entry (is_ok c.push.result) s.legal more) }
+    record {
+      legal = subst (λ (es : List Entry). is_legal s.opening es ≡ true) (sym c.push.ensures.items) (still_if s.opening s.entries.items c.in-Some.entry (is_ok c.push.result) s.legal more);
+      known = λ x is. absurd (cc);
+    }
