@@ -1,5 +1,5 @@
 //! Hints on faults of texts.
-use crate::words::show;
+use crate::words::{show, split};
 use std::alloc::Global;
 use std::io::Print;
 use text_place::{Fault, place_hint};
@@ -22,17 +22,17 @@ fn hint_of(alloc: Global, at: u32, digits: &str) -> Option<String> {
 }
 
 /// Writes a text with `/` for each newline.
-fn show_lines<R: Print>(rt: &R, text: &str) -> Option<()> {
+fn show_lines<R: Print>(rt: &R, text: &str) {
     for (place, line) in text.split('\n').enumerate() {
-        show(rt, if place == 0 { " " } else { "/" })?;
-        show(rt, line)?;
+        show(rt, if place == 0 { " " } else { "/" });
+        show(rt, line);
     }
-    Some(())
 }
 
 /// AT TEXT: the hint on a fault at a place of a text in hexadecimal, with `/` for each newline.
-pub(crate) fn hint<R: Print>(rt: &R, alloc: Global, row: &str) -> Option<()> {
-    let (at, digits) = row.split_once(' ')?;
-    let hint = hint_of(alloc, at.parse().ok()?, digits)?;
-    show_lines(rt, hint.as_str())
+pub(crate) fn hint<R: Print>(rt: &R, alloc: Global, row: &str) {
+    let (at, digits) = split(row, ' ');
+    if let Some(hint) = hint_of(alloc, at.parse().unwrap_or(0), digits) {
+        show_lines(rt, hint.as_str());
+    }
 }

@@ -1,11 +1,12 @@
 //! Street: worked rows.
 //!
-//! Worked rows of `cov_base`, `cov_serve` and `text_place`: each line of standard input is a call with its arguments, and is written again with its
-//! answer behind ` =`. The file `stdout` has the answers, written by hand.
+//! Worked rows of `cov_base`, `cov_serve`, `text_place` and `cov_net`: each line of standard input is a call with its arguments, and is
+//! written again with its answer behind ` =`. The file `stdout` has the answers, written by hand.
 #![tactic(auto)]
 
 mod hints;
 mod links;
+mod outside;
 mod said;
 mod sets;
 mod shelves;
@@ -16,9 +17,11 @@ use std::alloc::Global;
 use std::io;
 use std::io::{Input, Print};
 use std::process::ExitCode;
+use std::rt::Files;
+use words::split;
 
 /// Writes the answer of a call of numbers and sets.
-fn answer_sets<R: Print>(rt: &R, alloc: Global, call: &str, rest: &str) -> Option<()> {
+fn answer_sets<R: Print>(rt: &R, alloc: Global, call: &str, rest: &str) {
     match call {
         "int" => sets::ints(rt, rest),
         "type" => sets::ends(rt, rest),
@@ -30,9 +33,8 @@ fn answer_sets<R: Print>(rt: &R, alloc: Global, call: &str, rest: &str) -> Optio
     }
 }
 
-/// Writes the answer to a row; None where the row can't be read or memory ran out.
-fn answer<R: Print>(rt: &R, alloc: Global, line: &str) -> Option<()> {
-    let (call, rest) = line.split_once(' ')?;
+/// Writes the answer to a row.
+fn answer<R: Print + Files>(rt: &R, alloc: Global, call: &str, rest: &str) {
     match call {
         "source" => streams::source(rt, alloc, rest),
         "sink" => streams::sink(rt, alloc, rest),
@@ -43,21 +45,22 @@ fn answer<R: Print>(rt: &R, alloc: Global, line: &str) -> Option<()> {
         "serve" => said::serve(rt, alloc, rest),
         "early" => said::early(rt, alloc, rest),
         "hint" => hints::hint(rt, alloc, rest),
+        "script" => outside::script(rt, rest),
+        "file" => outside::file(rt, alloc, rest),
         _ => answer_sets(rt, alloc, call, rest),
     }
 }
 
 /// Writes a row with its answer.
-fn row<R: Print>(rt: &R, alloc: Global, line: &str) -> io::Result<()> {
+fn row<R: Print + Files>(rt: &R, alloc: Global, line: &str) -> io::Result<()> {
     print!(rt; "{line} =")?;
-    match answer(rt, alloc, line) {
-        Some(()) => println!(rt; ""),
-        None => println!(rt; " no answer"),
-    }
+    let (call, rest) = split(line, ' ');
+    answer(rt, alloc, call, rest);
+    println!(rt; "")
 }
 
 /// Writes all rows.
-fn rows<R: Input + Print>(rt: &R, alloc: Global) -> io::Result<()> {
+fn rows<R: Input + Print + Files>(rt: &R, alloc: Global) -> io::Result<()> {
     for line in rt.lines(alloc) {
         row(rt, alloc, line?.as_str())?;
     }

@@ -5,17 +5,24 @@ use std::alloc::Global;
 use std::io::Print;
 use text_place::{HELP, VERSION, early_text};
 
+/// Adds a word.
+fn add_word(alloc: Global, words: &mut Vec<String>, word: &str) {
+    if let Ok(word) = String::from_str(alloc, word) {
+        let _ = words.push(word);
+    }
+}
+
 /// The words of a text.
-fn split(alloc: Global, text: &str) -> Option<Vec<String>> {
+fn words_of(alloc: Global, text: &str) -> Vec<String> {
     let mut words = Vec::new(alloc);
     for word in text.split_whitespace() {
-        words.push(String::from_str(alloc, word).ok()?).ok()?;
+        add_word(alloc, &mut words, word);
     }
-    Some(words)
+    words
 }
 
 /// Writes the place of a word, or `-`.
-fn show_place<R: Print>(rt: &R, place: Option<u32>) -> Option<()> {
+fn show_place<R: Print>(rt: &R, place: Option<u32>) {
     match place {
         Some(place) => show_number(rt, i128::from(place)),
         None => show(rt, " -"),
@@ -24,17 +31,17 @@ fn show_place<R: Print>(rt: &R, place: Option<u32>) -> Option<()> {
 
 /// Writes the places of the design's name and of the address, how many seats there are, and the places of the journal's
 /// name and of the readers' address.
-fn show_said<R: Print>(rt: &R, said: ServeWords) -> Option<()> {
-    show_number(rt, i128::from(said.design))?;
-    show_number(rt, i128::from(said.listen))?;
-    show_number(rt, i128::from(said.seats))?;
-    show_place(rt, said.journal)?;
-    show_place(rt, said.readers)
+fn show_said<R: Print>(rt: &R, said: ServeWords) {
+    show_number(rt, i128::from(said.design));
+    show_number(rt, i128::from(said.listen));
+    show_number(rt, i128::from(said.seats));
+    show_place(rt, said.journal);
+    show_place(rt, said.readers);
 }
 
 /// WORDS: what the words of `covd serve` say.
-pub(crate) fn serve<R: Print>(rt: &R, alloc: Global, row: &str) -> Option<()> {
-    let words = split(alloc, row)?;
+pub(crate) fn serve<R: Print>(rt: &R, alloc: Global, row: &str) {
+    let words = words_of(alloc, row);
     match serve_words(&words) {
         Some(said) => show_said(rt, said),
         None => show(rt, " none"),
@@ -52,7 +59,7 @@ fn name_of(text: Option<&str>) -> &'static str {
 }
 
 /// WORDS: the text that is asked for before any command.
-pub(crate) fn early<R: Print>(rt: &R, alloc: Global, row: &str) -> Option<()> {
-    let words = split(alloc, row)?;
-    show(rt, name_of(early_text(&words)))
+pub(crate) fn early<R: Print>(rt: &R, alloc: Global, row: &str) {
+    let words = words_of(alloc, row);
+    show(rt, name_of(early_text(&words)));
 }

@@ -1,5 +1,6 @@
-//! The words of a row, and what is written for it.
-ghost use Rattle.std.specs.Prelude.{◌<◌, IfSome};
+//! The words of a row, and what is written for it. What can't be read counts as 0, and what can't be kept or written is
+//! missing: the row then isn't as `stdout` has it.
+ghost use Rattle.std.specs.Prelude.{◌<◌};
 
 use cov_base::Int;
 use std::alloc::Global;
@@ -7,59 +8,68 @@ use std::io::Print;
 
 /// The number that a word spells.
 pub(crate) fn int_of(word: &str) -> Option<Int> {
-    let number: i128 = word.parse().ok()?;
-    Int::new(number)
+    Int::new(word.parse().unwrap_or(0))
 }
 
 /// The ends that a word spells, as `1:3`.
-pub(crate) fn range_of(word: &str) -> Option<(Int, Int)> {
-    let (low, high) = word.split_once(':')?;
-    Some((int_of(low)?, int_of(high)?))
+pub(crate) fn range_of(word: &str) -> (Int, Int) {
+    let (low, high) = split(word, ':');
+    let zero = Int::of(0);
+    (int_of(low).unwrap_or(zero), int_of(high).unwrap_or(zero))
+}
+
+/// The small number that a word spells.
+pub(crate) fn small_of(word: &str) -> u64 {
+    word.parse().unwrap_or(0)
 }
 
 /// The most bytes of a piece, at least one.
-pub(crate) fn piece_of(word: &str) -> Option<usize>
-    ensures { IfSome result (λ piece. 0 < piece) }
+pub(crate) fn piece_of(word: &str) -> usize
+    ensures { 0 < result }
 {
-    let piece = word.parse().ok()?;
-    if piece > 0 { Some(piece) } else { None }
+    let piece: usize = word.parse().unwrap_or(1);
+    piece.max(1)
 }
 
-/// Adds the number that a word spells.
-fn add_call(calls: &mut Vec<u64>, word: &str) -> Option<()> {
-    let call = word.parse().ok()?;
-    calls.push(call).ok()
+/// The texts before and behind a sign.
+pub(crate) fn split(text: &str, sign: char) -> (&str, &str) {
+    text.split_once(sign).unwrap_or((text, ""))
 }
 
 /// The numbers that a word spells, as `0,2`; none at all where it is `-`.
-pub(crate) fn calls_of(alloc: Global, word: &str) -> Option<Vec<u64>> {
+pub(crate) fn calls_of(alloc: Global, word: &str) -> Vec<u64> {
     let mut calls = Vec::new(alloc);
     if word == "-" {
-        return Some(calls);
+        return calls;
     }
     for part in word.split(',') {
-        add_call(&mut calls, part)?;
+        let _ = calls.push(small_of(part));
     }
-    Some(calls)
+    calls
 }
 
 /// The bytes of a word.
-pub(crate) fn bytes_of(alloc: Global, word: &str) -> Option<Vec<u8>> {
-    Vec::from_slice(alloc, word.as_bytes()).ok()
+pub(crate) fn bytes_of(alloc: Global, word: &str) -> Vec<u8> {
+    Vec::from_slice(alloc, word.as_bytes()).unwrap_or(Vec::new(alloc))
 }
 
 /// Writes a text.
-pub(crate) fn show<R: Print>(rt: &R, text: &str) -> Option<()> {
-    print!(rt; "{text}").ok()
+pub(crate) fn show<R: Print>(rt: &R, text: &str) {
+    let _ = print!(rt; "{text}");
+}
+
+/// Writes a word behind a blank.
+pub(crate) fn show_word<R: Print>(rt: &R, word: &str) {
+    let _ = print!(rt; " {word}");
 }
 
 /// Writes a number behind a blank.
-pub(crate) fn show_number<R: Print>(rt: &R, number: i128) -> Option<()> {
-    print!(rt; " {number}").ok()
+pub(crate) fn show_number<R: Print>(rt: &R, number: i128) {
+    let _ = print!(rt; " {number}");
 }
 
 /// Writes the number behind a blank, or `none`.
-pub(crate) fn show_int<R: Print>(rt: &R, int: Option<Int>) -> Option<()> {
+pub(crate) fn show_int<R: Print>(rt: &R, int: Option<Int>) {
     match int {
         Some(int) => show_number(rt, int.get()),
         None => show(rt, " none"),
@@ -67,17 +77,17 @@ pub(crate) fn show_int<R: Print>(rt: &R, int: Option<Int>) -> Option<()> {
 }
 
 /// Writes how many there are.
-pub(crate) fn show_count<R: Print>(rt: &R, count: u128) -> Option<()> {
-    print!(rt; " | {count}").ok()
+pub(crate) fn show_count<R: Print>(rt: &R, count: u128) {
+    let _ = print!(rt; " | {count}");
 }
 
 /// Writes bytes as text.
-pub(crate) fn show_bytes<R: Print>(rt: &R, bytes: &[u8]) -> Option<()> {
-    show(rt, str::from_utf8(bytes).ok()?)
+pub(crate) fn show_bytes<R: Print>(rt: &R, bytes: &[u8]) {
+    show(rt, str::from_utf8(bytes).unwrap_or("?"));
 }
 
 /// Writes what an object has in the end.
-pub(crate) fn show_contents<R: Print>(rt: &R, bytes: Option<&[u8]>) -> Option<()> {
-    show(rt, " | ")?;
-    show_bytes(rt, bytes?)
+pub(crate) fn show_contents<R: Print>(rt: &R, bytes: Option<&[u8]>) {
+    show(rt, " | ");
+    show_bytes(rt, bytes.unwrap_or(b"?"));
 }

@@ -1,12 +1,9 @@
 //! Street: worked rows.
 //!
-//! Tests of what threads and the outside show: rankings (`rank_report`), turns (`turn_lock`), and files, streams and
-//! connections (`cov_net`).
+//! Tests of what threads and connections show: turns (`turn_lock`), and connections of this machine to itself (`cov_net`).
 #![tactic(auto)]
 
 #[cfg(test)]
-mod ends;
-#[cfg(test)]
-mod ranking;
+mod doors;
 #[cfg(test)]
 mod turns;

@@ -13,12 +13,12 @@ use std::thread::for_each_mut;
 use turn_lock::{Seat, TurnLock};
 
 /// What stays of a list of entries: how many bytes a name may have.
-#[derive(Clone, Copy, PartialEq, Eq, Debug)]
+#[derive(Clone, Copy)]
 struct Limit {
     longest: u32,
 }
 
-#[derive(Drop, Debug)]
+#[derive(Drop)]
 struct Entry {
     number: u32,
     /// How many entries its caller had made before.
@@ -128,26 +128,33 @@ fn add_many<R: Wait>(
     seat
 }
 
+// The seat has this number, and has seen so many entries.
+fn has_seen(seat: &Seat<Entries>, number: u32, seen: u64) -> bool {
+    seat.number() == number && seat.seen() == seen
+}
+
+// So many more seats can be split off, and so many numbers are left.
+fn has_room(seat: &Seat<Entries>, free: u32, left: u32) -> bool {
+    seat.free() == free && seat.left() == left
+}
+
 #[test]
 fn seats_meet_and_end(rt: HostRuntime) -> Result<(), Fail> {
     let alloc = rt.alloc();
     let book = Entries::of(alloc, &[0, 1, 7]);
     let (lock, mut first) = TurnLock::open(alloc, book, 2)?;
-    assert_eq!(rt; (first.number(), first.seen()), (0, 3));
-    assert_eq!(rt; (first.free(), first.left()), (1, 4_294_967_295));
+    assert!(rt; has_seen(&first, 0, 3) && has_room(&first, 1, 4_294_967_295));
     let second = lock.split(&mut first);
-    assert_eq!(rt; (second.number(), second.seen()), (1, 3));
-    assert_eq!(rt; (second.free(), second.left()), (0, 0));
-    assert_eq!(rt; (first.free(), first.left()), (0, 4_294_967_294));
+    assert!(rt; has_seen(&second, 1, 3) && has_room(&second, 0, 0));
+    assert!(rt; has_room(&first, 0, 4_294_967_294));
     let mut second = add(&rt, alloc, &lock, second, 0);
-    assert_eq!(rt; (first.seen(), second.seen()), (3, 4));
+    assert!(rt; has_seen(&first, 0, 3) && has_seen(&second, 1, 4));
     lock.meet(&mut first, &mut second);
-    assert_eq!(rt; (first.seen(), second.seen()), (4, 4));
+    assert!(rt; has_seen(&first, 0, 4) && has_seen(&second, 1, 4));
     lock.end(second, &mut first);
-    assert_eq!(rt; (first.number(), first.seen()), (0, 4));
-    assert_eq!(rt; (first.free(), first.left()), (1, 4_294_967_294));
+    assert!(rt; has_seen(&first, 0, 4) && has_room(&first, 1, 4_294_967_294));
     let third = lock.split(&mut first);
-    assert_eq!(rt; (third.number(), third.seen()), (2, 4));
+    assert!(rt; has_seen(&third, 2, 4));
     lock.leave(third);
     lock.leave(first);
     Ok(())
@@ -264,7 +271,7 @@ fn two_threads(rt: HostRuntime) -> Result<(), Fail> {
     let (turn, book) = lock.take(&rt, first);
     let counts = (book.len(), book.count_in_order(1), book.count_in_order(2));
     lock.leave(lock.give(turn, book));
-    assert_eq!(rt; counts, (2000, Some(1000), Some(1000)));
+    assert!(rt; counts == (2000, Some(1000), Some(1000)));
     Ok(())
 }
 
@@ -281,6 +288,20 @@ fn pair(lock: &TurnLock<Entries>, first: &mut Seat<Entries>) -> Desk
         first: Some(lock.split(first)),
         second: Some(lock.split(first)),
     }
+}
+
+/// How many entries each of the first seats made in `four_threads`.
+static COUNTS: [u32; 8] = [50, 0, 100, 50, 100, 50, 100, 50];
+
+fn has_counts(book: &Entries) -> bool {
+    let mut number = 0u32;
+    for count in &COUNTS {
+        if book.count_in_order(number) != Some(*count) {
+            return false;
+        }
+        number = number.wrapping_add(1);
+    }
+    true
 }
 
 #[test]
@@ -308,32 +329,10 @@ fn four_threads(rt: HostRuntime) -> Result<(), Fail> {
     );
     clear(desks, &lock);
     let (turn, book) = lock.take(&rt, reader);
-    let counts = [
-        book.count_in_order(0),
-        book.count_in_order(1),
-        book.count_in_order(2),
-        book.count_in_order(3),
-        book.count_in_order(4),
-        book.count_in_order(5),
-        book.count_in_order(6),
-        book.count_in_order(7),
-    ];
+    let counted = has_counts(&book);
     let guests = (8..58).all(|number| book.count_in_order(number) == Some(3));
     let len = book.len();
     lock.leave(lock.give(turn, book));
-    assert_eq!(rt;
-        counts,
-        [
-            Some(50),
-            Some(0),
-            Some(100),
-            Some(50),
-            Some(100),
-            Some(50),
-            Some(100),
-            Some(50)
-        ]
-    );
-    assert_eq!(rt; (guests, len), (true, 650));
+    assert!(rt; counted && guests && len == 650);
     Ok(())
 }

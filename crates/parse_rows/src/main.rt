@@ -9,7 +9,7 @@ mod shown;
 
 use cov_lexer::lex;
 use cov_parser::parse;
-use cov_tree::{DesignText, Memory};
+use cov_tree::DesignText;
 use shown::Shown;
 use std::alloc::Global;
 use std::io;
@@ -20,32 +20,26 @@ use std::process::ExitCode;
 const MOST: usize = 1_048_576;
 
 /// A unit as many times as the number before it says; nothing where there is no number.
-fn repeat(text: &mut Vec<u8>, part: &str) -> Result<(), Memory> {
-    let Some((times, unit)) = part.split_once(' ') else {
-        return Ok(());
-    };
-    let Ok(times) = times.parse::<u16>() else {
-        return Ok(());
-    };
-    for _ in 0..times {
-        text.extend_from_slice(unit.as_bytes())?;
+fn repeat(text: &mut Vec<u8>, part: &str) {
+    let (times, unit) = part.split_once(' ').unwrap_or((part, ""));
+    for _ in 0..times.parse::<u16>().unwrap_or(0) {
+        let _ = text.extend_from_slice(unit.as_bytes());
     }
-    Ok(())
 }
 
-/// The text of a row.
-fn text_of(alloc: Global, line: &str) -> Result<Vec<u8>, Memory> {
+/// The text of a row. What can't be kept of it is missing.
+fn text_of(alloc: Global, line: &str) -> Vec<u8> {
     let mut text = Vec::new(alloc);
     let mut repeated = false;
     for part in line.split('`') {
         if repeated {
-            repeat(&mut text, part)?;
+            repeat(&mut text, part);
         } else {
-            text.extend_from_slice(part.as_bytes())?;
+            let _ = text.extend_from_slice(part.as_bytes());
         }
         repeated = !repeated;
     }
-    Ok(text)
+    text
 }
 
 /// Writes a tree, or only that there is one.
@@ -59,10 +53,8 @@ fn show_design<R: Print>(
         return println!(rt; "a tree");
     }
     let mut shown = Shown::new(alloc);
-    match shown.design(design) {
-        Ok(()) => print!(rt; "{}", shown.as_str()),
-        Err(fault) => println!(rt; "{fault}"),
-    }
+    shown.design(design);
+    print!(rt; "{}", shown.as_str())
 }
 
 /// Writes the tree of a text, or its fault.
@@ -82,10 +74,8 @@ fn show<R: Print>(rt: &R, alloc: Global, text: &[u8], briefly: bool) -> io::Resu
 /// Writes a row with its answer.
 fn row<R: Print>(rt: &R, alloc: Global, line: &str) -> io::Result<()> {
     println!(rt; "$ {line}")?;
-    match text_of(alloc, line) {
-        Ok(text) => show(rt, alloc, text.as_slice(), line.contains('`')),
-        Err(fault) => println!(rt; "{fault}"),
-    }
+    let text = text_of(alloc, line);
+    show(rt, alloc, text.as_slice(), line.contains('`'))
 }
 
 /// Writes all rows.

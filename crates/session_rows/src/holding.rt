@@ -7,7 +7,8 @@ ghost use Rattle.cov_server.specs.Shares.{HasSeat};
 ghost use Rattle.cov_workers.specs.Seated.{IsHere};
 
 use crate::Table;
-use crate::seats::{PIECE, Seated, Served, seats_of, show};
+use crate::seats::{PIECE, Seated, Served, seats_of, show_served};
+use crate::words::{count_of, say, show, take};
 use cov_base::{Gate, OpenGate, SureLink};
 use cov_server::{Shared, serve_connection};
 use std::alloc::Global;
@@ -16,7 +17,6 @@ use std::io::Print;
 use std::sync::Wait;
 use std::sync::atomic::{AtomicBool, Ordering};
 use std::thread::{Threads, for_each_mut};
-use std::{io, mem};
 use store_core::Core;
 use turn_lock::Seat;
 
@@ -83,8 +83,7 @@ fn serve_caller<C: Core, R: Threads + Wait + Sync, G: Gate>(
     let Some(seat) = caller.seat.take() else {
         return;
     };
-    let asked = mem::replace(&mut caller.asked, Vec::new(alloc));
-    let mut link = SureLink::new(alloc, asked, PIECE);
+    let mut link = SureLink::new(alloc, take(alloc, &mut caller.asked), PIECE);
     let (seat, ended) = serve_connection(rt, alloc, shared, seat, &mut link, gate);
     shared.leave(seat);
     caller.served = Some(Served { link, ended });
@@ -184,8 +183,7 @@ fn serve_both<R: Threads + Wait + Sync>(
     alloc: Global,
     seated: Seated,
     place: u32,
-    first_asked: Vec<u8>,
-    second_asked: Vec<u8>,
+    table: &mut Table,
 ) -> Both
     requires first { HasSeat opening_of IsSound seated.shared seated.first }
     requires second { HasSeat opening_of IsSound seated.shared seated.second }
@@ -195,22 +193,24 @@ fn serve_both<R: Threads + Wait + Sync>(
         first,
         second,
     } = seated;
-    let first = caller_at(first, first_asked);
-    let second = caller_at(second, second_asked);
+    let first = caller_at(first, take(alloc, &mut table.first));
+    let second = caller_at(second, take(alloc, &mut table.input));
     serve_held(rt, alloc, &shared, place, first, second)
 }
 
 /// Shows what a caller was answered, if it was served.
-fn show_served<R: Print>(
-    rt: &R,
-    alloc: Global,
-    who: &str,
-    served: Option<Served>,
-) -> io::Result<()> {
-    let Some(served) = served else {
-        return println!(rt; "{who} not served");
-    };
-    show(rt, alloc, who, served.link.contents(), served.ended)
+fn show_if_served<R: Print>(rt: &R, alloc: Global, who: &str, served: &Option<Served>) {
+    match served {
+        Some(served) => show_served(rt, alloc, who, served),
+        None => show(rt, who, "not served"),
+    }
+}
+
+/// Shows what both callers were answered, and whether the first was held.
+fn show_both<R: Print>(rt: &R, alloc: Global, both: &Both) {
+    show_if_served(rt, alloc, "first", &both.first);
+    show_if_served(rt, alloc, "second", &both.second);
+    say(rt, if both.held { "held" } else { "late" });
 }
 
 /// Serves both callers at once, the first of whom is held at a place, and shows what each was answered.
@@ -219,16 +219,12 @@ pub(crate) fn hold_row<R: Threads + Wait + Sync + Print>(
     alloc: Global,
     table: &mut Table,
     place: &str,
-) -> io::Result<()> {
-    let first = mem::replace(&mut table.first, Vec::new(alloc));
-    let second = mem::replace(&mut table.input, Vec::new(alloc));
-    let Some(seated) = seats_of(rt, alloc, table) else {
-        return println!(rt; "no store");
-    };
-    let place = place.parse().unwrap_or(0);
-    let both = serve_both(rt, alloc, seated, place, first, second);
-    show_served(rt, alloc, "first", both.first)?;
-    show_served(rt, alloc, "second", both.second)?;
-    let word = if both.held { "held" } else { "late" };
-    println!(rt; "{word}")
+) {
+    match seats_of(rt, alloc, table) {
+        Some(seated) => {
+            let both = serve_both(rt, alloc, seated, count_of(place), table);
+            show_both(rt, alloc, &both);
+        }
+        None => say(rt, "no store"),
+    }
 }

@@ -1,11 +1,14 @@
 //! The rows of callers of one store behind its lock.
-ghost use Rattle.std.specs.Prelude.{IfOk, IfSome};
+ghost use Rattle.std.specs.Prelude.{IfSome};
 ghost use Rattle.merge_store.specs.Sound.{IsSound};
 ghost use Rattle.merge_store.specs.Stores.{opening_of};
 ghost use Rattle.cov_server.specs.Shares.{HasSeat};
 
-use crate::{Table, design_of, ended_word, out_of_memory, show_replies};
-use cov_base::{MemDoor, MemLink, Memory, OpenGate, SureLink};
+use crate::Table;
+use crate::replies::show_caller;
+use crate::runs::design_of;
+use crate::words::{number_of, say, take};
+use cov_base::{MemDoor, MemLink, OpenGate, SureLink};
 use cov_server::{Shared, serve_connection, serve_rounds};
 use cov_session::Ended;
 use cov_workers::open;
@@ -15,7 +18,6 @@ use std::alloc::Global;
 use std::io::Print;
 use std::sync::{Arc, Wait};
 use std::thread::Threads;
-use std::{io, mem};
 use turn_lock::Seat;
 
 /// The most bytes of one read or write.
@@ -33,33 +35,22 @@ fn open_seats<R: Threads + Wait + Sync>(
     rt: &R,
     alloc: Global,
     design: Arc<Design>,
-    before: Vec<u8>,
-) -> Result<Seated, Memory>
-    ensures first { IfOk result (λ s. HasSeat opening_of IsSound s.shared s.first) }
-    ensures second { IfOk result (λ s. HasSeat opening_of IsSound s.shared s.second) }
+    before: &mut Vec<u8>,
+) -> Option<Seated>
+    ensures first { IfSome result (λ s. HasSeat opening_of IsSound s.shared s.first) }
+    ensures second { IfSome result (λ s. HasSeat opening_of IsSound s.shared s.second) }
 {
-    let (shared, first) = open(alloc, design, 2)?;
-    let mut link = SureLink::new(alloc, before, PIECE);
+    let Ok((shared, first)) = open(alloc, design, 2) else {
+        return None;
+    };
+    let mut link = SureLink::new(alloc, take(alloc, before), PIECE);
     let (mut first, _) = serve_connection(rt, alloc, &shared, first, &mut link, &OpenGate);
     let second = shared.split(&mut first);
-    Ok(Seated {
+    Some(Seated {
         shared,
         first,
         second,
     })
-}
-
-/// What was written for a caller, and how its session ended.
-pub(crate) fn show<R: Print>(
-    rt: &R,
-    alloc: Global,
-    who: &str,
-    written: Option<&[u8]>,
-    ended: Ended,
-) -> io::Result<()> {
-    println!(rt; "{who}")?;
-    show_replies(rt, alloc, written.unwrap_or(b""))?;
-    println!(rt; "ended {}", ended_word(ended))
 }
 
 /// The seats of a row, or none where there is no design or no memory.
@@ -71,9 +62,10 @@ pub(crate) fn seats_of<R: Threads + Wait + Sync>(
     ensures first { IfSome result (λ s. HasSeat opening_of IsSound s.shared s.first) }
     ensures second { IfSome result (λ s. HasSeat opening_of IsSound s.shared s.second) }
 {
-    let design = design_of(alloc, &table.design)?;
-    let before = mem::replace(&mut table.before, Vec::new(alloc));
-    open_seats(rt, alloc, design, before).ok()
+    match design_of(alloc, &table.design) {
+        Some(design) => open_seats(rt, alloc, design, &mut table.before),
+        None => None,
+    }
 }
 
 /// What was written for a caller, and how its session ended.
@@ -104,8 +96,7 @@ fn serve_both<R: Threads + Wait + Sync>(
     rt: &R,
     alloc: Global,
     seated: Seated,
-    first_asked: Vec<u8>,
-    second_asked: Vec<u8>,
+    table: &mut Table,
 ) -> (Served, Served)
     requires first { HasSeat opening_of IsSound seated.shared seated.first }
     requires second { HasSeat opening_of IsSound seated.shared seated.second }
@@ -115,6 +106,8 @@ fn serve_both<R: Threads + Wait + Sync>(
         first,
         mut second,
     } = seated;
+    let first_asked = take(alloc, &mut table.first);
+    let second_asked = take(alloc, &mut table.input);
     let (mut first, one) = serve(rt, alloc, &shared, first, first_asked);
     shared.meet(&mut first, &mut second);
     shared.leave(first);
@@ -123,27 +116,29 @@ fn serve_both<R: Threads + Wait + Sync>(
     (one, other)
 }
 
+/// Writes what a caller was answered.
+pub(crate) fn show_served<R: Print>(rt: &R, alloc: Global, who: &str, served: &Served) {
+    show_caller(rt, alloc, who, served.link.contents(), served.ended);
+}
+
 /// Serves both callers, and shows what each was answered.
-pub(crate) fn meet_row<R: Threads + Wait + Sync + Print>(
-    rt: &R,
-    alloc: Global,
-    table: &mut Table,
-) -> io::Result<()> {
-    let first = mem::replace(&mut table.first, Vec::new(alloc));
-    let second = mem::replace(&mut table.input, Vec::new(alloc));
-    let Some(seated) = seats_of(rt, alloc, table) else {
-        return println!(rt; "no store");
-    };
-    let (first, second) = serve_both(rt, alloc, seated, first, second);
-    show(rt, alloc, "first", first.link.contents(), first.ended)?;
-    show(rt, alloc, "second", second.link.contents(), second.ended)
+pub(crate) fn meet_row<R: Threads + Wait + Sync + Print>(rt: &R, alloc: Global, table: &mut Table) {
+    match seats_of(rt, alloc, table) {
+        Some(seated) => {
+            let (first, second) = serve_both(rt, alloc, seated, table);
+            show_served(rt, alloc, "first", &first);
+            show_served(rt, alloc, "second", &second);
+        }
+        None => say(rt, "no store"),
+    }
 }
 
 /// A door that has one connection, which asks this.
-fn door_of(alloc: Global, asked: Vec<u8>) -> Result<MemDoor, Memory> {
+fn door_of(alloc: Global, asked: Vec<u8>) -> MemDoor {
     let mut links = Vec::new(alloc);
-    links.push(MemLink::new(alloc, asked, PIECE, Vec::new(alloc), Vec::new(alloc)))?;
-    Ok(MemDoor::new(links, Vec::new(alloc)))
+    let link = MemLink::new(alloc, asked, PIECE, Vec::new(alloc), Vec::new(alloc));
+    let _ = links.push(link);
+    MemDoor::new(links, Vec::new(alloc))
 }
 
 /// How many connections of a door were handed out, and how much of the history the seat has seen then.
@@ -168,19 +163,23 @@ fn serve_door<R: Threads + Wait + Sync>(
     (handed, seen)
 }
 
+fn show_handed<R: Print>(rt: &R, handed: u64, seen: u64) {
+    let _ = println!(rt; "handed {handed} seen {seen}");
+}
+
 /// Serves so many connections of a door that has one.
 pub(crate) fn rounds_row<R: Threads + Wait + Sync + Print>(
     rt: &R,
     alloc: Global,
     table: &mut Table,
     count: &str,
-) -> io::Result<()> {
-    let asked = mem::replace(&mut table.input, Vec::new(alloc));
-    let mut door = door_of(alloc, asked).map_err(out_of_memory)?;
-    let Some(seated) = seats_of(rt, alloc, table) else {
-        return println!(rt; "no store");
-    };
-    let rounds = count.parse().unwrap_or(0);
-    let (handed, seen) = serve_door(rt, alloc, seated, &mut door, rounds);
-    println!(rt; "handed {handed} seen {seen}")
+) {
+    let mut door = door_of(alloc, take(alloc, &mut table.input));
+    match seats_of(rt, alloc, table) {
+        Some(seated) => {
+            let (handed, seen) = serve_door(rt, alloc, seated, &mut door, number_of(count));
+            show_handed(rt, handed, seen);
+        }
+        None => say(rt, "no store"),
+    }
 }

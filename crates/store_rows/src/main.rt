@@ -18,6 +18,7 @@ mod records;
 mod serving;
 mod stores;
 mod twins;
+mod words;
 mod writing;
 
 use many::{again, many};
@@ -29,99 +30,80 @@ use std::io::{Input, Print};
 use std::process::ExitCode;
 use std::thread::Threads;
 use stores::Stores;
+use words::{say, say_count, say_number, split};
 
 /// Writes what a line is told.
-fn write_told<R: Print>(rt: &R, told: &Told) -> io::Result<()> {
-    println!(rt; "{}", told.text)?;
-    if told.alike {
-        return Ok(());
+fn write_told<R: Print>(rt: &R, told: &Told) {
+    say(rt, told.text.as_str());
+    if !told.alike {
+        say(rt, "otherwise by definition");
     }
-    println!(rt; "otherwise by definition")
 }
 
-fn write_if_told<R: Print>(rt: &R, told: Option<Told>) -> io::Result<()> {
+fn write_if_told<R: Print>(rt: &R, told: &Option<Told>) {
     match told {
-        Some(told) => write_told(rt, &told),
-        None => println!(rt; "not made for this history"),
+        Some(told) => write_told(rt, told),
+        None => say(rt, "not made for this history"),
     }
 }
 
 /// Makes an ask ready, puts another, and then that one.
-fn write_late<R: Threads + Sync + Print>(
-    rt: &R,
-    alloc: Global,
-    stores: &mut Stores,
-    words: &str,
-) -> io::Result<()> {
+fn write_late<R: Threads + Sync + Print>(rt: &R, alloc: Global, stores: &mut Stores, words: &str) {
     let (first, second) = words.split_once(" <- ").unwrap_or((words, ""));
     let (before, behind) = late(rt, alloc, stores, first, second);
-    write_if_told(rt, before)?;
-    write_if_told(rt, behind)
+    write_if_told(rt, &before);
+    write_if_told(rt, &behind);
 }
 
 /// Takes a line of a history.
-fn call<R: Threads + Sync + Print>(
-    rt: &R,
-    alloc: Global,
-    stores: &mut Stores,
-    line: &str,
-) -> io::Result<()> {
-    match line.split_once(' ') {
-        Some(("late", words)) => write_late(rt, alloc, stores, words),
-        Some(("many", words)) => println!(rt; "{} new", many(rt, alloc, stores, words)),
-        Some(("again", words)) => println!(rt; "{} alike", again(&stores.store, words)),
-        _ => match line {
-            "point" => println!(rt; "{}", stores.store.point()),
-            _ => write_if_told(rt, served(rt, alloc, stores, line)),
-        },
+fn call<R: Threads + Sync + Print>(rt: &R, alloc: Global, stores: &mut Stores, line: &str) {
+    let (verb, words) = split(line);
+    match verb {
+        "late" => write_late(rt, alloc, stores, words),
+        "many" => say_count(rt, many(rt, alloc, stores, words), "new"),
+        "again" => say_count(rt, again(&stores.store, words), "alike"),
+        "point" => say_number(rt, stores.store.point()),
+        _ => write_if_told(rt, &served(rt, alloc, stores, line)),
     }
 }
 
 /// Takes a line over the stores of now.
-fn over<R: Threads + Sync + Print>(
-    rt: &R,
-    alloc: Global,
-    stores: &mut Option<Stores>,
-    line: &str,
-) -> io::Result<()> {
+fn over<R: Threads + Sync + Print>(rt: &R, alloc: Global, stores: &mut Option<Stores>, line: &str) {
     match stores {
         Some(stores) => call(rt, alloc, stores, line),
-        None => println!(rt; "no design"),
+        None => say(rt, "no design"),
     }
 }
 
 /// Takes a line, which may begin other stores.
-fn row<R: Threads + Sync + Print>(
-    rt: &R,
-    alloc: Global,
-    stores: &mut Option<Stores>,
-    line: &str,
-) -> io::Result<()> {
-    match line.split_once(' ') {
-        Some(("design", text)) => {
-            *stores = Stores::of(alloc, text, false);
-            Ok(())
-        }
-        Some(("alone", text)) => {
-            *stores = Stores::of(alloc, text, true);
-            Ok(())
-        }
-        Some(("random", words)) => println!(rt; "{} otherwise", random(rt, alloc, words)),
+fn row<R: Threads + Sync + Print>(rt: &R, alloc: Global, stores: &mut Option<Stores>, line: &str) {
+    say(rt, line);
+    let (verb, words) = split(line);
+    match verb {
+        "design" => *stores = Stores::of(alloc, words, false),
+        "alone" => *stores = Stores::of(alloc, words, true),
+        "random" => say_count(rt, random(rt, alloc, words), "otherwise"),
         _ => over(rt, alloc, stores, line),
     }
 }
 
 /// Takes all lines.
-fn rows<R: Threads + Sync + Input + Print>(rt: &R, alloc: Global) -> io::Result<()> {
-    let mut stores = None;
+fn rows<R: Threads + Sync + Input + Print>(
+    rt: &R,
+    alloc: Global,
+    stores: &mut Option<Stores>,
+) -> io::Result<()> {
     for line in rt.lines(alloc) {
-        let line = line?;
-        println!(rt; "{line}")?;
-        row(rt, alloc, &mut stores, line.as_str())?;
+        row(rt, alloc, stores, line?.as_str());
     }
     Ok(())
 }
 
 fn main(rt: HostRuntime) -> ExitCode {
-    ExitCode::from(if rows(&rt, rt.alloc()).is_ok() { 0 } else { 1 })
+    let mut stores = None;
+    ExitCode::from(if rows(&rt, rt.alloc(), &mut stores).is_ok() {
+        0
+    } else {
+        1
+    })
 }

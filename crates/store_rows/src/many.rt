@@ -1,7 +1,7 @@
 //! Long histories, and questions that are asked often.
-use crate::asks::split;
 use crate::serving::{Told, admitted, served};
 use crate::stores::Stores;
+use crate::words::{small_of, split};
 use merge_store::Store;
 use std::alloc::Global;
 use std::thread::Threads;
@@ -14,30 +14,26 @@ fn is_new(told: &Option<Told>) -> bool {
     }
 }
 
-/// Admits the record of a number with these steps: whether it is new.
-fn admits<R: Threads + Sync>(
-    rt: &R,
-    alloc: Global,
-    stores: &mut Stores,
-    number: u32,
-    steps: &str,
-) -> bool {
-    let Ok(line) = format!(in alloc; "admit n{number} {steps}") else {
-        return false;
-    };
+/// To admit the record of a number with these steps.
+fn line_of(alloc: Global, number: u32, steps: &str) -> String {
+    format!(in alloc; "admit n{number} {steps}").unwrap_or(String::new(alloc))
+}
+
+/// Admits the record of a line: whether it is new.
+fn admits<R: Threads + Sync>(rt: &R, alloc: Global, stores: &mut Stores, line: &str) -> bool {
     if stores.alone {
-        return is_new(&served(rt, alloc, stores, line.as_str()));
+        return is_new(&served(rt, alloc, stores, line));
     }
-    admitted(rt, alloc, stores, line.as_str())
+    admitted(rt, alloc, stores, line)
 }
 
 /// Admits as many records as the first word says, each with the steps of the others: how many are new.
 pub fn many<R: Threads + Sync>(rt: &R, alloc: Global, stores: &mut Stores, words: &str) -> u32 {
     let (many, steps) = split(words);
-    let many: u32 = many.parse().unwrap_or(0);
     let mut new = 0u32;
-    for number in 0..many {
-        new = new.saturating_add(u32::from(admits(rt, alloc, stores, number, steps)));
+    for number in 0..small_of(many) {
+        let line = line_of(alloc, number, steps);
+        new = new.saturating_add(u32::from(admits(rt, alloc, stores, line.as_str())));
     }
     new
 }
@@ -53,12 +49,11 @@ fn is_row(store: &Store, path: &[u8], row: &CoverRow) -> bool {
 /// Asks for the coverage of a path as often as the first word says: how many answers are as the first one.
 pub fn again(store: &Store, words: &str) -> u32 {
     let (times, path) = split(words);
-    let times: u32 = times.parse().unwrap_or(0);
     let Ok(row) = store.coverage(path.as_bytes()) else {
         return 0;
     };
     let mut alike = 0u32;
-    for _ in 0..times {
+    for _ in 0..small_of(times) {
         alike = alike.saturating_add(u32::from(is_row(store, path.as_bytes(), &row)));
     }
     alike

@@ -1,8 +1,8 @@
 //! Random asks, put alike to a store and to a plain one.
-use crate::asks::split;
 use crate::dice::Dice;
 use crate::serving::{Told, late, served};
 use crate::stores::Stores;
+use crate::words::{number_of, put, small_of, split};
 use merge_store::Store;
 use std::alloc::Global;
 use std::thread::Threads;
@@ -74,67 +74,62 @@ fn one_of(dice: &mut Dice, texts: &[&'static str]) -> &'static str {
 }
 
 /// Puts a number behind a line.
-fn write_number(alloc: Global, line: &mut String, number: u32) -> Option<()> {
-    let text = format!(in alloc; "{number}").ok()?;
-    line.push_str(text.as_str()).ok()
+fn write_number(line: &mut String, number: u32) {
+    let _ = write!(line, "{number}");
 }
 
 /// Puts a path behind a line: that of a node, or one that no node has.
-fn write_path(dice: &mut Dice, store: &Store, line: &mut String) -> Option<()> {
+fn write_path(dice: &mut Dice, store: &Store, line: &mut String) {
     let many = store.nodes().len();
     let place = place_in(dice, many.saturating_add(1));
     if place as usize >= many {
-        return line.push_str("g/none").ok();
+        return put(line, "g/none");
     }
-    let path = store.path_text(place).ok()?;
-    line.push_str(str::from_utf8(path.as_slice()).unwrap_or(""))
-        .ok()
+    if let Ok(path) = store.path_text(place) {
+        put(line, str::from_utf8(path.as_slice()).unwrap_or(""));
+    }
+}
+
+/// Puts a value that is set, with a sample behind it, behind a line.
+fn write_step(line: &mut String, value: u32, instance: u32) {
+    let _ = write!(line, " 0={value} {instance}");
 }
 
 /// Puts steps of a record behind a line.
-fn write_steps(alloc: Global, dice: &mut Dice, line: &mut String) -> Option<()> {
+fn write_steps(dice: &mut Dice, line: &mut String) {
     for _ in 0..dice.below(4) {
-        line.push_str(" 0=").ok()?;
-        write_number(alloc, line, dice.below(9))?;
-        line.push_str(" ").ok()?;
-        write_number(alloc, line, dice.below(3))?;
+        let value = dice.below(9);
+        write_step(line, value, dice.below(3));
     }
-    Some(())
+}
+
+/// Puts a word behind a line, with a number below the one behind its `#`.
+fn write_plain(dice: &mut Dice, line: &mut String, word: &str) {
+    let (word, below) = word.split_once('#').unwrap_or((word, ""));
+    put(line, word);
+    if let Ok(many) = below.parse() {
+        write_number(line, dice.below(many));
+    }
 }
 
 /// Puts what a word of an ask stands for behind a line.
-fn write_word(
-    alloc: Global,
-    dice: &mut Dice,
-    store: &Store,
-    line: &mut String,
-    word: &str,
-) -> Option<()> {
+fn write_word(dice: &mut Dice, store: &Store, line: &mut String, word: &str) {
     match word {
         "PATH" => write_path(dice, store, line),
-        "STEPS" => write_steps(alloc, dice, line),
-        "TEXT" => line.push_str(one_of(dice, &TEXTS)).ok(),
-        _ => {
-            let (word, below) = word.split_once('#').unwrap_or((word, ""));
-            line.push_str(word).ok()?;
-            match below.parse() {
-                Ok(many) => write_number(alloc, line, dice.below(many)),
-                Err(_) => Some(()),
-            }
-        }
+        "STEPS" => write_steps(dice, line),
+        "TEXT" => put(line, one_of(dice, &TEXTS)),
+        _ => write_plain(dice, line, word),
     }
 }
 
 /// A random ask.
-fn random_line(alloc: Global, dice: &mut Dice, store: &Store) -> Option<String> {
+fn random_line(alloc: Global, dice: &mut Dice, store: &Store) -> String {
     let mut line = String::new(alloc);
     for (place, word) in one_of(dice, &ASKS).split(' ').enumerate() {
-        if place > 0 {
-            line.push_str(" ").ok()?;
-        }
-        write_word(alloc, dice, store, &mut line, word)?;
+        put(&mut line, if place > 0 { " " } else { "" });
+        write_word(dice, store, &mut line, word);
     }
-    Some(line)
+    line
 }
 
 fn is_alike(told: &Option<Told>) -> bool {
@@ -144,47 +139,57 @@ fn is_alike(told: &Option<Told>) -> bool {
     }
 }
 
+/// Puts the asks of two lines to both stores, the first made ready before the second: whether they answer both alike.
+fn are_late_alike<R: Threads + Sync>(
+    rt: &R,
+    alloc: Global,
+    stores: &mut Stores,
+    words: &str,
+) -> bool {
+    let (first, second) = words.split_once(" <- ").unwrap_or((words, ""));
+    let (before, behind) = late(rt, alloc, stores, first, second);
+    is_alike(&before) && is_alike(&behind)
+}
+
 /// Puts the asks of a line to both stores: whether they answer alike.
 fn are_alike<R: Threads + Sync>(rt: &R, alloc: Global, stores: &mut Stores, line: &str) -> bool {
     match line.split_once(' ') {
-        Some(("late", words)) => {
-            let (first, second) = words.split_once(" <- ").unwrap_or((words, ""));
-            let (before, behind) = late(rt, alloc, stores, first, second);
-            is_alike(&before) && is_alike(&behind)
-        }
+        Some(("late", words)) => are_late_alike(rt, alloc, stores, words),
         _ => is_alike(&served(rt, alloc, stores, line)),
     }
 }
 
 /// Puts a random ask to both stores: whether they answer alike.
 fn command<R: Threads + Sync>(rt: &R, alloc: Global, dice: &mut Dice, stores: &mut Stores) -> bool {
-    match random_line(alloc, dice, &stores.store) {
-        Some(line) => are_alike(rt, alloc, stores, line.as_str()),
-        None => false,
+    let line = random_line(alloc, dice, &stores.store);
+    are_alike(rt, alloc, stores, line.as_str())
+}
+
+/// Puts a round of random asks to both stores: how many they answer otherwise.
+fn asked<R: Threads + Sync>(rt: &R, alloc: Global, dice: &mut Dice, stores: &mut Stores) -> u32 {
+    let mut otherwise = 0u32;
+    for _ in 0..ROUND {
+        let alike = command(rt, alloc, dice, stores);
+        otherwise = otherwise.saturating_add(u32::from(!alike));
     }
+    otherwise
 }
 
 /// Puts a round of random asks to both stores, over a history of their own: how many they answer otherwise.
 fn round<R: Threads + Sync>(rt: &R, alloc: Global, dice: &mut Dice) -> u32 {
-    let Some(mut stores) = Stores::of(alloc, one_of(dice, &TEXTS), false) else {
-        return ROUND;
-    };
-    let mut otherwise = 0u32;
-    for _ in 0..ROUND {
-        let alike = command(rt, alloc, dice, &mut stores);
-        otherwise = otherwise.saturating_add(u32::from(!alike));
+    match Stores::of(alloc, one_of(dice, &TEXTS), false) {
+        Some(mut stores) => asked(rt, alloc, dice, &mut stores),
+        None => ROUND,
     }
-    otherwise
 }
 
 /// Puts random asks to both stores, as many rounds as the first word says, by the row of numbers that the second begins:
 /// how many they answer otherwise.
 pub fn random<R: Threads + Sync>(rt: &R, alloc: Global, words: &str) -> u32 {
     let (rounds, seed) = split(words);
-    let rounds: u32 = rounds.parse().unwrap_or(0);
-    let mut dice = Dice::new(seed.parse().unwrap_or(0));
+    let mut dice = Dice::new(number_of(seed));
     let mut otherwise = 0u32;
-    for _ in 0..rounds {
+    for _ in 0..small_of(rounds) {
         otherwise = otherwise.saturating_add(round(rt, alloc, &mut dice));
     }
     otherwise

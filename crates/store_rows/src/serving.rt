@@ -11,6 +11,7 @@ use crate::writing::text_of;
 use cov_history::Ask;
 use history_answers::PlainStore;
 use merge_store::Store;
+use record_codec::Record;
 use std::alloc::Global;
 use std::thread::Threads;
 use store_core::Ask as Twin;
@@ -23,26 +24,55 @@ pub struct Told {
     pub alike: bool,
 }
 
-/// Puts an ask to a plain store: whether it answers so, and stands at that point behind it.
-fn alike<R: Threads + Sync>(
+/// What a plain store answers; None where the ask isn't made for its history, or memory is wanted.
+fn meant<R: Threads + Sync>(
     rt: &R,
     alloc: Global,
     plain: &mut PlainStore,
     ask: Ask,
+) -> Option<Answer> {
+    if !plain.suits(&ask) {
+        return None;
+    }
+    plain.serve(rt, alloc, 0, ask).ok()
+}
+
+/// Puts an ask to a plain store, if there is one: whether it answers so, and stands at that point behind it.
+fn alike<R: Threads + Sync>(
+    rt: &R,
+    alloc: Global,
+    plain: &mut PlainStore,
+    ask: Option<Ask>,
     point: u64,
     text: &str,
 ) -> bool {
-    if !plain.suits(&ask) {
-        return false;
-    }
-    match plain.serve(rt, alloc, 0, ask) {
-        Ok(meant) => plain.point() == point && text_of(alloc, &meant).as_str() == text,
-        Err(_) => false,
+    let Some(ask) = ask else {
+        return true;
+    };
+    match meant(rt, alloc, plain, ask) {
+        Some(meant) => plain.point() == point && text_of(alloc, &meant).as_str() == text,
+        None => false,
     }
 }
 
-/// Puts an ask to both stores; to the one alone where there is none for the plain one.
+/// Puts an ask to a store: its answer as text, and the point behind it.
 #[tactic(auto, using(crate::proofs::Meeting::ready_still))]
+fn answered<R: Threads + Sync>(
+    rt: &R,
+    alloc: Global,
+    store: &mut Store,
+    twin: Twin,
+) -> (String, u64)
+    requires { Meets (opening_of store.old) (entries_of store.old) twin }
+    ensures kept { (later : TwinAsk)
+        → Meets (opening_of store.old) (entries_of store.old) later
+        → Meets (opening_of store.new) (entries_of store.new) later }
+{
+    let given = store.serve(rt, 0, twin);
+    (text_of(alloc, &given.answer), given.point)
+}
+
+/// Puts an ask to both stores; to the one alone where there is none for the plain one.
 fn put<R: Threads + Sync>(
     rt: &R,
     alloc: Global,
@@ -55,19 +85,8 @@ fn put<R: Threads + Sync>(
         → Meets (opening_of stores.old.store) (entries_of stores.old.store) later
         → Meets (opening_of stores.new.store) (entries_of stores.new.store) later }
 {
-    let given = stores.store.serve(rt, 0, twin);
-    let text = text_of(alloc, &given.answer);
-    let alike = match ask {
-        Some(ask) => alike(
-            rt,
-            alloc,
-            &mut stores.plain,
-            ask,
-            given.point,
-            text.as_str(),
-        ),
-        None => true,
-    };
+    let (text, point) = answered(rt, alloc, &mut stores.store, twin);
+    let alike = alike(rt, alloc, &mut stores.plain, ask, point, text.as_str());
     Told { text, alike }
 }
 
@@ -83,7 +102,10 @@ fn plain_ask(alloc: Global, stores: &Stores, line: &str) -> Option<Ask> {
 fn twin_ask<R: Threads + Sync>(rt: &R, alloc: Global, store: &Store, line: &str) -> Option<Twin>
     ensures { IfSome result (λ twin. Meets (opening_of store.now) (entries_of store.now) twin) }
 {
-    twin_of(rt, alloc, store, ask_of(alloc, store, line)?)
+    match ask_of(alloc, store, line) {
+        Some(ask) => twin_of(rt, alloc, store, ask),
+        None => None,
+    }
 }
 
 /// What the ask of a line is answered; None where it isn't made for this history.
@@ -97,7 +119,9 @@ pub fn served<R: Threads + Sync>(
         → Meets (opening_of stores.old.store) (entries_of stores.old.store) later
         → Meets (opening_of stores.new.store) (entries_of stores.new.store) later }
 {
-    let twin = twin_ask(rt, alloc, &stores.store, line)?;
+    let Some(twin) = twin_ask(rt, alloc, &stores.store, line) else {
+        return None;
+    };
     let ask = plain_ask(alloc, stores, line);
     Some(put(rt, alloc, stores, ask, twin))
 }
@@ -119,12 +143,24 @@ pub fn late<R: Threads + Sync>(
     (before, Some(put(rt, alloc, stores, ask, twin)))
 }
 
-/// Whether the record of an ask follows the history of a plain store, which then has it.
-fn follows(alloc: Global, plain: &mut PlainStore, ask: Option<Ask>) -> bool {
-    match ask {
-        Some(Ask::Admit { content, .. }) => plain.admit(alloc, 0, content).unwrap_or(false),
+/// Whether the record of a line follows the history of the plain store, which then has it.
+fn follows(alloc: Global, stores: &mut Stores, line: &str) -> bool {
+    match ask_of(alloc, &stores.store, line) {
+        Some(Ask::Admit { content, .. }) => admits(alloc, &mut stores.plain, content),
         _ => false,
     }
+}
+
+/// Whether a record follows the history of a plain store, which then has it.
+fn admits(alloc: Global, plain: &mut PlainStore, content: Record) -> bool {
+    plain.admit(alloc, 0, content).unwrap_or(false)
+}
+
+/// Puts an ask to a store: whether a record is new to it.
+fn is_new<R: Threads + Sync>(rt: &R, store: &mut Store, twin: Twin) -> bool
+    requires { Meets (opening_of store.old) (entries_of store.old) twin }
+{
+    matches!(store.serve(rt, 0, twin).answer, Answer::New)
 }
 
 /// Admits the record of a line to both stores, of which the plain one works no answer out: whether it is new to both.
@@ -132,7 +168,5 @@ pub fn admitted<R: Threads + Sync>(rt: &R, alloc: Global, stores: &mut Stores, l
     let Some(twin) = twin_ask(rt, alloc, &stores.store, line) else {
         return false;
     };
-    let ask = plain_ask(alloc, stores, line);
-    let given = stores.store.serve(rt, 0, twin);
-    matches!(given.answer, Answer::New) && follows(alloc, &mut stores.plain, ask)
+    is_new(rt, &mut stores.store, twin) && follows(alloc, stores, line)
 }

@@ -29,10 +29,27 @@ pub fn compiled_of(alloc: Global, text: &[u8]) -> Option<Compiled> {
     Compiled::of(alloc, text).ok()
 }
 
+fn shared_design(alloc: Global, text: &str) -> Option<Arc<Design>> {
+    match design_of(alloc, text) {
+        Some(design) => Arc::new(alloc, design).ok(),
+        None => None,
+    }
+}
+
 /// A store without entries over the design of a text.
 fn store_of(alloc: Global, text: &str) -> Option<Store> {
-    let design = Arc::new(alloc, design_of(alloc, text)?).ok()?;
-    Store::new(alloc, design).ok()
+    match shared_design(alloc, text) {
+        Some(design) => Store::new(alloc, design).ok(),
+        None => None,
+    }
+}
+
+/// A plain store without entries over the design of a text.
+fn plain_of(alloc: Global, text: &str) -> Option<PlainStore> {
+    match design_of(alloc, text) {
+        Some(design) => Some(PlainStore::new(alloc, design)),
+        None => None,
+    }
 }
 
 /// A store, and a plain one over the same history; that one has no entries where the store stands alone.
@@ -46,8 +63,12 @@ pub struct Stores {
 impl Stores {
     /// Those without entries over the design of a text.
     pub fn of(alloc: Global, text: &str, alone: bool) -> Option<Stores> {
-        let plain = PlainStore::new(alloc, design_of(alloc, text)?);
-        let store = store_of(alloc, text)?;
+        let Some(plain) = plain_of(alloc, text) else {
+            return None;
+        };
+        let Some(store) = store_of(alloc, text) else {
+            return None;
+        };
         Some(Stores {
             store,
             plain,

@@ -1,17 +1,9 @@
 //! Street: worked rows.
 //!
-//! Worked rows of `record_codec`, `percent`, `exclusions`, `tally`, `upload_stage`, `cov_history`, as tests of what these crates hand on.
+//! Worked rows of `exclusions` and `cov_history`, as tests of what these crates hand on.
 #![tactic(auto)]
 
-#[cfg(test)]
-mod counts;
 #[cfg(test)]
 mod covering;
 #[cfg(test)]
 mod nodes;
-#[cfg(test)]
-mod percentages;
-#[cfg(test)]
-mod records;
-#[cfg(test)]
-mod stages;

@@ -1,0 +1,37 @@
+//! Connections of this machine to itself.
+use cov_base::{Door, Failed, Link};
+use cov_net::{TcpDoor, TcpLink};
+use std::net::{TcpListener, TcpStream};
+use std::process::Abort;
+use std::test::Fail;
+
+/// One write to a link through the bound.
+fn say<L: Link>(link: &mut L) -> Result<usize, Failed> {
+    link.write(b"text")
+}
+
+/// The next link through the bound.
+fn enter<D: Door>(door: &mut D) -> Result<D::Wire, Failed> {
+    door.accept()
+}
+
+/// Reads with room for three bytes through the bound.
+fn expect_text<L: Link>(rt: &impl Abort, link: &mut L) {
+    for expected in ["tex", "t", ""] {
+        let mut room = [0u8; 3];
+        assert!(rt; link.read(&mut room) == Ok(expected.len()));
+        assert!(rt; &room[..expected.len()] == expected.as_bytes());
+    }
+}
+
+#[test]
+fn doors_hand_out_connections(rt: HostRuntime) -> Result<(), Fail> {
+    let listener = TcpListener::bind(&rt, "127.0.0.1:0")?;
+    let mut door = TcpDoor::new(&listener);
+    let mut far = TcpLink::new(TcpStream::connect(&rt, listener.local_addr()?)?);
+    let mut near = enter(&mut door)?;
+    assert!(rt; say(&mut far) == Ok(4));
+    drop(far);
+    expect_text(&rt, &mut near);
+    Ok(())
+}

@@ -1,7 +1,0 @@
-//! Street: worked rows.
-//!
-//! Worked rows of `trans_seq`, as tests of what it hands on.
-#![tactic(auto)]
-
-#[cfg(test)]
-mod sequences;
