@@ -73,7 +73,7 @@ ident_piece text i j l h r w = record { spells = (name_fits text i j l h r, w); 
 
 -- based literals
 
-base_is : (b : Base) (c : ℕ) → is_base b c ≡ true → base_of c ≡ Some b
+pub base_is : (b : Base) (c : ℕ) → is_base b c ≡ true → base_of c ≡ Some b
 base_is bases.Binary c h = elim (or_cases (eqb c 98) (eqb c 66) h) [ inl e ↦ subst (λ q. base_of q ≡ Some bases.Binary) (sym (eqb-true c 98 e)) refl | inr e ↦ subst (λ q. base_of q ≡ Some bases.Binary) (sym (eqb-true c 66 e)) refl ]
 base_is bases.Octal c h = elim (or_cases (eqb c 111) (eqb c 79) h) [ inl e ↦ subst (λ q. base_of q ≡ Some bases.Octal) (sym (eqb-true c 111 e)) refl | inr e ↦ subst (λ q. base_of q ≡ Some bases.Octal) (sym (eqb-true c 79 e)) refl ]
 base_is bases.Decimal c h = elim (or_cases (eqb c 100) (eqb c 68) h) [ inl e ↦ subst (λ q. base_of q ≡ Some bases.Decimal) (sym (eqb-true c 100 e)) refl | inr e ↦ subst (λ q. base_of q ≡ Some bases.Decimal) (sym (eqb-true c 68 e)) refl ]
@@ -83,7 +83,7 @@ pick : (t : Bool) (x b : Base) (more : Option Base) → cond t (Some x) more ≡
 pick true x b more h = inl (refl, cc)
 pick false x b more h = inr h
 
-base_letter : (b : Base) (c : ℕ) → base_of c ≡ Some b → is_base b c ≡ true
+pub base_letter : (b : Base) (c : ℕ) → base_of c ≡ Some b → is_base b c ≡ true
 base_letter b c h = elim (pick (is_base bases.Binary c) bases.Binary b _ h) [
   | inl e ↦ subst (λ q. is_base q c ≡ true) e.1 e.0
   | inr h2 ↦ elim (pick (is_base bases.Octal c) bases.Octal b _ h2) [
@@ -98,19 +98,19 @@ base_letter b c h = elim (pick (is_base bases.Binary c) bases.Binary b _ h) [
   ]
 ]
 
-no_base_zero : (b : Base) → is_base b 0 ≡ false
+pub no_base_zero : (b : Base) → is_base b 0 ≡ false
 no_base_zero bases.Binary = refl
 no_base_zero bases.Octal = refl
 no_base_zero bases.Decimal = refl
 no_base_zero bases.Hexadecimal = refl
 
-no_digit_zero : (b : Base) → is_base_digit b 0 ≡ false
+pub no_digit_zero : (b : Base) → is_base_digit b 0 ≡ false
 no_digit_zero bases.Binary = refl
 no_digit_zero bases.Octal = refl
 no_digit_zero bases.Decimal = refl
 no_digit_zero bases.Hexadecimal = refl
 
-no_digit_space : (b : Base) → is_base_digit b 32 ≡ false
+pub no_digit_space : (b : Base) → is_base_digit b 32 ≡ false
 no_digit_space bases.Binary = refl
 no_digit_space bases.Octal = refl
 no_digit_space bases.Decimal = refl
@@ -155,7 +155,7 @@ marked_longest text i m j base h r d more = record {
   inside = more.inside;
 }
 
-no_base_sign : (b : Base) (c : ℕ) → is_sign c ≡ true → is_base b c ≡ true → ⊥
+pub no_base_sign : (b : Base) (c : ℕ) → is_sign c ≡ true → is_base b c ≡ true → ⊥
 no_base_sign b c s h = let e = base_is b c h in elim (or_cases (eqb c 115) (eqb c 83) s) [
   | inl k ↦ absurd (let g = subst (λ q. base_of q ≡ Some b) (eqb-true c 115 k) e in cc)
   | inr k ↦ absurd (let g = subst (λ q. base_of q ≡ Some b) (eqb-true c 83 k) e in cc)
@@ -205,10 +205,10 @@ based_unsigned text i (Some j) a s h = record {
 space_no_apostrophe : (text : List ℕ) (b : Base) (q k : ℕ) → Passes is_space text q → Fits text (based b) q k → ⊥
 space_no_apostrophe text b q k s f = let e = eqb-true (get_or text q 0) 32 s.1 in let g = eqb-true (get_or text q 0) 39 f.0.1 in absurd (omega (arith, e, g))
 
-number_no_space : (c : ℕ) → is_number c ≡ true → is_space c ≡ true → ⊥
+pub number_no_space : (c : ℕ) → is_number c ≡ true → is_space c ≡ true → ⊥
 number_no_space c h s = let e = eqb-true c 32 s in let g = subst (λ q. is_number q ≡ true) e h in absurd (cc)
 
-number_no_apostrophe : (c : ℕ) → is_number c ≡ true → is_apostrophe c ≡ true → ⊥
+pub number_no_apostrophe : (c : ℕ) → is_number c ≡ true → is_apostrophe c ≡ true → ⊥
 number_no_apostrophe c h s = let e = eqb-true c 39 s in let g = subst (λ q. is_number q ≡ true) e h in absurd (cc)
 
 number_avoids : (text : List ℕ) (b : Base) (q k : ℕ) → Passes is_number text q → Fits text (Many is_space ∷ based b) q k → ⊥
@@ -221,7 +221,7 @@ sized_rest : (text : List ℕ) (i j a n : ℕ) (b : Base) → Runs is_number tex
 sized_rest text i j a n b r s f = run_then is_space (based b) text j a n s (space_no_apostrophe text b)
     (run_then is_number (Many is_space ∷ based b) text (i + 1) j n r (number_avoids text b) f.1)
 
-digit_no_apostrophe : (c : ℕ) → is_digit c ≡ true → is_apostrophe c ≡ true → ⊥
+pub digit_no_apostrophe : (c : ℕ) → is_digit c ≡ true → is_apostrophe c ≡ true → ⊥
 digit_no_apostrophe c h s = let e = eqb-true c 39 s in let g = subst (λ q. is_digit q ≡ true) e h in absurd (cc)
 
 pub digit_no_comment : (text : List ℕ) (i : ℕ) → i < length text → is_digit (get_or text i 0) ≡ true → opens_comment text i ≡ false

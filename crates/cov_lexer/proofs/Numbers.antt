@@ -7,7 +7,7 @@ use Rattle.std.proofs.Math.Nat.{mul-le-mul_left}
 use Rattle.cov_lexer.specs.declared.bytes.Base.{Base}
 use Rattle.cov_lexer.specs.declared.bytes.Base.TheVariants as bases
 use Rattle.cov_lexer.specs.Bytes.{is_unknown}
-use Rattle.cov_lexer.specs.Literals.{radix, is_gap, number_from, digit_free, value_of, free_of, decimal_literal, of_size, sized_literal, fits_width, made, natural_width, above, leads_unknown, digit_bits}
+use Rattle.cov_lexer.specs.Literals.{radix, is_gap, number_from, digit_free, value_of, free_of, decimal_literal, of_size, meaning, fits_width, made, natural_width, above, leads_unknown, digit_bits}
 
 pub radix_one : (b : Base) → 1 ≤ radix b
 radix_one bases.Binary = omega arith
@@ -71,9 +71,9 @@ decimal_none value h = rw (le-ltb value (2 ^ 31) (omega arith), le-ltb value (2 
 pub size_none : (signed : Bool) (base : Base) (size : ℕ) (cs : List ℕ) → 64 < size → of_size signed base size cs ≡ None
 size_none signed base size cs h = let e = and_right (ltb 0 size) (leb size 64) (lt-leb size 64 h) in rw e refl
 
-pub sized_none : (signed : Bool) (base : Base) (size cs : List ℕ) → 0 < length size → 64 < value_of bases.Decimal size → sized_literal signed base size cs ≡ None
-sized_none signed base [] cs l h = absurd (omega arith)
-sized_none signed base (c ∷ more) cs l h = size_none signed base (value_of bases.Decimal (c ∷ more)) cs h
+pub sized_none : (size : List ℕ) (signed : Bool) (base : Base) (cs : List ℕ) → 0 < length size → 64 < value_of bases.Decimal size → meaning size signed base cs ≡ None
+sized_none [] signed base cs l h = absurd (omega arith)
+sized_none (c ∷ more) signed base cs l h = size_none signed base (value_of bases.Decimal (c ∷ more)) cs h
 
 -- digits that 64 bits don't hold fit no width
 

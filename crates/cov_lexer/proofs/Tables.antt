@@ -1,11 +1,13 @@
 -- Tables of words and operators by their first byte.
-use Rattle.std.proofs.Common.{◌≡◌, ◌≢◌, ℕ, ◌+◌, ◌<◌, ◌≤◌, List, [], ◌∷◌, Bool, true, false, ◌&&◌, ◌||◌, ◌⊎◌, inl, inr, cond, not, nat_lt, eqb, Option, Some, None, length, take, drop, get_or, refl, sym, ◌∙◌, ap, subst, arith, drop-cons, length-take, length-drop}
+use Rattle.std.proofs.Common.{◌≡◌, ◌≢◌, ℕ, ◌+◌, ◌<◌, ◌≤◌, List, [], ◌∷◌, Bool, true, false, ◌&&◌, ◌||◌, ◌⊎◌, inl, inr, cond, not, nat_lt, nat_eq, eqb, Option, Some, None, length, take, drop, get_or, refl, sym, ◌∙◌, ap, subst, arith, drop-cons, length-take, length-drop}
 use lib.Pointwise.{pointwise}
 use Rattle.std.proofs.lemmas.Bool.{cases_Bool, eqb-true, ltb-true, and_parts, or_cases, and_left}
 use Rattle.std.proofs.lemmas.Grind.{common_steps}
 use Rattle.cov_lexer.specs.declared.token.TokenKind.{TokenKind}
+use Rattle.cov_lexer.specs.declared.token.TokenKind.TheVariants.{Operator}
+use Rattle.std.specs.List.{starts_with}
 use Rattle.cov_lexer.specs.Words.{keywords, is_keyword, is_one_of, begins_with, with_first}
-use Rattle.cov_lexer.specs.Operators.{Spelled, operators, stands, IsOneAt, first_standing, spelled_from}
+use Rattle.cov_lexer.specs.Operators.{Spelled, operators, stands, IsOneAt, first_standing, spelled_from, is_lone, has_it}
 use Rattle.cov_lexer.specs.Reading.{IsLongestOperator}
 
 abbrev pub among : ℕ → List ℕ → Bool
@@ -251,3 +253,20 @@ longest_operator text i s l h = record {
   more = (let m = first_longer text i s operators operators_longer h in omega arith);
   inside = stands_inside text i s.text (omega arith) (first_stands text i s operators h);
 }
+
+-- operators of one byte that no other begins with
+
+pub lone_from : (b : ℕ) → is_lone b ≡ true → spelled_from b operators ≡ has_it (b ∷ []) ∷ []
+unfolding operators
+lone_from b h = elim (or_cases _ (eqb b 36) h) [ inl k12 ↦ elim (or_cases _ (eqb b 63) k12) [ inl k11 ↦ elim (or_cases _ (eqb b 37) k11) [ inl k10 ↦ elim (or_cases _ (eqb b 47) k10) [ inl k9 ↦ elim (or_cases _ (eqb b 46) k9) [ inl k8 ↦ elim (or_cases _ (eqb b 59) k8) [ inl k7 ↦ elim (or_cases _ (eqb b 44) k7) [ inl k6 ↦ elim (or_cases _ (eqb b 125) k6) [ inl k5 ↦ elim (or_cases _ (eqb b 123) k5) [ inl k4 ↦ elim (or_cases _ (eqb b 93) k4) [ inl k3 ↦ elim (or_cases _ (eqb b 91) k3) [ inl k2 ↦ elim (or_cases _ (eqb b 41) k2) [ inl k1 ↦ subst (λ q. spelled_from q operators ≡ has_it (q ∷ []) ∷ []) (sym (eqb-true b 40 k1)) refl | inr e1 ↦ subst (λ q. spelled_from q operators ≡ has_it (q ∷ []) ∷ []) (sym (eqb-true b 41 e1)) refl ] | inr e2 ↦ subst (λ q. spelled_from q operators ≡ has_it (q ∷ []) ∷ []) (sym (eqb-true b 91 e2)) refl ] | inr e3 ↦ subst (λ q. spelled_from q operators ≡ has_it (q ∷ []) ∷ []) (sym (eqb-true b 93 e3)) refl ] | inr e4 ↦ subst (λ q. spelled_from q operators ≡ has_it (q ∷ []) ∷ []) (sym (eqb-true b 123 e4)) refl ] | inr e5 ↦ subst (λ q. spelled_from q operators ≡ has_it (q ∷ []) ∷ []) (sym (eqb-true b 125 e5)) refl ] | inr e6 ↦ subst (λ q. spelled_from q operators ≡ has_it (q ∷ []) ∷ []) (sym (eqb-true b 44 e6)) refl ] | inr e7 ↦ subst (λ q. spelled_from q operators ≡ has_it (q ∷ []) ∷ []) (sym (eqb-true b 59 e7)) refl ] | inr e8 ↦ subst (λ q. spelled_from q operators ≡ has_it (q ∷ []) ∷ []) (sym (eqb-true b 46 e8)) refl ] | inr e9 ↦ subst (λ q. spelled_from q operators ≡ has_it (q ∷ []) ∷ []) (sym (eqb-true b 47 e9)) refl ] | inr e10 ↦ subst (λ q. spelled_from q operators ≡ has_it (q ∷ []) ∷ []) (sym (eqb-true b 37 e10)) refl ] | inr e11 ↦ subst (λ q. spelled_from q operators ≡ has_it (q ∷ []) ∷ []) (sym (eqb-true b 63 e11)) refl ] | inr e12 ↦ subst (λ q. spelled_from q operators ≡ has_it (q ∷ []) ∷ []) (sym (eqb-true b 36 e12)) refl ]
+
+one_stands : (text : List ℕ) (i : ℕ) → i < length text → stands text i (get_or text i 0 ∷ []) ≡ true
+unfolding stands
+one_stands text i l = subst (λ xs. starts_with nat_eq xs (get_or text i 0 ∷ []) ≡ true) (sym (drop-cons text i 0 l)) (let r : eqb (get_or text i 0) (get_or text i 0) ≡ true = grind (arith, common_steps) in rw r refl)
+
+pub lone_stands : (text : List ℕ) (i : ℕ) → i < length text → is_lone (get_or text i 0) ≡ true → IsLongestOperator text i Operator (i + 1)
+lone_stands text i l h =
+    let b = get_or text i 0 in
+    let s : stands text i (b ∷ []) ≡ true = one_stands text i l in
+    let f : first_standing text i (spelled_from b operators) ≡ Some (has_it (b ∷ [])) = ap (λ ss. first_standing text i ss) (lone_from b h) ∙ rw s refl in
+    longest_operator text i (has_it (b ∷ [])) l (sym (standing_by_first text i operators l) ∙ f)

@@ -1,9 +1,12 @@
--- What an integer literal means, as a function of its text (IEEE 1800-2017, 5.7.1).
-use Rattle.std.specs.Prelude.{ℕ, ◌+◌, ◌-◌, ◌*◌, ◌^◌, List, [], ◌∷◌, Bool, true, false, not, ◌&&◌, ◌||◌, nat_eq, nat_le, nat_lt, cond, bit_or, count_by, find, position, take, drop, Option, Some, None}
+-- What an integer literal means, by its parts (IEEE 1800-2017, 5.7.1).
+use Rattle.std.specs.Prelude.{◌≡◌, ℕ, ◌+◌, ◌-◌, ◌*◌, ◌^◌, List, [], ◌∷◌, Bool, true, false, not, ◌&&◌, ◌||◌, ◌⊎◌, nat_eq, nat_le, nat_lt, cond, bit_or, count_by, find, take, drop, length, slice_index, Option, Some, None}
+use Rattle.std.specs.List.{prefix_len}
 use Rattle.cov_tree.specs.declared.literal.Literal.{Literal}
 use Rattle.cov_lexer.specs.declared.bytes.Base.{Base}
 use Rattle.cov_lexer.specs.declared.bytes.Base.TheVariants.{Binary, Octal, Decimal, Hexadecimal}
-use Rattle.cov_lexer.specs.Bytes.{is_unknown, is_apostrophe, is_sign, is_digit}
+use Rattle.cov_lexer.specs.Bytes.{is_unknown, is_apostrophe, is_sign, is_digit, is_number, is_space, is_base, is_base_digit, is_base_more}
+use Rattle.cov_lexer.specs.declared.token.TokenKind.TheVariants.{Based, Decimal as Number}
+use Rattle.cov_lexer.specs.Forms.{Part, One, Many, Fits, decimal, digits as digits_in, Item, Spells}
 
 -- how many bits a digit stands for; none of its own where the base is ten
 abbrev pub digit_bits : Base → ℕ
@@ -26,9 +29,9 @@ digit_value c = cond (is_digit c) (c - 48) (cond (nat_le 97 c && nat_le c 102) (
 abbrev pub digit_free : Base → ℕ → ℕ
 digit_free base c = cond (is_unknown c) (2 ^ digit_bits base - 1) 0
 
--- spaces and underscores among the digits stand for nothing
+-- an underscore among the digits stands for nothing
 abbrev pub is_gap : ℕ → Bool
-is_gap c = nat_eq c 32 || nat_eq c 95
+is_gap c = nat_eq c 95
 
 -- the number that digits spell, read on from n, where each digit has this value
 abbrev pub number_from : ℕ → (ℕ → ℕ) → ℕ → List ℕ → ℕ
@@ -55,6 +58,7 @@ above base width digits =
 abbrev pub fits_width : Base → ℕ → List ℕ → Bool
 fits_width base width digits = nat_lt (value_of base digits) (2 ^ width) && nat_lt (free_of base digits) (2 ^ width)
 
+-- a based literal of this width; none where its digits don't fit it
 abbrev pub made : Bool → Bool → Base → ℕ → List ℕ → Option Literal
 made sized signed base width digits =
     cond (fits_width base width digits)
@@ -69,9 +73,11 @@ natural_width base digits = cond (fits_width base 32 digits) 32 64
 abbrev pub of_size : Bool → Base → ℕ → List ℕ → Option Literal
 of_size signed base size digits = cond (nat_lt 0 size && nat_le size 64) (made true signed base size digits) None
 
-abbrev pub sized_literal : Bool → Base → List ℕ → List ℕ → Option Literal
-sized_literal signed base [] digits = made false signed base (natural_width base digits) digits
-sized_literal signed base (c ∷ cs) digits = of_size signed base (value_of Decimal (c ∷ cs)) digits
+-- the meaning of a based literal: of the digits of its size (none where it has no size), whether it is signed, its base and
+-- its digits; None where it is too wide
+abbrev pub meaning : (size : List ℕ) → (signed : Bool) → Base → (digits : List ℕ) → Option Literal
+meaning [] signed base digits = made false signed base (natural_width base digits) digits
+meaning (c ∷ cs) signed base digits = of_size signed base (value_of Decimal (c ∷ cs)) digits
 
 abbrev pub base_of : ℕ → Option Base
 base_of c =
@@ -80,30 +86,81 @@ base_of c =
     (cond (nat_eq c 100 || nat_eq c 68) (Some Decimal)
     (cond (nat_eq c 104 || nat_eq c 72) (Some Hexadecimal) None)))
 
-abbrev pub in_base : Bool → Option Base → List ℕ → List ℕ → Option Literal
-in_base signed None size digits = None
-in_base signed (Some base) size digits = sized_literal signed base size digits
-
--- what stands behind the apostrophe, `s` taken away: the base letter and the digits
-abbrev pub marked : Bool → List ℕ → List ℕ → Option Literal
-marked signed size [] = None
-marked signed size (c ∷ digits) = in_base signed (base_of c) size digits
-
--- what stands behind the apostrophe
-abbrev pub based_literal : List ℕ → List ℕ → Option Literal
-based_literal size [] = None
-based_literal size (c ∷ cs) = cond (is_sign c) (marked true size cs) (marked false size (c ∷ cs))
-
 abbrev pub plain : ℕ → ℕ → Literal
 plain width value = record { width = width; sized = false; signed = true; bits = value; free = 0 }
 
+-- the meaning of a decimal literal of this value
 abbrev pub decimal_literal : ℕ → Option Literal
 decimal_literal value = cond (nat_lt value (2 ^ 31)) (Some (plain 32 value)) (cond (nat_lt value (2 ^ 63)) (Some (plain 64 value)) None)
 
-abbrev pub literal_at : List ℕ → Option ℕ → Option Literal
-literal_at text None = decimal_literal (value_of Decimal text)
-literal_at text (Some p) = based_literal (take p text) (drop (p + 1) text)
+-- where the parts of a literal stand
 
--- the meaning of a decimal or based literal with this text; None where it is too wide
+abbrev pub spaces : List Part
+spaces = Many is_space ∷ []
+
+-- these are the digits of a size whose literal has its apostrophe at i, or there is no size
+abbrev pub IsSize : List ℕ → List ℕ → ℕ → Type 0
+IsSize text size i =
+    ((size ≡ []) × (i ≡ 0))
+    ⊎ ((n : ℕ) × Fits text decimal 0 n × Fits text spaces n i × (size ≡ take n text))
+
+-- the apostrophe, and an `s` where the literal is signed
+abbrev pub marks : Bool → List Part
+marks true = One is_apostrophe ∷ One is_sign ∷ []
+marks false = One is_apostrophe ∷ []
+
+-- the text is a based literal of these parts, by the forms of the lexer
+pub record IsBased (text : List ℕ) (size : List ℕ) (signed : Bool) (base : Base) (digits : List ℕ) : Type 0 where
+  pub apostrophe : ℕ
+  pub letter : ℕ
+  pub first : ℕ
+  pub sized : IsSize text size apostrophe
+  pub marked : Fits text (marks signed) apostrophe letter
+  pub in_base : Fits text (One (is_base base) ∷ spaces) letter first
+  pub spelled : Fits text (digits_in base) first (length text)
+  pub are : digits ≡ drop first text
+
+-- the text is a decimal literal
+abbrev pub IsDecimal : List ℕ → Type 0
+IsDecimal text = Fits text decimal 0 (length text)
+
+abbrev pub IsLiteral : List ℕ → Type 0
+IsLiteral text = IsDecimal text ⊎ ((size : _) × (signed : _) × (base : _) × (digits : _) × IsBased text size signed base digits)
+
+-- the lexer finds a literal from i up to j
+abbrev pub IsNumber : List ℕ → ℕ → ℕ → Type 0
+IsNumber text i j = Spells text i (Item Number) j ⊎ Spells text i (Item Based) j
+
+-- the meaning of a text, which is read from its front
+
+-- where the bytes end that pass the test, from i on
+abbrev pub run_to : (ℕ → Bool) → List ℕ → ℕ → ℕ
+run_to p text i = i + prefix_len p (drop i text)
+
+-- the digits of the base are all that stands from i on
+abbrev pub are_digits : Base → List ℕ → ℕ → Bool
+are_digits base text i = is_base_digit base (slice_index text i) && nat_eq (run_to (is_base_more base) text (i + 1)) (length text)
+
+abbrev pub in_base : List ℕ → List ℕ → Bool → Option Base → ℕ → Option Literal
+in_base text size signed None i = None
+in_base text size signed (Some base) i = cond (are_digits base text i) (meaning size signed base (drop i text)) None
+
+-- the letter of the base stands at i
+abbrev pub lettered : List ℕ → List ℕ → Bool → ℕ → Option Literal
+lettered text size signed i = in_base text size signed (base_of (slice_index text i)) (run_to is_space text (i + 1))
+
+-- the apostrophe stands at i
+abbrev pub based_literal : List ℕ → List ℕ → ℕ → Option Literal
+based_literal text size i =
+    cond (is_apostrophe (slice_index text i))
+    (cond (is_sign (slice_index text (i + 1))) (lettered text size true (i + 2)) (lettered text size false (i + 1)))
+    None
+
+-- the decimal digits at the front end at n
+abbrev pub numbered : List ℕ → ℕ → Option Literal
+numbered text n =
+    cond (nat_eq n (length text)) (decimal_literal (value_of Decimal text)) (based_literal text (take n text) (run_to is_space text n))
+
+-- the meaning of a decimal or based literal with this text; None where it is too wide, and where the text is no literal
 unfoldable pub literal_of : List ℕ → Option Literal
-literal_of text = literal_at text (position is_apostrophe text)
+literal_of text = cond (is_digit (slice_index text 0)) (numbered text (run_to is_number text 1)) (based_literal text [] 0)

@@ -1,5 +1,5 @@
 -- The operators.
-use Rattle.std.specs.Prelude.{◌≡◌, ℕ, ◌+◌, List, [], ◌∷◌, Bool, true, codes, nat_eq, cond, drop, length, ◌⊎◌, Option, Some, None}
+use Rattle.std.specs.Prelude.{◌≡◌, ℕ, ◌+◌, List, [], ◌∷◌, Bool, true, ◌||◌, codes, nat_eq, cond, drop, length, ◌⊎◌, Option, Some, None}
 use Rattle.std.specs.List.{starts_with}
 use Rattle.cov_lexer.specs.declared.token.TokenKind.{TokenKind}
 use Rattle.cov_lexer.specs.declared.token.TokenKind.TheVariants.{Operator, NotSupported}
@@ -50,3 +50,8 @@ first_standing text i (s ∷ ss) = cond (stands text i s.text) (Some s) (first_s
 abbrev pub spelled_from : ℕ → List Spelled → List Spelled
 spelled_from b [] = []
 spelled_from b (s ∷ ss) = cond (begins_with b s.text) (s ∷ spelled_from b ss) (spelled_from b ss)
+
+-- no other operator begins with this byte, which is an operator by itself
+abbrev pub is_lone : ℕ → Bool
+is_lone b =
+    nat_eq b 40 || nat_eq b 41 || nat_eq b 91 || nat_eq b 93 || nat_eq b 123 || nat_eq b 125 || nat_eq b 44 || nat_eq b 59 || nat_eq b 46 || nat_eq b 47 || nat_eq b 37 || nat_eq b 63 || nat_eq b 36

@@ -1,10 +1,10 @@
 //! What an integer literal means.
-ghost use Rattle.std.specs.Prelude.{◌≡◌, ◌≤◌, ◌⊎◌, ◌^◌, ◌*◌, ◌+◌, ◌&&◌, MatchOption, IfSome, IfNone, find, position, not, count_by, nat_lt, false};
+ghost use Rattle.std.specs.Prelude.{◌≡◌, ◌≤◌, ◌⊎◌, ◌^◌, ◌*◌, ◌+◌, ◌&&◌, MatchOption, IfSome, IfNone, None, find, not, count_by, nat_lt, false, length, slice_range, ℕ};
 ghost use Rattle.cov_lexer.specs.declared.bytes.Base.TheVariants.{Decimal};
-ghost use Rattle.cov_lexer.specs.Bytes.{is_apostrophe};
-ghost use Rattle.cov_lexer.specs.Literals.{digit_value, digit_free, is_gap, natural_width, value_of, free_of, above, made, sized_literal, marked, based_literal, decimal_literal, literal_of, leads_unknown};
+ghost use Rattle.cov_lexer.specs.Literals.{digit_value, digit_free, is_gap, natural_width, value_of, free_of, above, made, meaning, lettered, based_literal, decimal_literal, literal_of, leads_unknown, IsDecimal, IsBased, IsLiteral, IsNumber};
 
-use crate::bytes::{Base, is_sign, is_unknown};
+use crate::bytes::{Base, Class, is_digit, is_sign, is_unknown};
+use crate::runs::{byte_at, run_end};
 use cov_tree::Literal;
 
 /// The digits of a literal as bits.
@@ -18,25 +18,34 @@ struct Digits {
 
 /// The meaning of a decimal or based literal with this text (IEEE 1800-2017, 5.7.1).
 ///
-/// None where the literal is too wide: its size is outside 1 to 64, or a bit of its digits is outside its width.
-/// Of a text that is no literal nothing useful is said.
+/// None where the literal is too wide: its size is outside 1 to 64, or a bit of its digits is outside its width. None too where
+/// the text is no literal.
 pub fn literal(text: &[u8]) -> Option<Literal>
+    ensures is { result ≡ literal_of text.now }
+    ensures decimal { IsDecimal text.now → result ≡ decimal_literal (value_of Decimal text.now) }
+    ensures based { (size : _) (signed : _) (base : _) (digits : _) → IsBased text.now size signed base digits → result ≡ meaning size signed base digits }
+    ensures found { (whole : _) (i : ℕ) (j : ℕ) → IsNumber whole i j → text.now ≡ slice_range whole i j → IsLiteral text.now }
+    ensures none { (IsLiteral text.now → ⊥) → result ≡ None }
+{
+    from_front(text)
+}
+
+/// The same, read from its front.
+fn from_front(text: &[u8]) -> Option<Literal>
     ensures { result ≡ literal_of text.now }
 {
-    match apostrophe(text) {
-        Some(place) => based_literal(&text[..place], &text[place + 1..]),
-        None => decimal_literal(text),
+    if !is_digit(byte_at(text, 0)) {
+        return based_literal(text, &[], 0);
     }
+    let end = run_end(text, 1, Class::Number);
+    if end == text.len() {
+        return decimal_literal(text);
+    }
+    let apostrophe = run_end(text, end, Class::Space);
+    based_literal(text, &text[..end], apostrophe)
 }
 
-/// Where the first apostrophe stands.
-fn apostrophe(text: &[u8]) -> Option<usize>
-    ensures { result ≡ position is_apostrophe text.now }
-{
-    text.iter().position(|byte| *byte == b'\'')
-}
-
-/// A literal without apostrophe: signed, of 32 bits where they hold it, else of 64.
+/// A decimal literal: signed, of 32 bits where they hold it, else of 64.
 fn decimal_literal(text: &[u8]) -> Option<Literal>
     ensures { result ≡ decimal_literal (value_of Decimal text.now) }
 {
@@ -57,29 +66,42 @@ fn decimal_literal(text: &[u8]) -> Option<Literal>
     })
 }
 
-/// A literal of what stands before the apostrophe and behind it.
-fn based_literal(size: &[u8], rest: &[u8]) -> Option<Literal>
-    ensures { result ≡ based_literal size.now rest.now }
+/// A literal of its size, and of the apostrophe at this place with what follows it.
+fn based_literal(text: &[u8], size: &[u8], at: usize) -> Option<Literal>
+    requires { at ≤ length text.now }
+    ensures { result ≡ based_literal text.now size.now at }
 {
-    let first = rest.first()?;
-    if is_sign(*first) {
-        marked_literal(true, size, &rest[1..])
+    if byte_at(text, at) != b'\'' {
+        return None;
+    }
+    if is_sign(byte_at(text, at + 1)) {
+        lettered(text, size, true, at + 2)
     } else {
-        marked_literal(false, size, rest)
+        lettered(text, size, false, at + 1)
     }
 }
 
-/// A literal of its size, and of the base letter with what follows it.
-fn marked_literal(signed: bool, size: &[u8], rest: &[u8]) -> Option<Literal>
-    ensures { result ≡ marked signed size.now rest.now }
+/// A literal of its size, and of the base letter at this place with what follows it.
+fn lettered(text: &[u8], size: &[u8], signed: bool, at: usize) -> Option<Literal>
+    requires { at ≤ length text.now }
+    ensures { result ≡ lettered text.now size.now signed at }
 {
-    let base = Base::of(*rest.first()?)?;
-    sized_literal(signed, base, size, &rest[1..])
+    let Some(base) = Base::of(byte_at(text, at)) else {
+        return None;
+    };
+    let first = run_end(text, at + 1, Class::Space);
+    if !base.is_digit(byte_at(text, first)) {
+        return None;
+    }
+    if run_end(text, first + 1, Class::Digits(base)) != text.len() {
+        return None;
+    }
+    meaning(size, signed, base, &text[first..])
 }
 
-/// A literal of its size, its base and its digits.
-fn sized_literal(signed: bool, base: Base, size: &[u8], digits: &[u8]) -> Option<Literal>
-    ensures { result ≡ sized_literal signed base size.now digits.now }
+/// The meaning of a based literal of these parts; it has no size where there are no digits of one.
+fn meaning(size: &[u8], signed: bool, base: Base, digits: &[u8]) -> Option<Literal>
+    ensures { result ≡ meaning size.now signed base digits.now }
 {
     if size.is_empty() {
         return unsized_literal(signed, base, digits);
@@ -182,11 +204,11 @@ fn leads_unknown(digits: &[u8]) -> bool
     false
 }
 
-/// A space or an underscore, which stands for nothing among digits.
+/// An underscore, which stands for nothing among digits.
 fn is_gap(byte: u8) -> bool
     ensures { result ≡ is_gap byte }
 {
-    byte == b' ' || byte == b'_'
+    byte == b'_'
 }
 
 /// The value of a digit, 0 for an unknown one.

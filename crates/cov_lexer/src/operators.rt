@@ -1,6 +1,6 @@
 //! Operators.
 ghost use Rattle.std.specs.Prelude.{◌≡◌, ◌<◌, ◌≤◌, map, length, option_map};
-ghost use Rattle.cov_lexer.specs.Operators.{spelled_from, operators, first_standing};
+ghost use Rattle.cov_lexer.specs.Operators.{spelled_from, operators, first_standing, is_lone};
 ghost use Rattle.cov_lexer.specs.Reading.{seen, OperatorAt};
 
 use crate::runs::stands;
@@ -329,12 +329,26 @@ fn first_standing(text: &[u8], at: usize, table: &[Spelling]) -> Option<Spelling
     None
 }
 
+/// Whether no other operator begins with this byte, which is an operator by itself.
+fn is_lone(byte: u8) -> bool
+    ensures { result ≡ is_lone byte }
+{
+    matches!(
+        byte,
+        b'(' | b')' | b'[' | b']' | b'{' | b'}' | b',' | b';' | b'.' | b'/' | b'%' | b'?' | b'$'
+    )
+}
+
 /// The longest operator at this place: its kind, and where it ends.
 pub(crate) fn operator_at(text: &[u8], at: usize) -> Option<(TokenKind, usize)>
     requires { at < length text.now }
     ensures { OperatorAt text.now at result }
 {
-    let Some(spelling) = first_standing(text, at, operators_from(text[at])) else {
+    let first = text[at];
+    if is_lone(first) {
+        return Some((TokenKind::Operator, at + 1));
+    }
+    let Some(spelling) = first_standing(text, at, operators_from(first)) else {
         return None;
     };
     Some((spelling.kind, at + spelling.text.len()))

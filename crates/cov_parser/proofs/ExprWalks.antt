@@ -1,5 +1,6 @@
 -- Where a reader of expressions stands, from one part of a rule to the next.
-use Rattle.std.proofs.Common.{◌≡◌, ℕ, suc, ◌+◌, ◌-◌, ◌<◌, List, [], ◌∷◌, ◌++◌, Option, Some, None, Result, IfSome, IfNone, true, false, length, refl, sym, ◌∙◌, subst, arith, append-nil}
+use Rattle.std.proofs.Common.{◌≡◌, ℕ, zero, suc, ◌+◌, ◌-◌, ◌<◌, ◌≤◌, List, [], ◌∷◌, ◌++◌, Option, Some, None, Result, IfSome, IfNone, true, false, inl, inr, length, refl, sym, ◌∙◌, subst, arith, append-nil}
+use Rattle.std.proofs.lemmas.Bool.{cases_lt}
 use Rattle.cov_tree.specs.declared.expr.Expr.{Expr}
 use Rattle.cov_tree.specs.Exprs.{number, concatenation, choice}
 use Rattle.cov_lexer.specs.Literals.{literal_of}
@@ -213,13 +214,30 @@ module _ (text : List ℕ) (ts : List Marked) (s : Standing) where
       IfNone f (In ts p.at ks → ⊥) → Reads (λ r. binary_in text ts r.operators s (inner text ts s r) level) d o left p
   found_none below level ks same left {p = p} f is l n = joins_ends below level ks same left l (subst (λ (f : Option (Marked × Place)). IfNone f (In ts p.at ks → ⊥)) is n)
 
-  pub no_level : (d : Room) (p : Place) (level : ℕ) (r : Result (Expr × Place) Stop) → level ≡ 0 → Parses (λ r. unary_in text ts s (inner text ts s r)) d p r →
-      Parses (λ r. binary_in text ts r.operators s (inner text ts s r) level) d p r
+  pub operand_fails : {d : Room} {p : Place} {e : Stop} → Fails (λ r. unary_in text ts s (inner text ts s r)) d p e → Fails (λ r. binary_in text ts r.operators s (inner text ts s r) 0) d p e
   unfolding binary_in
-  no_level d p level r e h = subst (λ n. Parses (λ r. binary_in text ts r.operators s (inner text ts s r) n) d p r) (sym e) h
+  operand_fails f = f
 
-  pub level_below : (level : ℕ) → (level ≡ 0 → ⊥) → suc (level - 1) ≡ level
-  level_below level h = omega arith
+  -- no operator of the levels between stands behind it
+  pub climbs : (n m : ℕ) → n ≤ m → {d : Room} {p : Place} {t : Expr} {q : Place} → ((l : ℕ) → n ≤ l → l < m → In ts q.at (level_kinds l) → ⊥) →
+      Reads (λ r. binary_in text ts r.operators s (inner text ts s r) n) d p t q → Reads (λ r. binary_in text ts r.operators s (inner text ts s r) m) d p t q
+  climbs n zero h {d = d} {p = p} {t = t} {q = q} none r = let e : n ≡ zero = omega arith in subst (λ k. Reads (λ r. binary_in text ts r.operators s (inner text ts s r) k) d p t q) e r
+  climbs n (suc m) h {d = d} {p = p} {t = t} {q = q} none r = elim (cases_lt m n) [
+    | inl l ↦ (let e : n ≡ suc m = omega arith in subst (λ k. Reads (λ r. binary_in text ts r.operators s (inner text ts s r) k) d p t q) e r)
+    | inr l ↦ joins_ends m (suc m) (level_kinds m) refl t (joins_first m (suc m) refl (climbs n m l (λ k a b. none k a (omega arith)) r)) (none m l (omega arith))
+  ]
+
+  pub climbs_fails : (n m : ℕ) → n ≤ m → {d : Room} {p : Place} {e : Stop} →
+      Fails (λ r. binary_in text ts r.operators s (inner text ts s r) n) d p e → Fails (λ r. binary_in text ts r.operators s (inner text ts s r) m) d p e
+  climbs_fails n zero h {d = d} {p = p} {e = x} f = let e : n ≡ zero = omega arith in subst (λ k. Fails (λ r. binary_in text ts r.operators s (inner text ts s r) k) d p x) e f
+  climbs_fails n (suc m) h {d = d} {p = p} {e = x} f = elim (cases_lt m n) [
+    | inl l ↦ (let e : n ≡ suc m = omega arith in subst (λ k. Fails (λ r. binary_in text ts r.operators s (inner text ts s r) k) d p x) e f)
+    | inr l ↦ binary_fails m (climbs_fails n m l f)
+  ]
+
+  pub operand : {d : Room} {p : Place} {t : Expr} {q : Place} → Reads (λ r. unary_in text ts s (inner text ts s r)) d p t q → Reads (λ r. binary_in text ts r.operators s (inner text ts s r) 0) d p t q
+  unfolding binary_in
+  operand r = r
 
   -- signed | primary
   sign_lawful : Lawful ts (λ r. both before_one (one ts unary_kinds) (unary_in text ts s (inner text ts s r)))

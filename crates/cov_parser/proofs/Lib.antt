@@ -1,5 +1,6 @@
 mod SpellingTables
 pub mod Walks
+pub mod Operating
 pub mod ExprWalks
 pub mod Chains
 pub mod BinsWalks

@@ -1,3 +1,4 @@
 pub mod Spelled
 pub mod Parse
 pub mod Told
+pub mod Operating

@@ -10,7 +10,7 @@ ghost use Rattle.cov_tree.specs.Exprs.{number, concatenation, choice, unary};
 ghost use Rattle.cov_lexer.specs.Literals.{literal_of};
 
 use crate::held::{Held, add, alone};
-use crate::operators::{LEVELS, UNARY, binary_op, operators, unary_op};
+use crate::operators::{LEVELS, UNARY, binary_op, next_level, operator_at, operators, unary_op};
 use crate::reader::{name_of, number_of, operator, start_at, take, word};
 use cov_grammar::{Kind, Marked, Place, Room, Standing, Stop};
 use cov_tree::{BinOp, Boxed, Expr, List, Memory, UnOp};
@@ -82,16 +82,16 @@ fn binary(
 ) -> Result<(Held<Expr>, Place), Stop>
     ensures { Parses (λ r. binary_in text.now tokens.now r.operators standing (inner_at text.now tokens.now r.operators standing r.levels) level) room place result }
 {
-    if level == 0 {
-        return unary(alloc, text, tokens, place, room, standing);
-    }
-    let below = level - 1;
-    let kinds = operators(below);
-    let (mut left, mut at) = binary(alloc, text, tokens, place, room, standing, below)?;
-    while let Some((op, next)) = operator(tokens, at, room, kinds)? {
-        let (right, after) = binary(alloc, text, tokens, next, room, standing, below)?;
-        left = joined(alloc, op, left, right)?;
-        at = after;
+    let (mut left, mut at) = unary(alloc, text, tokens, place, room, standing)?;
+    let mut done = 0;
+    while let Some(below) = next_level(tokens, at.at, done, level) {
+        let kinds = operators(below);
+        while let Some((op, next)) = operator(tokens, at, room, kinds)? {
+            let (right, after) = binary(alloc, text, tokens, next, room, standing, below)?;
+            left = joined(alloc, op, left, right)?;
+            at = after;
+        }
+        done = below + 1;
     }
     Ok((left, at))
 }
@@ -108,6 +108,9 @@ fn unary(
 ) -> Result<(Held<Expr>, Place), Stop>
     ensures { Parses (λ r. unary_in text.now tokens.now standing (inner_at text.now tokens.now r.operators standing r.levels)) room place result }
 {
+    let Some(_) = operator_at(tokens, place.at) else {
+        return primary(alloc, text, tokens, place, room, standing);
+    };
     let Some((op, next)) = take(tokens, place, &UNARY) else {
         return primary(alloc, text, tokens, place, room, standing);
     };

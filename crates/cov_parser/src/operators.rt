@@ -1,8 +1,11 @@
 //! The operators of expressions (IEEE 1800-2017, 11.3.2).
-ghost use Rattle.std.specs.Prelude.{◌≡◌};
+ghost use Rattle.std.specs.Prelude.{◌≡◌, ◌≤◌, ◌<◌, ℕ, true, false, IfSome, IfNone};
+ghost use Rattle.cov_grammar.specs.Kinds.{code, has};
+ghost use Rattle.cov_grammar.specs.Rule.{In};
 ghost use Rattle.cov_grammar.specs.Operators.{level_kinds, unary_of, binary_of};
+ghost use Rattle.cov_parser.specs.Operating.{AllOperate, KindAt};
 
-use cov_grammar::Kind;
+use cov_grammar::{Kind, Marked};
 use cov_tree::{BinOp, UnOp};
 
 /// How many levels of operators between two operands there are.
@@ -49,6 +52,55 @@ pub(crate) fn operators(level: usize) -> &'static [Kind]
         9 => &[Kind::OrOr],
         _ => &[],
     }
+}
+
+fn code(kind: Kind) -> u8
+    ensures { result ≡ code kind }
+{
+    kind as u8
+}
+
+/// Whether it may be an operator of an expression. These stand side by side among the kinds.
+fn operates(kind: Kind) -> bool
+    ensures { (kinds : _) → AllOperate kinds → has kind kinds ≡ true → result ≡ true }
+{
+    let found = code(kind);
+    code(Kind::PlusSign) <= found && found <= code(Kind::SignedRight)
+}
+
+/// The kind of the token at this place, where it may be an operator.
+pub(crate) fn operator_at(tokens: &[Marked], at: usize) -> Option<Kind>
+    ensures some { IfSome result (λ kind. KindAt tokens.now at kind) }
+    ensures none { IfNone result ((kinds : _) → AllOperate kinds → In tokens.now at kinds → ⊥) }
+{
+    if at >= tokens.len() {
+        return None;
+    }
+    let kind = tokens[at].kind;
+    if !operates(kind) {
+        return None;
+    }
+    Some(kind)
+}
+
+/// The first of these levels whose operators have the token at this place.
+pub(crate) fn next_level(tokens: &[Marked], at: usize, start: usize, end: usize) -> Option<usize>
+    ensures inside { IfSome result (λ level. start ≤ level) }
+    ensures below { IfSome result (λ level. level < end) }
+    ensures before { IfSome result (λ level. (l : ℕ) → start ≤ l → l < level → In tokens.now at (level_kinds l) → ⊥) }
+    ensures none { IfNone result ((l : ℕ) → start ≤ l → l < end → In tokens.now at (level_kinds l) → ⊥) }
+{
+    let Some(kind) = operator_at(tokens, at) else {
+        return None;
+    };
+    let mut level = start;
+    while level < end {
+        if kind.is_one_of(operators(level)) {
+            return Some(level);
+        }
+        level += 1;
+    }
+    None
 }
 
 pub(crate) fn unary_op(kind: Kind) -> UnOp

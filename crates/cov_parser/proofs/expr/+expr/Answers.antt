@@ -1,4 +1,4 @@
-use Rattle.std.proofs.Common.{◌-◌, arith, refl}
+use Rattle.std.proofs.Common.{◌-◌, ◌+◌, ◌≤◌, arith, refl}
 use Rattle.cov_grammar.specs.declared.kind.Kind.TheVariants.{CloseParen, CloseSquare, CloseBrace, Colon}
 use Rattle.cov_grammar.specs.declared.place.Standing.TheVariants.{Plain}
 use Rattle.cov_grammar.specs.Expressions.{pair}
@@ -6,40 +6,47 @@ use Rattle.cov_grammar.proofs.Lawful.{lawful_word, lawful_maybe}
 use Rattle.cov_grammar.proofs.Compose.{both_reads, both_fails, both_then_fails}
 use Rattle.cov_grammar.proofs.Steps.{exits, step, ends, leads_parses}
 use Rattle.cov_grammar.proofs.ExprLaws.{part_expr_lawful}
-use Rattle.cov_parser.proofs.ExprWalks.{no_level, level_below, joins_first, joins_fails, joins_sinks, found_next, found_breaks, found_falls, found_none, unsigned, signed, no_room_to_sign, number_read, name_read, no_primary, opened, no_room_to_open, braced, no_room_to_brace, no_index, bracketed, no_room_to_index, no_colon, colon_leads, colon_lawful, list_starts, list_fails, list_next, list_breaks, list_ends, list_falls, list_lawful, test_fails, no_branches, asked, no_room_to_ask, no_lawful, ends_lawful}
+use Rattle.cov_parser.proofs.ExprWalks.{climbs, climbs_fails, operand, operand_fails, joins_first, joins_sinks, found_next, found_breaks, found_falls, found_none, unsigned, signed, no_room_to_sign, number_read, name_read, no_primary, opened, no_room_to_open, braced, no_room_to_brace, no_index, bracketed, no_room_to_index, no_colon, colon_leads, colon_lawful, list_starts, list_fails, list_next, list_breaks, list_ends, list_falls, list_lawful, test_fails, no_branches, asked, no_room_to_ask, no_lawful, ends_lawful}
+use Rattle.cov_grammar.specs.Operators.{unary_kinds}
+use Rattle.cov_parser.proofs.Operating.{unary_operate}
 use Rattle.cov_parser.proofs.expr.+expr.Goals as goal
-
-pub binary-returns-then-level-eq0 : goal.binary-returns-then-level-eq0
-binary-returns-then-level-eq0 t c =
-    no_level c.args.text.now c.args.tokens.now c.args.standing _ _ c.args.level _ c.if-level-eq0.true c.unary.ensures
 
 pub binary-returns-in_err-left : goal.binary-returns-in_err-left
 binary-returns-in_err-left t c =
-    exits _ _ _ _ _ c.from_residual.ensures.1 (joins_fails c.args.text.now c.args.tokens.now c.args.standing _ _ (level_below c.args.text.now c.args.tokens.now c.args.standing c.args.level c.if-level-eq0.false) c.in_err-left.ensures)
+    exits _ _ _ _ _ c.from_residual.ensures.1 (climbs_fails c.args.text.now c.args.tokens.now c.args.standing 0 c.args.level (omega arith) (operand_fails c.args.text.now c.args.tokens.now c.args.standing c.in_err-left.ensures))
+
+pub binary-loop-below-init : goal.binary-loop-below-init
+binary-loop-below-init t c = record { within = omega arith; reads = operand c.args.text.now c.args.tokens.now c.args.standing c.in_ok-left.ensures }
 
 pub binary-loop-op-init : goal.binary-loop-op-init
 binary-loop-op-init t c =
-    joins_first c.args.text.now c.args.tokens.now c.args.standing _ _ (level_below c.args.text.now c.args.tokens.now c.args.standing c.args.level c.if-level-eq0.false) c.in_ok-left.ensures
+    joins_first c.args.text.now c.args.tokens.now c.args.standing _ _ (omega arith) (climbs c.args.text.now c.args.tokens.now c.args.standing c.loop-below.done c.in-Some.below c.in-Some.ensures.inside c.in-Some.ensures.before c.loop-below.invariant.reads)
 
 pub binary-returns-in_err-op : goal.binary-returns-in_err-op
 binary-returns-in_err-op t c =
-    exits _ _ _ _ _ c.from_residual-in_err-op.ensures.1 (joins_sinks c.args.text.now c.args.tokens.now c.args.standing _ _ _ c.operators-kinds.ensures _ _ c.loop-op.invariant c.in_err-op.ensures.too_many c.in_err-op.ensures.full)
+    exits _ _ _ _ _ c.from_residual-in_err-op.ensures.1 (climbs_fails c.args.text.now c.args.tokens.now c.args.standing (c.in-Some.below + 1) c.args.level (let l = c.in-Some.ensures.below in omega arith) (joins_sinks c.args.text.now c.args.tokens.now c.args.standing _ _ _ c.operators-kinds.ensures _ _ c.loop-op.invariant c.in_err-op.ensures.too_many c.in_err-op.ensures.full))
 
 pub binary-returns-in_err-right : goal.binary-returns-in_err-right
 binary-returns-in_err-right t c =
-    exits _ _ _ _ _ c.from_residual-in_err-right.ensures.1 (found_breaks c.args.text.now c.args.tokens.now c.args.standing _ _ _ c.operators-kinds.ensures _ _ _ _ c.in-Some.is c.loop-op.invariant c.in_ok-op.ensures.some c.in_ok-op.ensures.behind c.in_err-right.ensures)
+    exits _ _ _ _ _ c.from_residual-in_err-right.ensures.1 (climbs_fails c.args.text.now c.args.tokens.now c.args.standing (c.in-Some.below + 1) c.args.level (let l = c.in-Some.ensures.below in omega arith) (found_breaks c.args.text.now c.args.tokens.now c.args.standing _ _ _ c.operators-kinds.ensures _ _ _ _ c.in-Some-2.is c.loop-op.invariant c.in_ok-op.ensures.some c.in_ok-op.ensures.behind c.in_err-right.ensures))
 
 pub binary-loop-op-smaller : goal.binary-loop-op-smaller
 binary-loop-op-smaller t c =
-    found_falls c.args.text.now c.args.tokens.now c.args.standing _ c.loop-op.at _ _ _ c.in-Some.is c.in_ok-op.ensures.behind c.in_ok-op.ensures.inside c.in_ok-right.ensures
+    found_falls c.args.text.now c.args.tokens.now c.args.standing _ c.loop-op.at _ _ _ c.in-Some-2.is c.in_ok-op.ensures.behind c.in_ok-op.ensures.inside c.in_ok-right.ensures
 
 pub binary-loop-op-preserved : goal.binary-loop-op-preserved
 binary-loop-op-preserved t c =
-    rw c.in_ok-left-2.ensures (found_next c.args.text.now c.args.tokens.now c.args.standing _ _ _ c.operators-kinds.ensures _ _ _ _ c.in-Some.is c.loop-op.invariant c.in_ok-op.ensures.some c.in_ok-right.ensures)
+    rw c.in_ok-left-2.ensures (found_next c.args.text.now c.args.tokens.now c.args.standing _ _ _ c.operators-kinds.ensures _ _ _ _ c.in-Some-2.is c.loop-op.invariant c.in_ok-op.ensures.some c.in_ok-right.ensures)
+
+pub binary-loop-below-preserved : goal.binary-loop-below-preserved
+binary-loop-below-preserved t c = record {
+  within = (let l = c.in-Some.ensures.below in omega arith);
+  reads = found_none c.args.text.now c.args.tokens.now c.args.standing _ _ _ c.operators-kinds.ensures _ _ c.in_default-2.is c.loop-op.invariant c.in_ok-op.ensures.none;
+}
 
 pub binary-returns : goal.binary-returns
 binary-returns t c =
-    found_none c.args.text.now c.args.tokens.now c.args.standing _ _ _ c.operators-kinds.ensures _ _ c.in_default.is c.loop-op.invariant c.in_ok-op.ensures.none
+    climbs c.args.text.now c.args.tokens.now c.args.standing c.loop-below.done c.args.level c.loop-below.invariant.within c.in_default.ensures.none c.loop-below.invariant.reads
 
 pub index-returns-in_default : goal.index-returns-in_default
 index-returns-in_default t c = rw c.of.ensures (no_index c.args.text.now c.args.tokens.now c.args.standing _ c.index_kinds.ensures c.in_default.ensures.none)
@@ -170,16 +177,20 @@ second_end-returns t c = rw (c.of-2.ensures, c.put.ensures) ((colon_leads c.args
 
 pub unary-returns-in_default : goal.unary-returns-in_default
 unary-returns-in_default t c =
-    leads_parses _ (unsigned c.args.text.now c.args.tokens.now c.args.standing c.in_default.ensures.none) c.primary.ensures
+    leads_parses _ (unsigned c.args.text.now c.args.tokens.now c.args.standing (c.in_default.ensures.none unary_kinds unary_operate)) c.primary.ensures
+
+pub unary-returns-in_default-take : goal.unary-returns-in_default-take
+unary-returns-in_default-take t c =
+    leads_parses _ (unsigned c.args.text.now c.args.tokens.now c.args.standing c.in_default-take.ensures.none) c.primary-in_default-take.ensures
 
 pub unary-returns-then-room-eq0 : goal.unary-returns-then-room-eq0
 unary-returns-then-room-eq0 t c =
-    no_room_to_sign c.args.text.now c.args.tokens.now c.args.standing c.in-Some.ensures.here c.if-room-eq0.true
+    no_room_to_sign c.args.text.now c.args.tokens.now c.args.standing c.in-Some-take.ensures.here c.if-room-eq0.true
 
 pub unary-returns-in_err-arg : goal.unary-returns-in_err-arg
 unary-returns-in_err-arg t c =
-    exits _ _ _ _ _ c.from_residual.ensures.1 ((signed c.args.text.now c.args.tokens.now c.args.standing (c.in-Some.ensures.some _) c.in-Some.ensures.here (omega (arith, c.if-room-eq0.false)) refl).fails c.in_err-arg.ensures)
+    exits _ _ _ _ _ c.from_residual.ensures.1 ((signed c.args.text.now c.args.tokens.now c.args.standing (c.in-Some-take.ensures.some _) c.in-Some-take.ensures.here (omega (arith, c.if-room-eq0.false)) refl).fails c.in_err-arg.ensures)
 
 pub unary-returns : goal.unary-returns
 unary-returns t c =
-    rw c.in_ok-before_one.ensures ((signed c.args.text.now c.args.tokens.now c.args.standing {b = record { levels = c.args.room.levels - 1; operators = c.args.room.operators }} {d = c.args.room} (c.in-Some.ensures.some _) c.in-Some.ensures.here (omega (arith, c.if-room-eq0.false)) refl).reads c.in_ok-arg.ensures)
+    rw c.in_ok-before_one.ensures ((signed c.args.text.now c.args.tokens.now c.args.standing {b = record { levels = c.args.room.levels - 1; operators = c.args.room.operators }} {d = c.args.room} (c.in-Some-take.ensures.some _) c.in-Some-take.ensures.here (omega (arith, c.if-room-eq0.false)) refl).reads c.in_ok-arg.ensures)

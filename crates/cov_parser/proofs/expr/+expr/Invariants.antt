@@ -1,4 +1,6 @@
-use Rattle.std.proofs.Common.{◌+◌, ◌-◌, ◌*◌, length}
+use Rattle.std.proofs.Common.{◌+◌, ◌-◌, ◌*◌, ◌≤◌, length}
+use Rattle.cov_grammar.specs.Parses.{Reads}
+use Rattle.cov_grammar.specs.Expressions.{binary_in, inner_at}
 use Rattle.cov_parser.proofs.ExprWalks.{Joins, Lists}
 use Rattle.cov_parser.proofs.expr.+expr.Given as goal
 
@@ -23,8 +25,17 @@ decreases-second_end l = 20 * l.room.levels + 17
 abbrev pub decreases-parts : goal.decreases-parts
 decreases-parts l = 20 * l.room.levels + 17
 
+abbrev pub invariant-binary-loop-below : goal.invariant-binary-loop-below
+invariant-binary-loop-below l = record {
+  within : l.done ≤ l.level;
+  reads : Reads (λ r. binary_in l.text l.tokens r.operators l.standing (inner_at l.text l.tokens r.operators l.standing r.levels) l.done) l.room l.fn.place l.left l.at;
+}
+
+abbrev pub decreases-binary-loop-below : goal.decreases-binary-loop-below
+decreases-binary-loop-below l = l.level - l.done
+
 abbrev pub invariant-binary-loop-op : goal.invariant-binary-loop-op
-invariant-binary-loop-op l = Joins l.text l.tokens l.standing l.room l.below l.level l.fn.place l.left l.at
+invariant-binary-loop-op l = Joins l.text l.tokens l.standing l.room l.below (l.below + 1) l.fn.place l.left l.at
 
 abbrev pub decreases-binary-loop-op : goal.decreases-binary-loop-op
 decreases-binary-loop-op l = length l.tokens - l.at.at
