@@ -1,0 +1,15 @@
+pub mod Keeps
+pub mod Tails
+pub mod Completes
+pub mod Combine
+pub mod Words
+pub mod Expressions
+pub mod Bins
+pub mod Groups
+pub mod Designs
+pub mod Viable
+pub mod Marks
+pub mod Meanings
+pub mod Faults
+pub mod Starts
+pub mod Squares

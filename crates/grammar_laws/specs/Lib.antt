@@ -1,0 +1,3 @@
+pub mod Continuations
+pub mod Tokens
+pub mod Tables

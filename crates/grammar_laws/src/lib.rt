@@ -1,0 +1,6 @@
+//! Street: text.
+//!
+//! What it means that the first tokens of a text are viable, and that each kind a rule reads has its meaning.
+#![tactic(auto)]
+
+pub mod laws;
