@@ -1,5 +1,6 @@
 #!/usr/bin/env python3
 """Writes design texts that are dear to elaborate, one a file, into the folder that is named."""
+import random
 import sys
 
 room = sys.argv[1]
@@ -36,6 +37,15 @@ def digits(k):
             return text
 
 
+draw = random.Random(1)
+
+
+def box(k):
+    """A sequence of two ranges of bytes."""
+    ends = [draw.randrange(256) for place in range(4)]
+    return f"([{min(ends[:2])}:{max(ends[:2])}]=>[{min(ends[2:])}:{max(ends[2:])}]),"
+
+
 texts = {
     # values
     "one_set": group("bit [63:0] v;", point("bins b = {[0:$]};")),
@@ -58,6 +68,19 @@ texts = {
     "long_lists": group("bit [15:0] v;", point("bins b[] = ([0:65535] => 1[*63]);")),
     "lists_past_the_design": group("bit [15:0] v;", point("bins b[] = ([0:65535] => 1[*119]);")),
     "many_sequences": group("bit [15:0] v;", point("bins b[] = " + many(lambda k: "([0:65535]),", LONGEST - 200) + "(0);")),
+    # sequences that overlap: each has thousands of lists, of which the earlier ones have all but one or none
+    "shrinking": group("bit [15:0] v;", point("bins b[] = " + many(lambda k: f"([{k % 65536}:65535]),", LONGEST - 200) + "(0);")),
+    "growing": group("bit [15:0] v;", point("bins b[] = " + many(lambda k: f"([0:{k % 65536}]),", LONGEST - 200) + "(0);")),
+    "sliding": group(
+        "bit [15:0] v;",
+        point("bins b[] = " + many(lambda k: f"([{k % 32768}:{k % 32768 + 32767}]),", LONGEST - 200) + "(0);"),
+    ),
+    "shrinking_fronts": group(
+        "bit [15:0] v;", point("bins b[] = " + many(lambda k: f"([{k % 65536}:65535]=>1),", LONGEST - 200) + "(0);")
+    ),
+    "boxes": group("bit [7:0] v;", point("bins b[] = " + many(box, LONGEST - 200) + "(0=>0);")),
+    "single_steps": group("bit [7:0] v;", point("bins b[] = (" + "1=>" * 118 + "[0:255]=>[0:255]);")),
+    "two_lengths": group("bit [15:0] v;", point("bins b[] = (" + "5[*1:2]=>" * 59 + "[0:1000]=>6);")),
     "repeated": group(
         "bit [7:0] v;", point(many(lambda k: f"bins {'b_' + digits(k)} = (1[*1:9] => [2:3][=1:9] => 4[->1:19]);", LONGEST - 200))
     ),

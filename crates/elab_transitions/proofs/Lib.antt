@@ -2,6 +2,7 @@ pub mod TooMany
 pub mod OnlyLists
 pub mod Words
 pub mod Same
+pub mod Singles
 pub mod OneList
 pub mod Arrays
 pub mod Written

@@ -10,7 +10,7 @@ use crate::plans::{Before, Plan, check_room, fit, is_array, is_bounded, is_remov
 use crate::seqs::seqs_in;
 use crate::steps::{ListedStep, listed_sequences};
 use const_eval::{Bound, Scope};
-use cov_base::{Int, Memory};
+use cov_base::{Int, Memory, ValueSet};
 use cov_tree::{BinsDecl, List, Name, Step, Word};
 use design_data::{BinInfo, BinKind, BinRule};
 use elab_base::{ElabFault, ElabKind, copy_guard, guard_in};
@@ -77,12 +77,13 @@ fn list_bin(
     declared: u32,
     guard: &Option<Bound>,
     list: &[Int],
+    before: &mut Vec<ValueSet>,
 ) -> Result<Made, Memory>
     ensures { IfOk result (λ made. made ≡ bin_of_list decl.now declared guard.now list.now) }
 {
     let name = list_name(alloc, &decl.name, list)?;
     let mut seqs = List::new(alloc);
-    seqs.push(seq_of_list(alloc, list)?)?;
+    seqs.push(seq_of_list(alloc, list, before)?)?;
     let guard = copy_guard(alloc, guard)?;
     let rule = BinRule::Trans(seqs);
     Ok(bin_of(name, kind_of(decl.word), rule, guard, decl.at, declared))
@@ -98,8 +99,9 @@ fn list_bins(
     ensures { IfOk result (λ bins. bins ≡ map (bin_of_list decl.now declared guard.now) lists.now) }
 {
     let mut bins = List::new(alloc);
+    let mut before = Vec::new(alloc);
     for list in lists {
-        bins.push(list_bin(alloc, decl, declared, guard, list.as_slice())?)?;
+        bins.push(list_bin(alloc, decl, declared, guard, list.as_slice(), &mut before)?)?;
     }
     Ok(bins)
 }

@@ -176,7 +176,7 @@ no_list_later item items e = ap (λ l. news [] l) (all_fronted-empty (choices (w
 
 -- ---- numbers of the set one by one
 
-map-append : (f : Word → Word) (xs ys : List Word) → map f (xs ++ ys) ≡ map f xs ++ map f ys
+pub map-append : (f : Word → Word) (xs ys : List Word) → map f (xs ++ ys) ≡ map f xs ++ map f ys
 map-append f [] ys = refl
 map-append f (x ∷ xs) ys = ap (λ l. f x ∷ l) (map-append f xs ys)
 
@@ -184,12 +184,12 @@ map-map : (f g : Word → Word) (h : Word → Word) → ((w : Word) → f (g w) 
 map-map f g h e [] = refl
 map-map f g h e (x ∷ xs) = ap (λ w. w ∷ map f (map g xs)) (e x) ∙ ap (λ l. h x ∷ l) (map-map f g h e xs)
 
-joined-append : (fs gs others : List Word) → joined (fs ++ gs) others ≡ joined fs others ++ joined gs others
+pub joined-append : (fs gs others : List Word) → joined (fs ++ gs) others ≡ joined fs others ++ joined gs others
 joined-append [] gs others = refl
 joined-append (f ∷ fs) gs others = ap (λ l. map (λ o. f ++ o) others ++ l) (joined-append fs gs others) ∙ sym (append_assoc (map (λ o. f ++ o) others) (joined fs others) (joined gs others))
 
 -- one number before each of the first lists
-first_map : (first : Word) (v : ℤ) (firsts others : List Word) → map (λ w. first ++ w) (joined (map (λ r. v ∷ r) firsts) others) ≡ map (λ w. (first ++ v ∷ []) ++ w) (joined firsts others)
+pub first_map : (first : Word) (v : ℤ) (firsts others : List Word) → map (λ w. first ++ w) (joined (map (λ r. v ∷ r) firsts) others) ≡ map (λ w. (first ++ v ∷ []) ++ w) (joined firsts others)
 first_map first v [] others = refl
 first_map first v (f ∷ fs) others =
     let a = map (λ o. (v ∷ f) ++ o) others in

@@ -13,3 +13,5 @@ pub mod MergeLemmas
 pub mod ReachLemmas
 pub mod WordLemmas
 pub mod MetLemmas
+pub mod Numbers
+pub mod HeldLemmas

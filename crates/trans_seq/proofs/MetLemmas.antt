@@ -17,7 +17,7 @@ use Rattle.trans_seq.proofs.MergeLemmas.{none_of, among_all}
 use Rattle.trans_seq.proofs.Written.{among-of, among-from, listed-windows}
 
 -- nothing is new of what is there
-news_none : (before xs : List Word) → ((w : Word) → is_among xs w ≡ true → is_among before w ≡ true) → news before xs ≡ []
+pub news_none : (before xs : List Word) → ((w : Word) → is_among xs w ≡ true → is_among before w ≡ true) → news before xs ≡ []
 news_none before [] had = refl
 news_none before (x ∷ xs) had =
     ap (λ (b : Bool). cond b (news before xs) (x ∷ news (before ++ x ∷ []) xs)) (had x (among_first x xs))

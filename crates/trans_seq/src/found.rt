@@ -39,7 +39,7 @@ pub(crate) fn none_found(alloc: Global) -> Found
 fn key_of(alloc: Global, first: &[Int], rest: &[Int]) -> Result<Vec<i128>, Memory>
     ensures { IfOk result (λ key. key.items ≡ first.now ++ rest.now) }
 {
-    let mut key = Vec::new(alloc);
+    let mut key = Vec::with_capacity(alloc, first.len().saturating_add(rest.len()))?;
     for value in first {
         key.push(value.get())?;
     }
@@ -53,15 +53,14 @@ fn key_of(alloc: Global, first: &[Int], rest: &[Int]) -> Result<Vec<i128>, Memor
 fn list_of(alloc: Global, first: &[Int], rest: &[Int]) -> Result<List<Int>, Memory>
     ensures { IfOk result (λ list. list ≡ first.now ++ rest.now) }
 {
-    let mut values = Vec::from_slice(alloc, first)?;
-    for value in rest {
-        values.push(*value)?;
-    }
+    let mut values = Vec::with_capacity(alloc, first.len().saturating_add(rest.len()))?;
+    values.extend_from_slice(first)?;
+    values.extend_from_slice(rest)?;
     Ok(List::of(values))
 }
 
 /// Takes a list into the open group, where it is new.
-fn take_list(
+pub(crate) fn take_list(
     alloc: Global,
     first: &[Int],
     rest: &[Int],

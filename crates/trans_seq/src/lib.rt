@@ -5,12 +5,14 @@
 
 mod fault;
 mod found;
+mod held;
 pub mod laws;
 mod listing;
 mod met;
 mod reach;
 mod seq;
 mod size;
+mod spread;
 mod windows;
 
 pub use fault::ExpandFault;

@@ -3,15 +3,18 @@ ghost use Rattle.std.specs.Prelude.{◌≡◌, ◌+◌, ◌-◌, ◌<◌, ◌≤
 ghost use Rattle.std.specs.List.{list_any};
 ghost use Rattle.cov_base.specs.Sets.{written};
 ghost use Rattle.cov_ground.specs.Limits.{most_bins, most_cells};
-ghost use Rattle.trans_seq.specs.Found.{Holds, FailsAfter, Merges, Extends, HasList, NoList, AllHaveList, SomeNoList, fronted, new_groups, packed};
+ghost use Rattle.trans_seq.specs.Held.{AreSpread, AreHeld};
+ghost use Rattle.trans_seq.specs.Found.{lists_of, Holds, Takes, FailsAfter, Merges, Extends, HasList, NoList, AllHaveList, SomeNoList, fronted, new_groups, packed};
 ghost use Rattle.trans_seq.specs.Windows.{HasWord, SomeHasWord};
 ghost use Rattle.trans_seq.specs.Lists.{lengths, choices, by_lengths, from_on, all_of, listed, is_endless, has_endless as seq_has_endless, IsShort, IsFirstLong, HasEndless, Expands, RefusesToExpand, ExpandsAll, RefusesToExpandAll, lists_by_all, listed_by_all};
 
 use crate::fault::ExpandFault;
 use crate::found::{Found, none_found, take_group, take_length};
+use crate::held::{Known, none_known};
 use crate::met::{Met, is_held, none_met};
 use crate::seq::{Item, Repeat, Seq};
 use crate::size::cells;
+use crate::spread::{spread, take_items};
 use cov_base::{Int, Memory};
 use cov_ground::limits::MOST_CELLS;
 use cov_tree::List;
@@ -38,7 +41,7 @@ fn has_unbounded(items: &[Item]) -> bool
 
 /// The least and the greatest length of an item's lists. For an item with lists of any length they are the wrong way
 /// round.
-fn ends(repeat: Repeat) -> (u32, u32)
+pub(crate) fn ends(repeat: Repeat) -> (u32, u32)
     ensures { lengths repeat ≡ from_on result.0 (result.1 + 1 - result.0) }
 {
     match repeat {
@@ -196,9 +199,10 @@ fn merged(alloc: Global, seqs: &[Seq]) -> Result<Vec<List<Int>>, ExpandFault>
     ensures err { IfErr result (FailsAfter [] (lists_by_all seqs.now)) }
 {
     let mut met = none_met(alloc);
+    let mut known = none_known(alloc);
     let mut found = none_found(alloc);
     for place in 0..seqs.len() {
-        take_seq(alloc, seqs, place, &mut met, &mut found)?;
+        take_seq(alloc, seqs, place, &mut met, &mut known, &mut found)?;
     }
     Ok(found.fresh)
 }
@@ -210,13 +214,16 @@ fn take_seq(
     seqs: &[Seq],
     place: usize,
     met: &mut Met,
+    known: &mut Known,
     found: &mut Found,
 ) -> Result<(), ExpandFault>
     requires within { place < length seqs.now }
     requires bounded { list_any seq_has_endless seqs.now ≡ false }
     requires short { All IsShort seqs.now }
     requires merges { Merges seqs.now place found.old }
+    requires held { AreHeld known.old (lists_of found.old) }
     ensures ok { OnOk result (Merges seqs.now (place + 1) found.new) }
+    ensures held { OnOk result (AreHeld known.new (lists_of found.new)) }
     ensures err { IfErr result (FailsAfter [] (lists_by_all seqs.now)) }
 {
     let seq = &seqs[place];
@@ -224,6 +231,64 @@ fn take_seq(
     if held {
         return Ok(());
     }
+    take_lists(alloc, seq, known, found)?;
+    Ok(())
+}
+
+/// Takes the lists of a sequence.
+fn take_lists(
+    alloc: Global,
+    seq: &Seq,
+    known: &mut Known,
+    found: &mut Found,
+) -> Result<(), ExpandFault>
+    requires bounded { seq_has_endless seq.now ≡ false }
+    requires short { IsShort seq.now }
+    requires holds { Holds found.old }
+    requires held { AreHeld known.old (lists_of found.old) }
+    ensures ok { OnOk result (Takes found.old found.new (listed seq.now.items)) }
+    ensures held { OnOk result (AreHeld known.new (lists_of found.new)) }
+    ensures err { IfErr result (FailsAfter (lists_of found.old) (listed seq.now.items)) }
+{
+    let items = seq.items.as_slice();
+    let is_empty = !all_have_list(items);
+    if is_empty {
+        return Ok(());
+    }
+    match spread(alloc, items)? {
+        Some(others) => take_spread(alloc, items, others.as_slice(), known, found),
+        None => take_expanded(alloc, seq, found),
+    }
+}
+
+/// Takes the lists of items that have lists of one length alone, with one number of each set of the others.
+fn take_spread(
+    alloc: Global,
+    items: &[Item],
+    others: &[Item],
+    known: &mut Known,
+    found: &mut Found,
+) -> Result<(), ExpandFault>
+    requires spread { AreSpread items.now others.now }
+    requires holds { Holds found.old }
+    requires held { AreHeld known.old (lists_of found.old) }
+    ensures ok { OnOk result (Takes found.old found.new (listed items.now)) }
+    ensures held { OnOk result (AreHeld known.new (lists_of found.new)) }
+    ensures err { IfErr result (FailsAfter (lists_of found.old) (listed items.now)) }
+{
+    let mut first = Vec::new(alloc);
+    take_items(alloc, others, &mut first, known, found)?;
+    Ok(())
+}
+
+/// Takes the lists of a sequence as they are written out.
+fn take_expanded(alloc: Global, seq: &Seq, found: &mut Found) -> Result<(), ExpandFault>
+    requires bounded { seq_has_endless seq.now ≡ false }
+    requires short { IsShort seq.now }
+    requires holds { Holds found.old }
+    ensures ok { OnOk result (Takes found.old found.new (listed seq.now.items)) }
+    ensures err { IfErr result (FailsAfter (lists_of found.old) (listed seq.now.items)) }
+{
     let lists = expand(alloc, seq)?;
     take_group(alloc, &[], lists.as_slice(), found)?;
     Ok(())

@@ -35,7 +35,7 @@ fn add_set(set: &ValueSet, key: &mut Vec<i128>) -> Result<(), Memory> {
 }
 
 /// What the items are written of. Unlike items may have one key: it only tells where to look.
-fn key_of(alloc: Global, items: &[Item]) -> Result<Vec<i128>, Memory> {
+pub(crate) fn key_of(alloc: Global, items: &[Item]) -> Result<Vec<i128>, Memory> {
     let mut key = Vec::new(alloc);
     for item in items {
         add_repeat(item.repeat, &mut key)?;

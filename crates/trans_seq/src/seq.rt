@@ -88,7 +88,7 @@ impl Seq {
     }
 }
 
-fn copied_items(alloc: Global, items: &[Item]) -> Result<Vec<Item>, Memory>
+pub(crate) fn copied_items(alloc: Global, items: &[Item]) -> Result<Vec<Item>, Memory>
     ensures { IfOk result (λ copies. copies.items ≡ items.now) }
 {
     let mut copies = Vec::new(alloc);
@@ -110,7 +110,7 @@ fn same_repeat(first: Repeat, second: Repeat) -> bool
     first == second
 }
 
-fn same_items(first: &[Item], second: &[Item]) -> bool
+pub(crate) fn same_items(first: &[Item], second: &[Item]) -> bool
     ensures { IsTrue result ↔ (first.now ≡ second.now) }
 {
     if first.len() != second.len() {

@@ -1,0 +1,214 @@
+-- Lists with one number of each of several sets, and those that are found already.
+use Rattle.std.proofs.Common.{◌≡◌, ℕ, ◌+◌, ◌<◌, ◌≤◌, ◌⊎◌, List, [], ◌∷◌, ◌++◌, length, take, drop, get_or, map, filter, refl, ap, sym, ◌∙◌, subst, inl, inr, arith, append_assoc, append-nil, length-append, Result, Ok, Err, OnOk, Bool, true, false, cond, zero, suc}
+use Rattle.std.specs.Prelude.{ℤ, ◌-◌, not, ◌||◌, Some, Option, replicate}
+use Rattle.std.specs.Ordering.{int_eq}
+use Rattle.std.specs.List.{flat_map, list_any}
+use Rattle.std.proofs.lemmas.Bool.{false≢true, true≢false, or_cases, or_left, or_right}
+use Rattle.std.proofs.lemmas.Bool.Decides.{Decides-int_eq}
+use Rattle.std.proofs.lemmas.List.{drop_more, drop_all}
+use Rattle.cov_base.specs.Sets.{written, is_in, without}
+use Rattle.trans_seq.specs.declared.seq.Item.{Item}
+use Rattle.trans_seq.specs.declared.found.Found.{Found}
+use Rattle.trans_seq.specs.declared.held.Held.{Held}
+use Rattle.trans_seq.specs.declared.held.Known.{Known}
+use Rattle.trans_seq.specs.declared.fault.ExpandFault.{ExpandFault}
+use Rattle.trans_seq.specs.declared.fault.ExpandFault.TheVariants.{Unbounded, TooLong, TooManyBins, Memory}
+use Rattle.trans_seq.specs.Lists.{is_among, news, all_of, listed, by_lengths, choices, joined, lengths, from_on, is_endless, RefusesToExpand}
+use Rattle.trans_seq.specs.Cells.{cells_of_items}
+use Rattle.cov_ground.specs.Limits.{most_bins, most_cells}
+use Rattle.trans_seq.specs.Found.{lists_of, Takes, FailsAfter}
+use Rattle.trans_seq.specs.Held.{words, begun, begun_by, once, AreSpread, HasAll, AreHeld}
+use Rattle.trans_seq.proofs.News.{Word, among_left, among_right, among_cases, among_news, news-append, news-map}
+use Rattle.trans_seq.proofs.Counted.{map-append, map-same, joined-append, first_map, no_more, listed-differ}
+use Rattle.trans_seq.proofs.FoundLemmas.{lists_after}
+use Rattle.trans_seq.proofs.MetLemmas.{news_none}
+use Rattle.trans_seq.proofs.Numbers.{none_written}
+
+-- ---- one number after the other
+
+begun-more : (first : Word) (v : ℤ) (ws : List Word) → map (λ w. first ++ w) (map (λ r. v ∷ r) ws) ≡ map (λ w. (first ++ v ∷ []) ++ w) ws
+begun-more first v [] = refl
+begun-more first v (w ∷ ws) =
+    ap (λ u. u ∷ map (λ w. first ++ w) (map (λ r. v ∷ r) ws)) (sym (append_assoc first (v ∷ []) w))
+    ∙ ap (λ l. ((first ++ v ∷ []) ++ w) ∷ l) (begun-more first v ws)
+
+begun-each : (first : Word) (vs : List ℤ) (items : List Item) → begun_by first vs items ≡ map (λ w. first ++ w) (flat_map (λ v. map (λ r. v ∷ r) (words items)) vs)
+begun-each first [] items = refl
+begun-each first (v ∷ vs) items =
+    let here = map (λ r. v ∷ r) (words items) in
+    ap (λ l. l ++ begun_by first vs items) (sym (begun-more first v (words items)))
+    ∙ ap (λ l. map (λ w. first ++ w) here ++ l) (begun-each first vs items)
+    ∙ sym (map-append (λ w. first ++ w) here (flat_map (λ v. map (λ r. v ∷ r) (words items)) vs))
+
+pub begun-item : (first : Word) (item : Item) (items : List Item) → begun_by first (written item.set) items ≡ begun first (item ∷ items)
+begun-item first item items = begun-each first (written item.set) items
+
+-- ---- having all of them
+
+pub has-more : (lists more some : List Word) → HasAll lists some → HasAll (lists ++ more) some
+has-more lists more some h w k = among_left lists more w (h w k)
+
+by-of : (first : Word) (vs : List ℤ) (items : List Item) (w : Word) → is_among (begun_by first vs items) w ≡ true → (v : ℤ) × (is_in vs v ≡ true) × (is_among (begun (first ++ v ∷ []) items) w ≡ true)
+by-of first [] items w h = absurd (false≢true h)
+by-of first (v ∷ vs) items w h = elim (among_cases (begun (first ++ v ∷ []) items) (begun_by first vs items) w h) [
+  | inl here ↦ (v, or_left (int_eq v v) (is_in vs v) ((Decides-int_eq v v).1 refl), here)
+  | inr later ↦ let r = by-of first vs items w later in (r.0, or_right (int_eq r.0 v) (is_in vs r.0) r.1, r.2)
+]
+
+by-from : (first : Word) (vs : List ℤ) (items : List Item) (v : ℤ) (w : Word) → is_in vs v ≡ true → is_among (begun (first ++ v ∷ []) items) w ≡ true → is_among (begun_by first vs items) w ≡ true
+by-from first [] items v w h k = absurd (false≢true h)
+by-from first (x ∷ vs) items v w h k = elim (or_cases (int_eq v x) (is_in vs v) h) [
+  | inl e ↦ among_left (begun (first ++ x ∷ []) items) (begun_by first vs items) w (subst (λ u. is_among (begun (first ++ u ∷ []) items) w ≡ true) ((Decides-int_eq v x).0 e) k)
+  | inr later ↦ among_right (begun (first ++ x ∷ []) items) (begun_by first vs items) w (by-from first vs items v w later k)
+]
+
+pub has-none : (lists : List Word) (first : Word) (set : List (ℤ × ℤ)) (items : List Item) → set ≡ [] → HasAll lists (begun_by first (written set) items)
+has-none lists first set items none w h = absurd (false≢true (subst (λ vs. is_among (begun_by first vs items) w ≡ true) (ap written none ∙ none_written) h))
+
+pub has-both : (lists : List Word) (first : Word) (a b both : List (ℤ × ℤ)) (items : List Item) → ((v : ℤ) → is_in (written both) v ≡ (is_in (written a) v || is_in (written b) v))
+    → HasAll lists (begun_by first (written a) items) → HasAll lists (begun_by first (written b) items) → HasAll lists (begun_by first (written both) items)
+has-both lists first a b both items each has_a has_b w h =
+    let r = by-of first (written both) items w h in
+    elim (or_cases (is_in (written a) r.0) (is_in (written b) r.0) (sym (each r.0) ∙ r.1)) [
+      | inl in_a ↦ has_a w (by-from first (written a) items r.0 w in_a r.2)
+      | inr in_b ↦ has_b w (by-from first (written b) items r.0 w in_b r.2)
+    ]
+
+-- ---- what is taken
+
+pub takes-has : (old new : Found) (ws : List Word) → Takes old new ws → HasAll (lists_of new) ws
+takes-has old new ws t w h = subst (λ l. is_among l w ≡ true) (sym (lists_after old new ws t)) (among_news (lists_of old) ws w h)
+
+pub takes-keeps : (old new : Found) (ws some : List Word) → Takes old new ws → HasAll (lists_of old) some → HasAll (lists_of new) some
+takes-keeps old new ws some t h = subst (λ l. HasAll l some) (sym (lists_after old new ws t)) (has-more (lists_of old) (news (lists_of old) ws) some h)
+
+pub held-more : (known : Known) (old new : Found) (ws : List Word) → Takes old new ws → AreHeld known (lists_of old) → AreHeld known (lists_of new)
+held-more known old new ws t h key held is = takes-keeps old new ws (begun_by held.first (written held.numbers) held.rest) t (h key held is)
+
+pub takes-same : (old new : Found) (xs ys : List Word) → news (lists_of old) xs ≡ news (lists_of old) ys → Takes old new xs → Takes old new ys
+takes-same old new xs ys e t = record { holds = t.holds; groups = t.groups; fresh = t.fresh ∙ ap (λ l. old.fresh.items ++ l) e }
+
+pub fails-same : (before xs ys : List Word) (f : ExpandFault) → news before xs ≡ news before ys → FailsAfter before xs f → FailsAfter before ys f
+fails-same before xs ys Unbounded e h = h
+fails-same before xs ys (TooLong cells) e h = h
+fails-same before xs ys (TooManyBins count) e h = (h.0, omega (arith, h.1, ap length e))
+fails-same before xs ys Memory e h = h
+
+-- ---- numbers that are passed over
+
+passed : (p : ℤ → Bool) (g : ℤ → List Word) (vs : List ℤ) (before : List Word) → ((v : ℤ) → p v ≡ false → HasAll before (g v)) → news before (flat_map g (filter p vs)) ≡ news before (flat_map g vs)
+passed p g [] before had = refl
+passed p g (v ∷ vs) before had = by (p v) (had v) (λ more. passed p g vs (before ++ more) (λ u e. has-more before more (g u) (had u e)))
+  where
+    by : (t : Bool) → (t ≡ false → HasAll before (g v)) → ((more : List Word) → news (before ++ more) (flat_map g (filter p vs)) ≡ news (before ++ more) (flat_map g vs))
+        → news before (flat_map g (cond t (v ∷ filter p vs) (filter p vs))) ≡ news before (g v ++ flat_map g vs)
+    by true has rest =
+        news-append before (g v) (flat_map g (filter p vs))
+        ∙ ap (λ l. news before (g v) ++ l) (rest (news before (g v)))
+        ∙ sym (news-append before (g v) (flat_map g vs))
+    by false has rest =
+        let none : news before (g v) ≡ [] = news_none before (g v) (has refl) in
+        let same : news before (flat_map g (filter p vs)) ≡ news before (flat_map g vs) =
+        sym (ap (λ l. news l (flat_map g (filter p vs))) (append-nil before)) ∙ rest [] ∙ ap (λ l. news l (flat_map g vs)) (append-nil before) in
+        same
+        ∙ sym (news-append before (g v) (flat_map g vs)
+        ∙ ap (λ l. l ++ news (before ++ l) (flat_map g vs)) none
+        ∙ ap (λ l. news l (flat_map g vs)) (append-nil before))
+
+not-false : (b : Bool) → not b ≡ false → b ≡ true
+not-false true e = refl
+not-false false e = absurd (false≢true (sym e))
+
+pub passed-known : (before : List Word) (first : Word) (set known : List (ℤ × ℤ)) (items : List Item) → HasAll before (begun_by first (written known) items)
+    → news before (begun_by first (without (written set) (written known)) items) ≡ news before (begun_by first (written set) items)
+unfolding without
+passed-known before first set known items had =
+    passed (λ v. not (is_in (written known) v)) (λ v. begun (first ++ v ∷ []) items) (written set) before
+    (λ v e w h. had w (by-from first (written known) items v w (not-false (is_in (written known) v) e) h))
+
+-- ---- items of one length
+
+abbrev pub ahead : List Item → List Word → List Word
+ahead [] ws = ws
+ahead (item ∷ items) ws = flat_map (λ v. map (λ r. v ∷ r) (ahead items ws)) (written item.set)
+
+ahead-all : (items : List Item) → ahead items ([] ∷ []) ≡ words items
+ahead-all [] = refl
+ahead-all (item ∷ items) = ap (λ l. flat_map (λ v. map (λ r. v ∷ r) l) (written item.set)) (ahead-all items)
+
+ahead-append : (xs ys : List Item) (ws : List Word) → ahead (xs ++ ys) ws ≡ ahead xs (ahead ys ws)
+ahead-append [] ys ws = refl
+ahead-append (x ∷ xs) ys ws = ap (λ l. flat_map (λ v. map (λ r. v ∷ r) l) (written x.set)) (ahead-append xs ys ws)
+
+ahead-times-by : (vs : List ℤ) (firsts ws : List Word) → joined (flat_map (λ v. map (λ r. v ∷ r) firsts) vs) ws ≡ flat_map (λ v. map (λ r. v ∷ r) (joined firsts ws)) vs
+ahead-times-by [] firsts ws = refl
+ahead-times-by (v ∷ vs) firsts ws =
+    let here = map (λ r. v ∷ r) firsts in
+    let rest = flat_map (λ v. map (λ r. v ∷ r) firsts) vs in
+    joined-append here rest ws
+    ∙ ap (λ l. l ++ joined rest ws) (sym (map-same (joined here ws)) ∙ first_map [] v firsts ws)
+    ∙ ap (λ l. map (λ r. v ∷ r) (joined firsts ws) ++ l) (ahead-times-by vs firsts ws)
+
+ahead-times : (item : Item) (n : ℕ) (ws : List Word) → joined (choices (written item.set) n) ws ≡ ahead (replicate n (once item)) ws
+ahead-times item zero ws = append-nil (map (λ o. [] ++ o) ws) ∙ map-same ws
+ahead-times item (suc n) ws =
+    ahead-times-by (written item.set) (choices (written item.set) n) ws
+    ∙ ap (λ l. flat_map (λ v. map (λ r. v ∷ r) l) (written item.set)) (ahead-times item n ws)
+
+-- what is kept as the items are gone through
+abbrev pub Spreads : List Item → ℕ → List Item → Type 0
+Spreads items i others = (ws : List Word) → by_lengths (drop i items) ≡ ws ∷ [] → by_lengths items ≡ ahead others ws ∷ []
+
+pub spreads-all : (items others : List Item) (i : ℕ) → length items ≤ i → Spreads items i others → AreSpread items others
+spreads-all items others i le h = h ([] ∷ []) (ap by_lengths (drop_all i items le)) ∙ ap (λ l. l ∷ []) (ahead-all others)
+
+pub spreads-more : (items : List Item) (i : ℕ) (item : Item) (others next : List Item) (low high : ℕ) → i < length items → item ≡ get_or items i item → lengths item.repeat ≡ from_on low (high + 1 - low) → low ≡ high
+    → next ≡ others ++ replicate low (once item) → Spreads items i others → Spreads items (i + 1) next
+spreads-more items i item others next low high lt is ends same more h ws e =
+    let rest = drop (i + 1) items in
+    let parts : drop i items ≡ item ∷ rest = drop_more items i item lt ∙ ap (λ x. x ∷ rest) (sym is) in
+    let one : high + 1 - low ≡ 1 = omega (arith, same) in
+    let single : lengths item.repeat ≡ low ∷ [] = ends ∙ ap (λ n. from_on low n) one in
+    let f : List (List Word) → ℕ → List (List Word) = λ gs n. map (λ g. joined (choices (written item.set) n) g) gs in
+    let here : by_lengths (item ∷ rest) ≡ joined (choices (written item.set) low) ws ∷ [] = ap (λ ns. flat_map (f (by_lengths rest)) ns) single ∙ ap (λ gs. flat_map (f gs) (low ∷ [])) e in
+    h (ahead (replicate low (once item)) ws) (ap by_lengths parts ∙ here ∙ ap (λ l. l ∷ []) (ahead-times item low ws))
+    ∙ ap (λ l. l ∷ []) (sym (ahead-append others (replicate low (once item)) ws) ∙ ap (λ o. ahead o ws) (sym more))
+
+-- the lists of such a sequence
+pub spread-listed : (items others : List Item) (first : Word) (before : List Word) → first ≡ [] → AreSpread items others → news before (begun first others) ≡ news before (listed items)
+unfolding listed
+spread-listed items others first before none are =
+    let xs = all_of (by_lengths items) in
+    let whole : xs ≡ words others = ap all_of are ∙ append-nil (words others) in
+    let once_more : news before (map (λ w. [] ++ w) (news [] xs)) ≡ news before (map (λ w. [] ++ w) xs) = news-map (λ w. [] ++ w) [] xs before (λ w k. absurd (false≢true k)) in
+    ap (λ f. news before (begun f others)) none
+    ∙ ap (λ l. news before l) (map-same (words others) ∙ sym whole)
+    ∙ sym (sym (ap (λ l. news before l) (map-same (news [] xs))) ∙ once_more ∙ ap (λ l. news before l) (map-same xs))
+
+-- ---- what is kept
+
+some-same : (v w : Held) → Some v ≡ Some w → v ≡ w
+some-same v w e = cc
+
+pub held-is : (lists : List Word) (first here : Word) (numbers : List (ℤ × ℤ)) (rest there : List Item) → here ≡ first → there ≡ rest → HasAll lists (begun_by first (written numbers) rest) → HasAll lists (begun_by here (written numbers) there)
+held-is lists first here numbers rest there e f h =
+    subst (λ u. HasAll lists (begun_by u (written numbers) there)) (sym e) (subst (λ r. HasAll lists (begun_by first (written numbers) r)) (sym f) h)
+
+pub held-new : (lists : List Word) (t : Bool) (new held : Held) (old got : Option Held) → got ≡ cond t (Some new) old → got ≡ Some held
+    → HasAll lists (begun_by new.first (written new.numbers) new.rest) → (old ≡ Some held → HasAll lists (begun_by held.first (written held.numbers) held.rest)) → HasAll lists (begun_by held.first (written held.numbers) held.rest)
+held-new lists true new held old got e is has before = subst (λ (h : Held). HasAll lists (begun_by h.first (written h.numbers) h.rest)) (some-same new held (sym e ∙ is)) has
+held-new lists false new held old got e is has before = before (sym e ∙ is)
+
+-- ---- a sequence that is written out is refused
+
+pub fails-expanded : (before : List Word) (items : List Item) (e : ExpandFault) → list_any is_endless items ≡ false → cells_of_items items ≤ most_cells → RefusesToExpand items e → FailsAfter before (listed items) e
+fails-expanded before items Unbounded bounded short r = true≢false (sym r ∙ bounded)
+fails-expanded before items (TooLong cells) bounded short r = absurd (omega (arith, short, r.1))
+fails-expanded before items (TooManyBins count) bounded short r =
+    let more = no_more (λ w. w) (λ u w e. e) (listed items) (listed-differ items) (before ++ news before (listed items)) (λ w k. among_news before (listed items) w k) in
+    (r.3, omega (arith, r.2, more, length-append before (news before (listed items))))
+fails-expanded before items Memory bounded short r = tt
+
+pub on-ok : {A E : Type 0} (P Q : Type 0) → (P → Q) → (r : Result A E) → OnOk r P → OnOk r Q
+on-ok P Q f (Ok x) h = f h
+on-ok P Q f (Err e) h = h

@@ -1,0 +1,43 @@
+-- Lists with one number of each of several sets, and what is known of those that are found. Public contracts cite none
+-- of it.
+use Rattle.std.specs.Prelude.{◌≡◌, ℤ, List, [], ◌∷◌, ◌++◌, map, true, Vec, Some}
+use Rattle.std.specs.Ordering.{int_eq}
+use Rattle.std.specs.List.{flat_map}
+use Rattle.std.specs.Cmp.Lexicographic.{pointwise}
+use Rattle.std.specs.HashMap.{get}
+use Rattle.std.specs.Global.{Global}
+use Rattle.cov_base.specs.Sets.{written}
+use Rattle.trans_seq.specs.declared.seq.Item.{Item}
+use Rattle.trans_seq.specs.declared.seq.Repeat.TheVariants.{Once}
+use Rattle.trans_seq.specs.declared.held.Held.{Held}
+use Rattle.trans_seq.specs.declared.held.Known.{Known}
+use Rattle.trans_seq.specs.Lists.{is_among, by_lengths}
+
+-- each list with one number of each item's set, the last one running fastest
+abbrev pub words : List Item → List (List ℤ)
+words [] = [] ∷ []
+words (item ∷ items) = flat_map (λ v. map (λ rest. v ∷ rest) (words items)) (written item.set)
+
+-- these lists behind the numbers of first
+abbrev pub begun : List ℤ → List Item → List (List ℤ)
+begun first items = map (λ rest. first ++ rest) (words items)
+
+-- and with one of the numbers between
+abbrev pub begun_by : List ℤ → List ℤ → List Item → List (List ℤ)
+begun_by first numbers items = flat_map (λ v. begun (first ++ v ∷ []) items) numbers
+
+-- the same values, once
+abbrev pub once : Item → Item
+once item = record { set = item.set; repeat = Once }
+
+-- the items have lists of one length alone, with one number of each set of the others
+abbrev pub AreSpread : List Item → List Item → Type 0
+AreSpread items others = by_lengths items ≡ words others ∷ []
+
+-- some lists are all among others
+abbrev pub HasAll : List (List ℤ) → List (List ℤ) → Type 0
+HasAll lists some = (w : List ℤ) → is_among some w ≡ true → is_among lists w ≡ true
+
+-- what is known to be found is among the lists
+abbrev pub AreHeld : Known → List (List ℤ) → Type 0
+AreHeld known lists = (key : Vec ℤ Global) (held : Held) → get (λ a b. pointwise int_eq a.items b.items) known.kept key ≡ Some held → HasAll lists (begun_by held.first (written held.numbers) held.rest)

@@ -1,0 +1,149 @@
+//! Sequences whose lists have one length: their lists are taken number by number, and what is known to be found is
+//! passed over.
+ghost use Rattle.std.specs.Prelude.{◌≡◌, [], ◌++◌, ℕ, replicate, IfOk, IfErr, OnOk, IfSome};
+ghost use Rattle.cov_base.specs.Sets.{written, without};
+ghost use Rattle.trans_seq.specs.Found.{Holds, Takes, FailsAfter, lists_of};
+ghost use Rattle.trans_seq.specs.Held.{begun, begun_by, once as item_once, AreSpread, AreHeld};
+
+use crate::fault::ExpandFault;
+use crate::found::{Found, take_list};
+use crate::held::{Known, known_numbers, remember};
+use crate::listing::ends;
+use crate::seq::{Item, Repeat};
+use cov_base::{Int, Memory, ValueSet};
+use std::alloc::Global;
+
+/// Numbers of a set that are gone through without a look at what is known of them.
+const FEW_NUMBERS: u128 = 16;
+
+fn add_once(alloc: Global, item: &Item, times: u32, items: &mut Vec<Item>) -> Result<(), Memory>
+    ensures { OnOk result (items.new.items ≡ items.old.items ++ replicate times (item_once item.now)) }
+{
+    for _ in 0..times {
+        let set = item.set.copy(alloc)?;
+        items.push(Item {
+            set,
+            repeat: Repeat::Once,
+        })?;
+    }
+    Ok(())
+}
+
+/// Where each item has lists of one length alone, an item that stands once for each of their values.
+pub(crate) fn spread(alloc: Global, items: &[Item]) -> Result<Option<Vec<Item>>, Memory>
+    ensures { IfOk result (λ spread. IfSome spread (λ others. AreSpread items.now others.items)) }
+{
+    let mut others = Vec::new(alloc);
+    for item in items {
+        let (low, high) = ends(item.repeat);
+        if low != high {
+            return Ok(None);
+        }
+        add_once(alloc, item, low, &mut others)?;
+    }
+    Ok(Some(others))
+}
+
+/// The numbers of the set that aren't among those that are known.
+fn unknown_numbers(alloc: Global, set: &ValueSet, known: &ValueSet) -> Result<ValueSet, Memory>
+    ensures { IfOk result (λ left. written left ≡ without (written set.now) (written known.now)) }
+{
+    if set.intervals().is_empty() {
+        return Ok(ValueSet::new(alloc));
+    }
+    set.minus(alloc, known)
+}
+
+/// Whether a set has so many numbers that what is found of it is kept: that costs about as much as a few of its lists.
+fn is_large(set: &ValueSet) -> bool {
+    set.count() > FEW_NUMBERS
+}
+
+/// Takes the lists that begin with the first numbers and go on with one of each item's set.
+#[cycle(take_items)]
+pub(crate) fn take_items(
+    alloc: Global,
+    items: &[Item],
+    first: &mut Vec<Int>,
+    known: &mut Known,
+    found: &mut Found,
+) -> Result<(), ExpandFault>
+    requires holds { Holds found.old }
+    requires held { AreHeld known.old (lists_of found.old) }
+    ensures first { OnOk result (first.new.items ≡ first.old.items) }
+    ensures ok { OnOk result (Takes found.old found.new (begun first.old.items items.now)) }
+    ensures held { OnOk result (AreHeld known.new (lists_of found.new)) }
+    ensures err { IfErr result (FailsAfter (lists_of found.old) (begun first.old.items items.now)) }
+{
+    match items {
+        [] => take_first(alloc, first.as_slice(), found),
+        [item, rest @ ..] => {
+            if is_large(&item.set) {
+                take_unknown(alloc, &item.set, rest, first, known, found)
+            } else {
+                take_numbers(alloc, &item.set, rest, first, known, found)
+            }
+        }
+    }
+}
+
+/// Takes one list.
+fn take_first(alloc: Global, first: &[Int], found: &mut Found) -> Result<(), ExpandFault>
+    requires { Holds found.old }
+    ensures ok { OnOk result (Takes found.old found.new (begun first.now [])) }
+    ensures err { IfErr result (FailsAfter (lists_of found.old) (begun first.now [])) }
+{
+    take_list(alloc, first, &[], found)
+}
+
+/// Takes the lists that begin with the first numbers, go on with one of the set, and end with one of each item's set. Those
+/// that are known are passed over.
+#[cycle(take_items)]
+fn take_unknown(
+    alloc: Global,
+    set: &ValueSet,
+    rest: &[Item],
+    first: &mut Vec<Int>,
+    known: &mut Known,
+    found: &mut Found,
+) -> Result<(), ExpandFault>
+    requires holds { Holds found.old }
+    requires held { AreHeld known.old (lists_of found.old) }
+    ensures first { OnOk result (first.new.items ≡ first.old.items) }
+    ensures ok { OnOk result (Takes found.old found.new (begun_by first.old.items (written set.now) rest.now)) }
+    ensures held { OnOk result (AreHeld known.new (lists_of found.new)) }
+    ensures err { IfErr result (FailsAfter (lists_of found.old) (begun_by first.old.items (written set.now) rest.now)) }
+{
+    let before = known_numbers(alloc, first.as_slice(), rest, known)?;
+    let left = unknown_numbers(alloc, set, &before)?;
+    take_numbers(alloc, &left, rest, first, known, found)?;
+    remember(alloc, first.as_slice(), set, &before, rest, known)?;
+    Ok(())
+}
+
+/// Takes the lists that begin with the first numbers, go on with one of the set, and end with one of each item's set.
+#[cycle(take_items)]
+fn take_numbers(
+    alloc: Global,
+    set: &ValueSet,
+    rest: &[Item],
+    first: &mut Vec<Int>,
+    known: &mut Known,
+    found: &mut Found,
+) -> Result<(), ExpandFault>
+    requires holds { Holds found.old }
+    requires held { AreHeld known.old (lists_of found.old) }
+    ensures first { OnOk result (first.new.items ≡ first.old.items) }
+    ensures ok { OnOk result (Takes found.old found.new (begun_by first.old.items (written set.now) rest.now)) }
+    ensures held { OnOk result (AreHeld known.new (lists_of found.new)) }
+    ensures err { IfErr result (FailsAfter (lists_of found.old) (begun_by first.old.items (written set.now) rest.now)) }
+{
+    for k in 0..set.count() {
+        if let Some(value) = set.nth(k) {
+            first.push(value)?;
+            take_items(alloc, rest, first, known, found)?;
+            first.pop();
+        }
+    }
+    Ok(())
+}
