@@ -3,9 +3,8 @@ use denote.Param.Send.{IsSend, IsSync, sendable}
 use Rattle.std.proofs.Crossing.{crosses}
 use Rattle.indexmap.proofs.map.IndexMap.TheSendSync as map
 use Rattle.cov_tree.proofs.name.Name.TheSendSync as name
-use Rattle.record_codec.proofs.record.Record.TheSendSync as content
 use Rattle.tally.proofs.tally.Tally.TheSendSync as tally
-use Rattle.sampler.specs.contracts.prepared.Prepared as prepared
+use Rattle.sampler.proofs.encoded.EncodedRecord.TheSendSync as content
 use Rattle.merge_store.proofs.branches.Branches.TheSendSync as branches
 use Rattle.merge_store.proofs.runs.Runs.TheSendSync as runs
 use Rattle.merge_store.specs.contracts.held.HeldEvent as event
@@ -14,9 +13,6 @@ use Rattle.merge_store.specs.contracts.held.Kept as kept
 use Rattle.merge_store.specs.contracts.store.Store as store
 use Rattle.sampler.proofs.Designs.{design_send, design_sync}
 
-pub prepared_send : IsSend prepared.the_row
-prepared_send = search (sendable, crosses, content.the_send, content.the_sync, tally.the_send, tally.the_sync, design_send, design_sync) depth 30
-
 pub event_field_send : IsSend (event.the_field).row
 event_field_send = search (sendable, crosses, content.the_send, content.the_sync, name.the_send, name.the_sync, design_send, design_sync) depth 30
 
@@ -24,7 +20,7 @@ pub held_send : IsSend held.the_row
 held_send = search (sendable, crosses, event_field_send) depth 30
 
 pub kept_send : IsSend kept.the_row
-kept_send = search (sendable, crosses, prepared_send, tally.the_send, tally.the_sync) depth 30
+kept_send = search (sendable, crosses, content.the_send, content.the_sync, tally.the_send, tally.the_sync) depth 30
 
 pub store_send : IsSend store.the_row
 store_send = search (sendable, crosses, map.the_send, name.the_send, name.the_sync, design_send, design_sync, branches.the_send, runs.the_send, held_send, kept_send) depth 40 fits 4000

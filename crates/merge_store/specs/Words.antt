@@ -19,4 +19,4 @@ abbrev pub entry_of : Held → Entry
 entry_of h = record { caller = h.caller; event = event_of h.event }
 
 abbrev pub test_of : Kept → Test
-test_of k = record { point = k.point; content = k.prepared.of }
+test_of k = record { point = k.point; content = arc_value k.rec }

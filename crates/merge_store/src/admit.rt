@@ -58,11 +58,11 @@ impl Store {
         requires under { prepared.now.under ≡ design_of (opening_of self.now) (take since (entries_of self.now)) }
         ensures { IsJudged (opening_of self.now) (entries_of self.now) since prepared.now.of prepared.now.under result }
     {
-        if let Some(kept) = self.kept(prepared.record().id.as_slice()) {
-            if kept.prepared.bytes() == prepared.bytes() {
+        if let Some(kept) = self.kept(prepared.id().as_slice()) {
+            if kept.rec.bytes() == prepared.bytes() {
                 return Judged::Here { point: kept.point };
             }
-            let digest = kept.prepared.digest();
+            let digest = kept.rec.digest();
             return Judged::Refused(AdmitFault::IdTaken { digest });
         }
         if since < self.revised {
@@ -86,13 +86,10 @@ impl Store {
         ensures err { OnErr result (entries_of self.new ≡ entries_of self.old) }
         ensures handed { IfErr result (λ back. back ≡ prepared) }
     {
-        let Ok(id) = Vec::from_slice(self.alloc, prepared.record().id.as_slice()) else {
+        let Ok(id) = Vec::from_slice(self.alloc, prepared.id().as_slice()) else {
             return Err(prepared);
         };
-        let Ok(content) = prepared.shared().clone() else {
-            return Err(prepared);
-        };
-        let Ok(tally) = prepared.tally().clone() else {
+        let Ok(content) = prepared.record().clone() else {
             return Err(prepared);
         };
         if self.entries.reserve(self.outs as usize + 1).is_err() {
@@ -101,6 +98,7 @@ impl Store {
         if self.tests.reserve(1).is_err() {
             return Err(prepared);
         }
+        let (rec, tally) = prepared.into_parts();
         add_counts(&mut self.counts, &tally);
         mark_rows(
             &mut self.runs,
@@ -110,11 +108,7 @@ impl Store {
             tally.rows(),
         );
         let point = self.entries.as_slice().len() as u64 + 1;
-        let test = Kept {
-            point,
-            prepared,
-            tally,
-        };
+        let test = Kept { point, rec, tally };
         add_test(&mut self.tests, id, test);
         let event = HeldEvent::Admit(content);
         put(&mut self.entries, Held { caller, event });

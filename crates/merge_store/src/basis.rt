@@ -8,23 +8,23 @@ ghost use Rattle.merge_store.specs.Stores.{opening_of, entries_of};
 use crate::Store;
 use cov_base::Memory;
 use cov_tree::List;
-use record_codec::Record;
+use sampler::EncodedRecord;
 use std::sync::Arc;
 use store_core::Basis;
 
 impl Store {
     /// One record more, of the test at a place.
-    fn push_record(&self, list: &mut Vec<Arc<Record>>, place: usize) -> Result<(), Memory>
+    fn push_record(&self, list: &mut Vec<Arc<EncodedRecord>>, place: usize) -> Result<(), Memory>
         ensures { OnOk result (map arc_value list.new.items ≡ map arc_value list.old.items ++ option_to_list (option_map (λ t. t.content) (slice_get (tests_of (entries_of self.now)) place))) }
     {
         if let Some(test) = self.test(place) {
-            list.push(test.prepared.shared().clone()?)?;
+            list.push(test.rec.clone()?)?;
         }
         Ok(())
     }
 
     /// The records of the tests, in order of admission.
-    fn records(&self) -> Result<Vec<Arc<Record>>, Memory>
+    fn records(&self) -> Result<Vec<Arc<EncodedRecord>>, Memory>
         ensures { IfOk result (λ list. map arc_value list.items ≡ contents (entries_of self.now)) }
     {
         let mut list = Vec::new(self.alloc);

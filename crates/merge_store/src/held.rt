@@ -1,15 +1,14 @@
 //! What a store keeps of an entry and of a test.
 use cov_tree::Name;
 use design_data::Design;
-use record_codec::Record;
-use sampler::Prepared;
+use sampler::EncodedRecord;
 use std::sync::Arc;
 use tally::Tally;
 
 /// A change that shares what it names.
 #[derive(Drop)]
 pub(crate) enum HeldEvent {
-    Admit(Arc<Record>),
+    Admit(Arc<EncodedRecord>),
     Exclude(Arc<Name>),
     Include(Arc<Name>),
     /// A text with its design.
@@ -28,8 +27,8 @@ pub(crate) struct Held {
 pub(crate) struct Kept {
     /// The point after its admission.
     pub(crate) point: u64,
-    /// Its record with the record's bytes and their digest, as they were handed in.
-    pub(crate) prepared: Prepared,
+    /// Its record as the record's bytes with their digest, as they were handed in.
+    pub(crate) rec: Arc<EncodedRecord>,
     /// Its tally under the design of now.
     pub(crate) tally: Arc<Tally>,
 }

@@ -21,6 +21,7 @@ use cov_base::Memory;
 use cov_tree::{List, Name};
 use design_data::BinKind;
 use rank_report::rank;
+use sampler::EncodedRecord;
 use std::sync::Arc;
 use std::thread::Threads;
 use tally::{Ranked, Tally};
@@ -181,16 +182,16 @@ impl Store {
     fn test_row(&self, test: &Kept) -> Result<HistoryNode, Memory>
         ensures { IfOk result (λ row. row ≡ test_row (test_of test.now)) }
     {
-        let content = test.prepared.record();
+        let content: &EncodedRecord = &test.rec;
         Ok(HistoryNode {
             kind: HistoryKind::Test,
             point: test.point,
-            status: content.status,
-            seed: content.seed,
-            time: content.time,
-            digest: test.prepared.digest(),
-            id: content.id.copy(self.alloc)?,
-            user: content.user.copy(self.alloc)?,
+            status: content.status(),
+            seed: content.seed(),
+            time: content.time(),
+            digest: content.digest(),
+            id: content.id().copy(self.alloc)?,
+            user: content.user().copy(self.alloc)?,
         })
     }
 
@@ -295,7 +296,7 @@ impl Store {
         let Some(test) = self.test(place as usize) else {
             return Err(QueryFault::NoSuchTest);
         };
-        let bytes = test.prepared.bytes();
+        let bytes = test.rec.bytes();
         match Name::of(self.alloc, part_of(bytes, offset as usize, MOST_CHUNK)) {
             Ok(part) => Ok((bytes.len() as u64, part)),
             Err(_) => Err(QueryFault::Memory),

@@ -5,3 +5,4 @@ pub mod Starts
 mod Parts
 mod Expressions
 pub mod Designs
+mod OneRecord

@@ -5,4 +5,5 @@ pub mod Walking
 pub mod Shares
 pub mod Plans
 pub mod Starting
+pub mod Encoded
 pub mod Preparing

@@ -5,6 +5,7 @@
 #![tactic(auto)]
 
 mod binning;
+mod encoded;
 mod instance;
 mod plan;
 mod planning;
@@ -16,6 +17,7 @@ mod values;
 mod walking;
 
 pub use binning::{bin_record, bin_record_under, counts_under, part_counts, tally_of, zeros};
+pub use encoded::EncodedRecord;
 pub use instance::{InstState, ItemState};
 pub use plan::{InstPlan, ItemPlan, Plan};
 pub use prepared::{Prepared, prepare, prepare_under};

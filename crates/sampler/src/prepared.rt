@@ -5,31 +5,28 @@ ghost use Rattle.sha2.specs.Sha256.{sha256};
 ghost use Rattle.record_codec.specs.Spelling.{spelling};
 ghost use Rattle.sampler.specs.Plans.{IsDesignPlan, IsTallyOf};
 
+use crate::EncodedRecord;
 use crate::binning::{bin_record, bin_record_under};
 use crate::plan::Plan;
 use cov_base::{Gate, Memory};
+use cov_tree::Name;
 use design_data::Design;
-use record_codec::{Record, encode};
-use sha2::{Digest, Sha256};
+use record_codec::Record;
 use std::alloc::Global;
 use std::marker::Model;
 use std::sync::Arc;
 use tally::Tally;
 
-/// A record with its encoding, the digest of that, and its tally under a design.
+/// A record as its encoding, with its tally under a design. Its events stand in the encoding alone.
 #[derive(Drop)]
 pub struct Prepared {
     design: Arc<Design>,
-    rec: Arc<Record>,
-    bytes: Vec<u8>,
-    digest: [u8; 32],
+    rec: Arc<EncodedRecord>,
     tally: Arc<Tally>,
 }
 
 impl Model for Prepared {
-    ghost use Rattle.std.specs.Prelude.{◌≡◌};
     ghost use Rattle.std.specs.Arc.{arc_value};
-    ghost use Rattle.sha2.specs.Sha256.{sha256};
     ghost use Rattle.record_codec.specs.Spelling.{spelling};
     ghost use Rattle.sampler.specs.Plans.{IsTallyOf};
     ghost use Rattle.sampler.specs.Preparing.{Whole};
@@ -41,9 +38,14 @@ impl Model for Prepared {
 
     ghost coded = { Prim.hlevel (codes, design_type.the_row.coded, record_type.the_row.coded) };
 
-    ghost view = { λ p. record { under = arc_value p.design; of = arc_value p.rec; content = p.bytes.items; counted = arc_value p.tally } };
+    ghost view = { λ p. record {
+      under = arc_value p.design;
+      of = arc_value p.rec;
+      content = spelling (arc_value p.rec);
+      counted = arc_value p.tally;
+    } };
 
-    ghost invariant = { λ p. (p.bytes.items ≡ spelling (arc_value p.rec)) × (p.digest ≡ sha256 p.bytes.items) × IsTallyOf (arc_value p.design) (arc_value p.rec) (arc_value p.tally) };
+    ghost invariant = { λ p. IsTallyOf (arc_value p.design) (arc_value p.rec) (arc_value p.tally) };
 }
 
 impl Prepared {
@@ -58,18 +60,10 @@ impl Prepared {
         ensures design { IfOk result (λ p. p.under ≡ arc_value design.now) }
         ensures of { IfOk result (λ p. p.of ≡ rec) }
     {
-        let bytes = encode(alloc, &rec)?;
-        let digest = Sha256::digest(bytes.as_slice());
-        let rec = Arc::new(alloc, rec)?;
+        let rec = Arc::new(alloc, EncodedRecord::of(alloc, rec)?)?;
         let tally = Arc::new(alloc, tally)?;
         let design = design.clone()?;
-        Ok(Prepared {
-            design,
-            rec,
-            bytes,
-            digest,
-            tally,
-        })
+        Ok(Prepared { design, rec, tally })
     }
 
     /// The design under which it is binned.
@@ -79,18 +73,18 @@ impl Prepared {
         &self.design
     }
 
-    /// The record.
-    pub fn record(&self) -> &Record
-        ensures { result.now ≡ self.now.of }
+    /// The record as its encoding, shared.
+    pub fn record(&self) -> &Arc<EncodedRecord>
+        ensures { arc_value result.now ≡ self.now.of }
     {
         &self.rec
     }
 
-    /// The record, shared.
-    pub fn shared(&self) -> &Arc<Record>
-        ensures { arc_value result.now ≡ self.now.of }
+    /// The name of the record's test.
+    pub fn id(&self) -> &Name
+        ensures { result.now ≡ self.now.of.id }
     {
-        &self.rec
+        self.rec.id()
     }
 
     /// The record's encoding.
@@ -98,14 +92,14 @@ impl Prepared {
         ensures bytes { result.now ≡ self.now.content }
         ensures spelled { self.now.content ≡ spelling self.now.of }
     {
-        self.bytes.as_slice()
+        self.rec.bytes()
     }
 
     /// The SHA-256 of the record's encoding. It was taken when the record was prepared.
     pub fn digest(&self) -> [u8; 32]
         ensures { result ≡ sha256 (spelling self.now.of) }
     {
-        self.digest
+        self.rec.digest()
     }
 
     /// How often each bin of the design is hit in the record.
@@ -114,6 +108,15 @@ impl Prepared {
         ensures counted { IsTallyOf self.now.under self.now.of self.now.counted }
     {
         &self.tally
+    }
+
+    /// Gives away the record and the tally. It takes no memory.
+    pub fn into_parts(self) -> (Arc<EncodedRecord>, Arc<Tally>)
+        ensures of { arc_value result.0 ≡ self.of }
+        ensures tally { arc_value result.1 ≡ self.counted }
+        ensures counted { IsTallyOf self.under self.of self.counted }
+    {
+        (self.rec, self.tally)
     }
 }
 

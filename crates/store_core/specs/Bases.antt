@@ -1,5 +1,5 @@
 -- What a basis is, and a text that is made ready by it.
-use Rattle.std.specs.Prelude.{◌≡◌, ◌≤◌, ℕ, List, length, map, Ok, true}
+use Rattle.std.specs.Prelude.{◌≡◌, ◌≤◌, List, length, map, Ok}
 use Rattle.std.specs.Arc.{arc_value}
 use Rattle.design_data.specs.declared.design.Design.{Design}
 use Rattle.ucis_model.specs.declared.answers.Which.TheVariants.{Tests}

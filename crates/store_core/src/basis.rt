@@ -1,7 +1,7 @@
 //! What a record is prepared under, and a text's design compared with.
 use cov_tree::List;
 use design_data::Design;
-use record_codec::Record;
+use sampler::EncodedRecord;
 use std::sync::Arc;
 
 /// The design and the tests at a point of a history.
@@ -11,6 +11,6 @@ pub struct Basis {
     pub point: u64,
     /// Its design then.
     pub design: Arc<Design>,
-    /// The records of its tests then, in order of admission.
-    pub records: List<Arc<Record>>,
+    /// The records of its tests then, in order of admission, each as its bytes.
+    pub records: List<Arc<EncodedRecord>>,
 }

@@ -14,7 +14,7 @@ use cov_base::Memory;
 use cov_tree::List;
 use design_data::Design;
 use record_codec::Record;
-use sampler::{Plan, bin_record_under};
+use sampler::{EncodedRecord, Plan, bin_record_under};
 use std::alloc::Global;
 use std::sync::Arc;
 use std::thread::Threads;
@@ -42,19 +42,34 @@ fn tally_of(
     Ok(shared)
 }
 
+/// The tally of a record, which is decoded for that alone.
+fn decoded_tally(
+    alloc: Global,
+    plan: &Plan,
+    design: &Design,
+    content: &EncodedRecord,
+) -> Result<Arc<Tally>, Memory>
+    requires { IsDesignPlan design.now.instances plan.now }
+    ensures { IfOk result (λ tally. arc_value tally ≡ rows_from 0 (tally_meant design.now content.now)) }
+{
+    let rec = content.decode(alloc)?;
+    let tally = tally_of(alloc, plan, design, &rec)?;
+    Ok(tally)
+}
+
 /// The tally of each record, in order.
 pub(crate) fn tallies_of(
     alloc: Global,
     plan: &Plan,
     design: &Design,
-    records: &[Arc<Record>],
+    records: &[Arc<EncodedRecord>],
 ) -> Result<Vec<Arc<Tally>>, Memory>
     requires { IsDesignPlan design.now.instances plan.now }
     ensures { IfOk result (λ tallies. map arc_value tallies.items ≡ tallies_meant design.now (map arc_value records.now)) }
 {
     let mut tallies = Vec::new(alloc);
     for content in records {
-        tallies.push(tally_of(alloc, plan, design, content)?)?;
+        tallies.push(decoded_tally(alloc, plan, design, content)?)?;
     }
     Ok(tallies)
 }
@@ -62,8 +77,8 @@ pub(crate) fn tallies_of(
 /// The records once more, shared.
 pub(crate) fn shared_records(
     alloc: Global,
-    records: &[Arc<Record>],
-) -> Result<List<Arc<Record>>, Memory>
+    records: &[Arc<EncodedRecord>],
+) -> Result<List<Arc<EncodedRecord>>, Memory>
     ensures { IfOk result (λ list. map arc_value list ≡ map arc_value records.now) }
 {
     let mut list = Vec::new(alloc);
@@ -86,7 +101,7 @@ fn add(counts: &mut Vec<u64>, tally: &Tally)
 fn sums(
     alloc: Global,
     design: &Design,
-    records: &[Arc<Record>],
+    records: &[Arc<EncodedRecord>],
     tallies: &[Arc<Tally>],
 ) -> Result<Vec<u64>, Memory>
     requires few { length records.now ≤ most Tests }
@@ -113,7 +128,7 @@ pub(crate) fn count_records<R: Threads + Sync>(
     rt: &R,
     alloc: Global,
     design: &Design,
-    records: &[Arc<Record>],
+    records: &[Arc<EncodedRecord>],
 ) -> Result<Counted, Memory>
     requires { length records.now ≤ most Tests }
     ensures tallies { IfOk result (λ counted. map arc_value counted.tallies.items ≡ tallies_meant design.now (map arc_value records.now)) }

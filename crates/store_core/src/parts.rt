@@ -7,8 +7,7 @@ ghost use Rattle.store_core.specs.Rebins.{tallies_of as tallies_meant};
 use crate::counting::tallies_of;
 use cov_base::Memory;
 use design_data::Design;
-use record_codec::Record;
-use sampler::Plan;
+use sampler::{EncodedRecord, Plan};
 use std::alloc::Global;
 use std::sync::Arc;
 use std::thread;
@@ -35,7 +34,7 @@ fn parts_of<R: Threads + Sync>(
     alloc: Global,
     plan: &Plan,
     design: &Design,
-    records: &[Arc<Record>],
+    records: &[Arc<EncodedRecord>],
     size: usize,
 ) -> Result<Vec<Result<Vec<Arc<Tally>>, Memory>>, Memory>
     requires plan { IsDesignPlan design.now.instances plan.now }
@@ -49,7 +48,7 @@ fn parts_of<R: Threads + Sync>(
         alloc,
         records,
         size,
-        &|start: usize, part: &[Arc<Record>]| -> Result<Vec<Arc<Tally>>, Memory>
+        &|start: usize, part: &[Arc<EncodedRecord>]| -> Result<Vec<Arc<Tally>>, Memory>
             requires { IsDesignPlan design.now.instances plan.now }
             ensures { IfOk result (λ tallies. map arc_value tallies.items ≡ tallies_meant design.entry.now (map arc_value part.entry.now)) }
         {
@@ -86,7 +85,7 @@ fn add_part(part: &Result<Vec<Arc<Tally>>, Memory>, all: &mut Vec<Arc<Tally>>) -
 fn joined(
     alloc: Global,
     design: &Design,
-    records: &[Arc<Record>],
+    records: &[Arc<EncodedRecord>],
     size: usize,
     parts: &[Result<Vec<Arc<Tally>>, Memory>],
 ) -> Result<Vec<Arc<Tally>>, Memory>
@@ -112,7 +111,7 @@ pub(crate) fn tallies_in_threads<R: Threads + Sync>(
     alloc: Global,
     plan: &Plan,
     design: &Design,
-    records: &[Arc<Record>],
+    records: &[Arc<EncodedRecord>],
 ) -> Result<Vec<Arc<Tally>>, Memory>
     requires { IsDesignPlan design.now.instances plan.now }
     ensures { IfOk result (λ tallies. map arc_value tallies.items ≡ tallies_meant design.now (map arc_value records.now)) }

@@ -14,7 +14,7 @@ use cov_base::{Gate, Memory};
 use cov_compile::Compiled;
 use cov_tree::{List, Name};
 use design_data::Design;
-use record_codec::Record;
+use sampler::EncodedRecord;
 use std::alloc::Global;
 use std::marker::Model;
 use std::sync::Arc;
@@ -28,7 +28,7 @@ pub struct Rebinned {
     text: Name,
     design: Arc<Design>,
     since: u64,
-    records: List<Arc<Record>>,
+    records: List<Arc<EncodedRecord>>,
     tallies: Vec<Arc<Tally>>,
     counts: Vec<u64>,
     entries: u64,
@@ -127,7 +127,8 @@ impl Rebinned {
     }
 }
 
-/// Counts the records of a basis under the design of a text, in as many threads as there are processors. The gate is passed at place 3 before and at place 4 after it.
+/// Counts the records of a basis under the design of a text, in as many threads as there are processors. Each record is decoded
+/// where it is counted, and given back then. The gate is passed at place 3 before and at place 4 after it.
 pub fn rebin<R: Threads + Sync, G: Gate>(
     rt: &R,
     alloc: Global,

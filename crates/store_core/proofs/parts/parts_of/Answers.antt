@@ -1,9 +1,8 @@
 use denote.Param.Send.{sendable}
 use Rattle.std.proofs.Crossing.{crosses}
-use Rattle.cov_tree.proofs.list.List.TheSendSync as list
 use Rattle.sampler.proofs.plan.Plan.TheSendSync as plan
 use Rattle.sampler.proofs.Designs.{design_sync}
 use Rattle.store_core.proofs.parts.parts_of.Goals as goal
 
 pub map_chunks-requires-sync-F : goal.map_chunks-requires-sync-F
-map_chunks-requires-sync-F g c κs within = search (sendable, crosses, design_sync, list.the_sync, plan.the_sync) depth 40
+map_chunks-requires-sync-F g c κs within = search (sendable, crosses, design_sync, plan.the_sync) depth 40

@@ -35,8 +35,8 @@ add_counts-requires-clause-inside c =
     let s = c.args.self.now in
     let p = c.args.prepared in
     let d = design_of (opening_of s) (entries_of s) in
-    let tallied : IsTallyOf d p.of p.counted = subst (λ (x : Design). IsTallyOf x p.of p.counted) c.requires.same c.tally.ensures.counted in
-    let rows : c.deref.result.now ≡ rows_from 0 (tally d p.of) = c.deref.ensures ∙ c.in-Ok-clone-2.ensures.cases ∙ c.tally.ensures.tally ∙ rows_are d p.of p.counted tallied in
+    let tallied : IsTallyOf d p.of p.counted = subst (λ (x : Design). IsTallyOf x p.of p.counted) c.requires.same c.into_parts-rec.ensures.counted in
+    let rows : c.deref.result.now ≡ rows_from 0 (tally d p.of) = c.deref.ensures ∙ c.into_parts-rec.ensures.tally ∙ rows_are d p.of p.counted tallied in
     subst (λ (n : ℕ). All (λ (row : ℕ × ℕ). row.0 < n) c.deref.result.now) (sym s.keeps.sums.same_len) (subst (λ (xs : List (ℕ × ℕ)). All (λ (row : ℕ × ℕ). row.0 < d.bin_count) xs) (sym rows) (all_inside d p.of))
 
 pub add_counts-requires-clause-room : goal.add_counts-requires-clause-room
@@ -44,15 +44,15 @@ add_counts-requires-clause-room c =
     let s = c.args.self.now in
     let p = c.args.prepared in
     let d = design_of (opening_of s) (entries_of s) in
-    let tallied : IsTallyOf d p.of p.counted = subst (λ (x : Design). IsTallyOf x p.of p.counted) c.requires.same c.tally.ensures.counted in
-    let rows : c.deref.result.now ≡ rows_from 0 (tally d p.of) = c.deref.ensures ∙ c.in-Ok-clone-2.ensures.cases ∙ c.tally.ensures.tally ∙ rows_are d p.of p.counted tallied in
+    let tallied : IsTallyOf d p.of p.counted = subst (λ (x : Design). IsTallyOf x p.of p.counted) c.requires.same c.into_parts-rec.ensures.counted in
+    let rows : c.deref.result.now ≡ rows_from 0 (tally d p.of) = c.deref.ensures ∙ c.into_parts-rec.ensures.tally ∙ rows_are d p.of p.counted tallied in
     subst (λ (xs : List (ℕ × ℕ)). HasRoom (count_in xs) s.counts.items) (sym rows) (counts_room s.keeps p.of)
 
 pub add_test-requires-clause-new : goal.add_test-requires-clause-new
 add_test-requires-clause-new c =
     let s = c.args.self.now in
     let r = c.args.prepared.of in
-    let id : c.in-Ok.id.items ≡ r.id = c.in-Ok.ensures.items ∙ c.as_slice.ensures ∙ ap (λ (x : Record). x.id) c.record.ensures in
+    let id : c.in-Ok.id.items ≡ r.id = c.in-Ok.ensures.items ∙ c.as_slice.ensures ∙ c.id.ensures in
     let none : lookup (λ (x : Vec ℕ Global). pointwise nat_eq r.id x.items) s.tests.entries ≡ None = none_kept s.tests.entries (entries_of s) r.id s.keeps.tests_are c.requires.is_new in
     let unchanged : lookup (λ (x : Vec ℕ Global). pointwise nat_eq r.id x.items) c.reserve-2.new.self.entries ≡ None = ap (lookup (λ (x : Vec ℕ Global). pointwise nat_eq r.id x.items)) c.reserve-2.ensures.entries ∙ none in
     subst (λ (i : List ℕ). lookup (λ (x : Vec ℕ Global). pointwise nat_eq i x.items) c.reserve-2.new.self.entries ≡ None) (sym id) unchanged
@@ -65,17 +65,17 @@ invariant_of-self-2-clause-keeps c =
     let h = entries_of s in
     let caller = c.args.caller in
     let d = design_of (opening_of s) h in
-    let tallied : IsTallyOf d r p.counted = subst (λ (x : Design). IsTallyOf x r p.counted) c.requires.same c.tally.ensures.counted in
-    let kept_rows : arc_value c.in-Ok-clone-2.tally ≡ rows_from 0 (tally d r) = c.in-Ok-clone-2.ensures.cases ∙ c.tally.ensures.tally ∙ rows_are d r p.counted tallied in
-    let id : c.in-Ok.id.items ≡ r.id = c.in-Ok.ensures.items ∙ c.as_slice.ensures ∙ ap (λ (x : Record). x.id) c.record.ensures in
+    let tallied : IsTallyOf d r p.counted = subst (λ (x : Design). IsTallyOf x r p.counted) c.requires.same c.into_parts-rec.ensures.counted in
+    let kept_rows : arc_value c.into_parts-rec.result.1 ≡ rows_from 0 (tally d r) = c.into_parts-rec.ensures.tally ∙ rows_are d r p.counted tallied in
+    let id : c.in-Ok.id.items ≡ r.id = c.in-Ok.ensures.items ∙ c.as_slice.ensures ∙ c.id.ensures in
     let point : length c.as_slice-4.result.now ≡ length h = ap length (c.as_slice-4.ensures.value ∙ c.reserve.ensures.items) ∙ sym (length-map s.entries.items entry_of) in
     let held : Held = record { caller = caller; event = HeldEvent.Admit c.in-Ok-clone.content } in
     let items : c.put.new.entries.items ≡ s.entries.items ++ held ∷ [] = c.put.ensures.items ∙ ap (λ (xs : List Held). xs ++ held ∷ []) c.reserve.ensures.items in
-    let shared : arc_value c.in-Ok-clone.content ≡ r = c.in-Ok-clone.ensures.cases ∙ c.shared.ensures in
+    let shared : arc_value c.in-Ok-clone.content ≡ r = c.in-Ok-clone.ensures.cases ∙ c.record.ensures in
     let grown : map entry_of c.put.new.entries.items ≡ h ++ by caller (Admit r) ∷ [] = map_more entry_of s.entries.items c.put.new.entries.items held (by caller (Admit r)) items (ap (λ (x : Record). by caller (Admit x)) shared) in
     let view : (Vec ℕ Global × Kept) → List ℕ × Test = λ e. (e.0.items, test_of e.1) in
     let seen : (Vec ℕ Global × Kept) → Tally = λ e. arc_value e.1.tally in
-    let tests : map view c.add_test.new.tests.entries ≡ map view s.tests.entries ++ (r.id, test_at (length h + 1) r) ∷ [] = c.add_test.ensures.tests ∙ (λ i. map view (c.reserve-2.ensures.entries i) ++ (id i, test_at (point i + 1) r) ∷ []) in
+    let tests : map view c.add_test.new.tests.entries ≡ map view s.tests.entries ++ (r.id, test_at (length h + 1) r) ∷ [] = c.add_test.ensures.tests ∙ (λ i. map view (c.reserve-2.ensures.entries i) ++ (id i, test_at (point i + 1) (c.into_parts-rec.ensures.of i)) ∷ []) in
     let tallies : map seen c.add_test.new.tests.entries ≡ map seen s.tests.entries ++ rows_from 0 (tally d r) ∷ [] = c.add_test.ensures.tallies ∙ (λ i. map seen (c.reserve-2.ensures.entries i) ++ kept_rows i ∷ []) in
     let adds : Adds (count_in (rows_from 0 (tally d r))) s.counts.items c.add_counts.new.counts.items = subst (λ (rows : List (ℕ × ℕ)). Adds (count_in rows) s.counts.items c.add_counts.new.counts.items) (c.deref.ensures ∙ kept_rows) c.add_counts.ensures in
     rw (grown, tests, tallies) (admit_keeps s.keeps caller r p.under c.args.after c.requires c.add_counts.new.counts.items adds)
