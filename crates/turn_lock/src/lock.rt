@@ -30,7 +30,7 @@ const SERVING: usize = 2;
 const NUMBER: usize = 3;
 
 // How often a waiting thread looks before it sleeps. More looks cost more where threads outnumber processors.
-const LOOKS: u32 = 10;
+const LOOKS: u32 = 100;
 
 #[tactic(auto, unfolding(crate::specs::Seats::home, crate::specs::Seats::number_of, crate::specs::Seats::free, crate::specs::Seats::left, crate::specs::Seats::opened, crate::specs::Seats::seen, crate::specs::Seats::IsOf, crate::specs::Seats::turn_number, crate::specs::Seats::turn_free, crate::specs::Seats::turn_left, crate::specs::Seats::turn_opened, crate::specs::Seats::taken, crate::specs::Seats::IsTurnOf))]
 impl<T: Book> TurnLock<T> {
