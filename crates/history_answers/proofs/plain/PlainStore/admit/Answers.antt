@@ -20,7 +20,7 @@ invariant_of-self-2 c =
     let may : may_follow o h e ≡ true = subst (λ (es : List Entry). may_follow o es e ≡ true) same (sym (c.in_ok-after.ensures.some c.args.caller) ∙ ap is_some c.in-Some.is) in
     let legal : is_legal o (h ++ e ∷ []) ≡ true = legal_snoc o h e ∙ (λ i. s.legal i && may i) in
     let are : AreAmounts o (c.as_slice-entries.result.now ++ e ∷ []) after =
-        subst (λ (x : Option Amounts). IfSome x (λ known. AreAmounts o (c.as_slice-entries.result.now ++ e ∷ []) known)) c.in-Some.is (c.in_ok-after.ensures.amounts c.args.caller) in
+    subst (λ (x : Option Amounts). IfSome x (λ known. AreAmounts o (c.as_slice-entries.result.now ++ e ∷ []) known)) c.in-Some.is (c.in_ok-after.ensures.amounts c.args.caller) in
     let grown : AreAmounts o now after = subst (λ (es : List Entry). AreAmounts o es after) (ap (λ (es : List Entry). es ++ e ∷ []) same ∙ sym c.in_ok-push.ensures.items) are in
     record {
       legal = subst (λ (es : List Entry). is_legal o es ≡ true) (sym c.in_ok-push.ensures.items) legal;
