@@ -25,12 +25,12 @@ start() {
     while ! grep -q '^listening ' "$room/listening"; do sleep 0.05; done
 }
 
-# The least nanoseconds of three runs of the load with these words, each on a server of its own; `$1` is the first tag that its
+# The least nanoseconds of seven runs of the load with these words, each on a server of its own; `$1` is the first tag that its
 # replies may have, as a check that they were what was asked for.
 load_on() {
     local tag=$1 best=0 took told
     shift
-    for _ in 1 2 3; do
+    for _ in 1 2 3 4 5 6 7; do
         start
         read -r took told <<<"$("$load" "$address" "$@")"
         kill "$server"

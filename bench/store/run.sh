@@ -43,7 +43,7 @@ measure() {
 }
 
 measure "a point over 4,096 tests" 100000 tests
-measure "the root over 1,024 items" 10000 items ''
+measure "the root over 1,024 items" 100000 items ''
 measure "the root over 1,024 items, merged" 10 items 'type_option.merge_instances = 1;'
 
 # Records of so many times the same step.
