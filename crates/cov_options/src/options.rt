@@ -66,8 +66,8 @@ impl Options {
     ghost use Rattle.std.specs.Prelude.{◌≡◌, true, false};
     ghost use Rattle.cov_options.specs.Table.{options, type_options, HasDefaults, defaults, answer, after};
 
-    /// The defaults, and no mark. It takes no memory: `alloc` is kept for the texts.
-    pub fn new(alloc: Global) -> Options
+    /// The defaults, and no mark. It takes no memory.
+    pub fn new() -> Options
         ensures option { HasDefaults options result }
         ensures type_option { HasDefaults type_options result }
         ensures value { result ≡ defaults }
@@ -77,9 +77,9 @@ impl Options {
             weight_set: false,
             goal: 100,
             goal_set: false,
-            name: Name::from_vec(Vec::new(alloc)),
+            name: Name::empty(),
             name_set: false,
-            comment: Name::from_vec(Vec::new(alloc)),
+            comment: Name::empty(),
             comment_set: false,
             at_least: 1,
             at_least_set: false,
@@ -97,7 +97,7 @@ impl Options {
             type_weight_set: false,
             type_goal: 100,
             type_goal_set: false,
-            type_comment: Name::from_vec(Vec::new(alloc)),
+            type_comment: Name::empty(),
             type_comment_set: false,
             type_strobe: 0,
             type_strobe_set: false,

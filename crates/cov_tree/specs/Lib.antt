@@ -1,2 +1,4 @@
 pub mod formers
 pub mod Exprs
+pub mod Names
+pub mod Widths

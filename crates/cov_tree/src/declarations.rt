@@ -1,5 +1,35 @@
 //! Declarations of a design text. Each `at` is a byte offset in the text.
+ghost use Rattle.std.specs.Prelude.{◌≡◌};
+ghost use Rattle.cov_tree.specs.Widths.{bits_of};
+
 use crate::{EdgeText, Expr, Formal, List, Member, Name, Shared};
+
+/// The width of a type that has always the same (IEEE 1800-2017, 6.11, table 6-8).
+#[derive(Clone, Copy, Debug, PartialEq, Eq)]
+pub enum FixedWidth {
+    /// `byte`
+    Bits8,
+    /// `shortint`
+    Bits16,
+    /// `int` or `integer`
+    Bits32,
+    /// `longint`
+    Bits64,
+}
+
+impl FixedWidth {
+    /// How many bits it is.
+    pub fn bits(self) -> u8
+        ensures { result ≡ bits_of self }
+    {
+        match self {
+            FixedWidth::Bits8 => 8,
+            FixedWidth::Bits16 => 16,
+            FixedWidth::Bits32 => 32,
+            FixedWidth::Bits64 => 64,
+        }
+    }
+}
 
 /// A type as it is written (IEEE 1800-2017, 6.11).
 #[derive(Drop)]
@@ -10,9 +40,9 @@ pub enum TypeText {
         span: Option<(Expr, Expr)>,
         at: u32,
     },
-    /// `byte`, `shortint`, `int`, `longint` or `integer`, by its width in bits.
+    /// `byte`, `shortint`, `int`, `longint` or `integer`, by its width.
     Fixed {
-        width: u8,
+        width: FixedWidth,
         signed: bool,
     },
     /// The name of an enumeration.

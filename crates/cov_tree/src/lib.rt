@@ -18,7 +18,7 @@ mod shared;
 pub use bins::{BinsDecl, Elem, End, OptDecl, OptText, Right, Size, Step, Times, Word};
 pub use boxed::Boxed;
 pub use cov_ground::Memory;
-pub use declarations::{Decl, DesignText, TypeText};
+pub use declarations::{Decl, DesignText, FixedWidth, TypeText};
 pub use expr::{BinOp, Expr, UnOp};
 pub use groups::{CrossBins, CrossDecl, EdgeKind, EdgeText, Formal, Member, PointDecl, Sel};
 pub use list::List;

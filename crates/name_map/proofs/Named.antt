@@ -1,43 +1,30 @@
 -- Names in a map, and pairs one after the other.
-use Rattle.std.proofs.Common.{◌≡◌, ℕ, suc, Bor, Bool, true, false, cond, nat_eq, List, [], ◌∷◌, ◌++◌, length, Option, Some, None, refl, sym, ap, arith, ◌∙◌}
+use Rattle.std.proofs.Common.{◌≡◌, ℕ, Bor, Bool, true, false, cond, nat_eq, List, [], ◌∷◌, ◌++◌, Option, Some, None, refl, sym, ap, arith, ◌∙◌}
 use Rattle.std.specs.Prelude.{is_some, if◌then◌else◌, ◌&&◌, option_copied}
 use Rattle.std.proofs.lemmas.Bool.{eqb-true}
 use Rattle.indexmap.specs.IndexMap.{insert_entry}
 use Rattle.std.specs.Cmp.Lexicographic.{pointwise}
-use Rattle.std.specs.Global.{Vec}
-use Rattle.std.specs.Map.{lookup}
-use Rattle.name_map.specs.Names.{Pairs, meaning_of, entry_pairs, with_name, with_names}
-
--- a name in a map is found by its bytes
-pub lookup_entries : {M : Type 0} → (test : List ℕ → Bool) (entries : List (Vec ℕ × M)) → lookup (λ (v : Vec ℕ). test v.items) entries ≡ lookup test (entry_pairs entries)
-lookup_entries test [] = refl
-lookup_entries {M} test (e ∷ es) = ap (λ (r : Option M). cond (test e.0.items) (Some e.1) r) (lookup_entries test es)
-
-pub length-entries : {M : Type 0} → (entries : List (Vec ℕ × M)) → length entries ≡ length (entry_pairs entries)
-length-entries [] = refl
-length-entries (e ∷ es) = ap (λ n. suc n) (length-entries es)
+use Rattle.name_map.specs.Names.{Pairs, meaning_of, with_name, with_names}
 
 none_from : {M : Type 0} → (o : Option M) → is_some o ≡ false → o ≡ None
 none_from None e = refl
 none_from (Some m) e = (cc)
 
 -- a new name goes last
-pub insert_absent : {M : Type 0} → (eq : Vec ℕ → Vec ℕ → Bool) → ((v w : Vec ℕ) → eq v w ≡ pointwise nat_eq v.items w.items) → (es : List (Vec ℕ × M)) (key : Vec ℕ) (meaning : M) → is_some (meaning_of (entry_pairs es) key.items) ≡ false → entry_pairs (insert_entry eq es key meaning) ≡ with_name (entry_pairs es) key.items meaning
+pub insert_absent : {M : Type 0} → (es : Pairs M) (key : List ℕ) (meaning : M) → is_some (meaning_of es key) ≡ false → insert_entry (pointwise nat_eq) es key meaning ≡ with_name es key meaning
 unfolding meaning_of
-insert_absent {M} eq is es key meaning absent = last es (none_from (meaning_of (entry_pairs es) key.items) absent) ∙ sym (apart (is_some (meaning_of (entry_pairs es) key.items)) absent)
+insert_absent {M} es key meaning absent = last es (none_from (meaning_of es key) absent) ∙ sym (apart (is_some (meaning_of es key)) absent)
   where
-    apart : (b : Bool) → b ≡ false → (if b then entry_pairs es else entry_pairs es ++ (key.items, meaning) ∷ []) ≡ entry_pairs es ++ (key.items, meaning) ∷ []
+    apart : (b : Bool) → b ≡ false → (if b then es else es ++ (key, meaning) ∷ []) ≡ es ++ (key, meaning) ∷ []
     apart b e = rw e refl
 
-    step : (x : Vec ℕ × M) (xs : List (Vec ℕ × M)) (b d : Bool) → b ≡ d → (meaning_of (entry_pairs xs) key.items ≡ None → entry_pairs (insert_entry eq xs key meaning) ≡ entry_pairs xs ++ (key.items, meaning) ∷ []) → cond d (Some x.1) (meaning_of (entry_pairs xs) key.items) ≡ None → entry_pairs (if b then (x.0, meaning) ∷ xs else x ∷ insert_entry eq xs key meaning) ≡ (x.0.items, x.1) ∷ (entry_pairs xs ++ (key.items, meaning) ∷ [])
-    step x xs true true p rest e = (cc)
-    step x xs true false p rest e = (cc)
-    step x xs false true p rest e = (cc)
-    step x xs false false p rest e = ap (λ (ns : Pairs M). (x.0.items, x.1) ∷ ns) (rest e)
+    step : (x : List ℕ × M) (xs : Pairs M) (b : Bool) → (meaning_of xs key ≡ None → insert_entry (pointwise nat_eq) xs key meaning ≡ xs ++ (key, meaning) ∷ []) → cond b (Some x.1) (meaning_of xs key) ≡ None → (if b then (x.0, meaning) ∷ xs else x ∷ insert_entry (pointwise nat_eq) xs key meaning) ≡ x ∷ (xs ++ (key, meaning) ∷ [])
+    step x xs true rest e = (cc)
+    step x xs false rest e = ap (λ (ns : Pairs M). x ∷ ns) (rest e)
 
-    last : (es : List (Vec ℕ × M)) → meaning_of (entry_pairs es) key.items ≡ None → entry_pairs (insert_entry eq es key meaning) ≡ entry_pairs es ++ (key.items, meaning) ∷ []
+    last : (es : Pairs M) → meaning_of es key ≡ None → insert_entry (pointwise nat_eq) es key meaning ≡ es ++ (key, meaning) ∷ []
     last [] e = refl
-    last (x ∷ xs) e = step x xs (eq key x.0) (pointwise nat_eq key.items x.0.items) (is key x.0) (last xs) e
+    last (x ∷ xs) e = step x xs (pointwise nat_eq key x.0) (last xs) e
 
 -- ---- pairs one after the other
 

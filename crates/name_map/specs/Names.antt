@@ -1,8 +1,7 @@
 -- Names with what they stand for, as pairs of which the first of a name counts.
-use Rattle.std.specs.Prelude.{ℕ, List, [], ◌∷◌, ◌++◌, map, Option, is_some, nat_eq, if◌then◌else◌}
+use Rattle.std.specs.Prelude.{ℕ, List, [], ◌∷◌, ◌++◌, Option, is_some, nat_eq, if◌then◌else◌}
 use Rattle.std.specs.Cmp.Lexicographic.{pointwise}
 use Rattle.std.specs.Map.{lookup}
-use Rattle.std.specs.Global.{Vec}
 
 -- pairs of a name and what it stands for
 abbrev pub Pairs : Type 0 → Type 0
@@ -20,7 +19,3 @@ with_name pairs name meaning = if is_some (meaning_of pairs name) then pairs els
 abbrev pub with_names : {M : Type 0} → Pairs M → (more : Pairs M) → Pairs M
 with_names pairs [] = pairs
 with_names pairs (pair ∷ more) = with_names (with_name pairs pair.0 pair.1) more
-
--- How the code keeps them. Public contracts cite none of it.
-abbrev pub entry_pairs : {M : Type 0} → List (Vec ℕ × M) → Pairs M
-entry_pairs entries = map (λ e. (e.0.items, e.1)) entries

@@ -1,10 +1,13 @@
 //! Names with what they stand for, found by their bytes.
-ghost use Rattle.std.specs.Prelude.{◌≡◌, [], List, ℕ, length, is_none, option_copied, IfOk, OnOk, OnErr};
-ghost use Rattle.name_map.specs.Names.{meaning_of, with_name, with_names, entry_pairs};
+ghost use Rattle.std.specs.Cmp.Lexicographic.{pointwise, bytes_decides, nat_list_eq_equiv};
+ghost use Rattle.std.specs.Hash as fed;
+ghost use Rattle.std.proofs.Common.{ap};
+ghost use Rattle.std.specs.Prelude.{◌≡◌, nat_eq, [], List, ℕ, length, is_none, option_copied, IfOk, OnOk, OnErr};
+ghost use Rattle.name_map.specs.Names.{meaning_of, with_name, with_names};
 
 use cov_ground::Memory;
 use cov_tree::Name;
-use indexmap::IndexMap;
+use indexmap::{Equivalent, IndexMap};
 use std::alloc::Global;
 use std::marker::Model;
 
@@ -12,7 +15,7 @@ use std::marker::Model;
 /// a name counts, and each name stands in one pair. Its drop is one function, in place of the parts of the map wherever
 /// an owner of it may let it go.
 pub struct NameMap<M> {
-    map: IndexMap<Vec<u8>, M>,
+    map: IndexMap<Name, M>,
 }
 
 impl<M: Drop> Drop for NameMap<M> {
@@ -25,13 +28,12 @@ impl<M: Drop> Drop for NameMap<M> {
 impl<M> Model for NameMap<M> {
     ghost use Rattle.std.specs.Prelude.{List, ℕ};
     ghost use Rattle.std.specs.Coded.{coded_list, coded×, coded_ℕ};
-    ghost use Rattle.name_map.specs.Names.{entry_pairs};
 
     ghost Value = { List (List ℕ × M) };
 
     ghost coded = { coded_list (coded× (coded_list coded_ℕ) M.code) };
 
-    ghost view = { λ names. entry_pairs names.map.entries };
+    ghost view = { λ names. names.map.entries };
 }
 
 impl<M> NameMap<M> {
@@ -91,32 +93,50 @@ impl<M: Drop> NameMap<M> {
     }
 }
 
+/// The bytes by which a name is looked up.
+#[derive(Clone, Copy, PartialEq, Eq, Hash)]
+struct Sought<'a> {
+    bytes: &'a [u8],
+}
+
+impl Equivalent<Name> for Sought<'_> {
+    ghost equivalent = { λ s name. pointwise nat_eq s.bytes.now name };
+
+    ghost respects_hash = { λ s name h. ap (fed.slice fed.u8) ((bytes_decides s.bytes.now name).0 h) };
+
+    ghost respects_eq = { λ s x y. nat_list_eq_equiv.congr s.bytes.now x y };
+
+    fn equivalent(&self, key: &Name) -> bool {
+        self.bytes == key.as_slice()
+    }
+}
+
 /// How many entries there are.
-fn count<M>(map: &IndexMap<Vec<u8>, M>) -> usize
-    ensures { result ≡ length (entry_pairs map.now.entries) }
+fn count<M>(map: &IndexMap<Name, M>) -> usize
+    ensures { result ≡ length map.now.entries }
 {
     map.len()
 }
 
 /// What the name stands for among these.
 #[tactic(auto, unfolding(crate::specs::Names::meaning_of))]
-fn found<'a, M>(map: &'a IndexMap<Vec<u8>, M>, name: &[u8]) -> Option<&'a M>
-    ensures { option_copied result ≡ meaning_of (entry_pairs map.now.entries) name.now }
+fn found<'a, M>(map: &'a IndexMap<Name, M>, name: &[u8]) -> Option<&'a M>
+    ensures { option_copied result ≡ meaning_of map.now.entries name.now }
 {
-    map.get(name)
+    map.get(Sought { bytes: name })
 }
 
 /// Adds a name, unless it is there.
 #[tactic(auto, unfolding(crate::specs::Names::meaning_of))]
-fn add<M: Drop>(map: &mut IndexMap<Vec<u8>, M>, name: Name, meaning: M) -> Result<bool, Memory>
-    ensures new { IfOk result (λ is_new. is_new ≡ is_none (meaning_of (entry_pairs map.old.entries) name)) }
+fn add<M: Drop>(map: &mut IndexMap<Name, M>, name: Name, meaning: M) -> Result<bool, Memory>
+    ensures new { IfOk result (λ is_new. is_new ≡ is_none (meaning_of map.old.entries name)) }
     ensures added { OnOk result
-        (entry_pairs map.new.entries ≡ with_name (entry_pairs map.old.entries) name meaning) }
+        (map.new.entries ≡ with_name map.old.entries name meaning) }
     ensures err { OnErr result (map.new.entries ≡ map.old.entries) }
 {
     if found(map, name.as_slice()).is_some() {
         return Ok(false);
     }
-    map.insert(name.into_vec(), meaning)?;
+    map.insert(name, meaning)?;
     Ok(true)
 }
