@@ -5,4 +5,4 @@
 
 mod ranges;
 
-pub use ranges::{Typ2, auto_ranges, ends};
+pub use ranges::{Typ2, auto_ranges};

@@ -1,72 +1,19 @@
 //! The numbers of a type, spread over ranges.
-ghost use Rattle.std.specs.Prelude.{◌≡◌, ◌+◌, ◌^◌, ◌≤◌, pos, ◌+ℤ◌, ◌-ℤ◌, ◌≤ℤ◌, map, IfOk};
-ghost use Rattle.cov_base.specs.Sets.{span, count_from, least, greatest};
+ghost use Rattle.std.specs.Prelude.{◌≡◌, ◌+◌, ◌≤◌, pos, ◌+ℤ◌, ◌-ℤ◌, ◌≤ℤ◌, map, IfOk};
+ghost use Rattle.cov_base.specs.Sets.{span, count_from, greatest};
 ghost use Rattle.bin_spec.specs.Parts.{parts};
-ghost use Rattle.bin_spec.specs.Types.{lowest, highest};
-ghost use Rattle.cov_ground.specs.Limits.{most_bins, most_bits};
+ghost use Rattle.cov_ground.specs.Limits.{most_bins};
 ghost use Rattle.auto_bins.specs.Automatic.{automatic_parts, automatic_ranges, AllInOrder};
 
-use cov_base::{Int, Memory};
+use bit_width::Width;
+use cov_base::{Int, Memory, lowest_of, power_of_two};
 use std::alloc::Global;
 
-/// A type of numbers: `width` bits, 1 to 64, in two's complement where it is signed.
+/// A type of numbers, in two's complement where it is signed.
 #[derive(Clone, Copy, PartialEq, Eq)]
 pub struct Typ2 {
-    pub width: u8,
+    pub width: Width,
     pub signed: bool,
-}
-
-/// The number as an `Int`.
-fn int_of(number: i128) -> Int
-    requires low { least ≤ℤ number }
-    requires high { number ≤ℤ greatest }
-    ensures { result ≡ number }
-{
-    Int::new(number).unwrap()
-}
-
-/// The least number of a type.
-fn lowest_of(typ: Typ2) -> Int
-    requires narrowest { 1 ≤ typ.width }
-    requires widest { typ.width ≤ most_bits }
-    ensures { result ≡ lowest typ.width typ.signed }
-{
-    if typ.signed {
-        int_of(-(1 << (typ.width - 1)))
-    } else {
-        int_of(0)
-    }
-}
-
-/// The greatest number of a type.
-fn highest_of(typ: Typ2) -> Int
-    requires narrowest { 1 ≤ typ.width }
-    requires widest { typ.width ≤ most_bits }
-    ensures { result ≡ highest typ.width typ.signed }
-{
-    if typ.signed {
-        int_of((1 << (typ.width - 1)) - 1)
-    } else {
-        int_of((1 << typ.width) - 1)
-    }
-}
-
-/// The least and the greatest number of a type, of 1 to 64 bits (IEEE 1800-2017, 6.11). It takes no memory.
-pub fn ends(typ: Typ2) -> (Int, Int)
-    requires narrowest { 1 ≤ typ.width }
-    requires widest { typ.width ≤ most_bits }
-    ensures least { result.0 ≡ lowest typ.width typ.signed }
-    ensures greatest { result.1 ≡ highest typ.width typ.signed }
-{
-    (lowest_of(typ), highest_of(typ))
-}
-
-/// How many numbers a type has.
-fn count_of(typ: Typ2) -> u128
-    requires { typ.width ≤ most_bits }
-    ensures { result ≡ 2 ^ typ.width }
-{
-    1 << typ.width
 }
 
 /// The range of `count` numbers, at least one, that stand from place `first` on among those from `low` on.
@@ -79,7 +26,7 @@ fn range_at(low: Int, first: u128, count: u128) -> (Int, Int)
 {
     let start = low.get() + first as i128;
     let end = start + (count - 1) as i128;
-    (int_of(start), int_of(end))
+    (Int::of(start), Int::of(end))
 }
 
 /// So many numbers from `low` on, spread over `bins` ranges, of which each has one number at least.
@@ -104,8 +51,6 @@ fn spread_from(alloc: Global, low: Int, count: u128, bins: u128) -> Result<Vec<(
 /// bins as there are numbers, and over `max` bins, 1 to 65,536, where that is fewer. The last bin has those that are
 /// left over too.
 pub fn auto_ranges(alloc: Global, typ: Typ2, max: u32) -> Result<Vec<(Int, Int)>, Memory>
-    requires narrowest { 1 ≤ typ.width }
-    requires widest { typ.width ≤ most_bits }
     requires some { 1 ≤ max }
     requires most { max ≤ most_bins }
     ensures parts { IfOk result
@@ -113,7 +58,9 @@ pub fn auto_ranges(alloc: Global, typ: Typ2, max: u32) -> Result<Vec<(Int, Int)>
     ensures ranges { IfOk result
         (λ ranges. ranges.items ≡ automatic_ranges typ.width typ.signed max) }
 {
-    let count = count_of(typ);
-    let ranges = spread_from(alloc, lowest_of(typ), count, count.min(max as u128))?;
+    let width = typ.width.get();
+    let low = lowest_of(width, typ.signed);
+    let count = power_of_two(width);
+    let ranges = spread_from(alloc, low, count, count.min(max as u128))?;
     Ok(ranges)
 }

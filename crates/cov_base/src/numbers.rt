@@ -31,6 +31,7 @@ pub fn power_of_two(bits: u8) -> u128
 }
 
 /// The least number of a type of so many bits, in two's complement where it is signed (IEEE 1800-2017, 6.11).
+#[inline]
 pub fn lowest_of(width: u8, signed: bool) -> Int
     requires narrowest { 1 ≤ width }
     requires widest { width ≤ most_bits }
@@ -44,6 +45,7 @@ pub fn lowest_of(width: u8, signed: bool) -> Int
 }
 
 /// The greatest number of a type of so many bits, in two's complement where it is signed (IEEE 1800-2017, 6.11).
+#[inline]
 pub fn highest_of(width: u8, signed: bool) -> Int
     requires narrowest { 1 ≤ width }
     requires widest { width ≤ most_bits }

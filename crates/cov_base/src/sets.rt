@@ -84,7 +84,8 @@ impl ValueSet {
     /// wrong way round stands for no number.
     pub fn from_ranges(alloc: Global, ranges: &[(Int, Int)]) -> Result<ValueSet, Memory>
         ensures set { IfOk result (λ set. set ≡ set_of (written ranges.now)) }
-        ensures numbers { IfOk result (λ set. (v : ℤ) → is_in (written set) v ≡ is_in (written ranges.now) v) }
+        ensures numbers { IfOk result
+            (λ set. (v : ℤ) → is_in (written set) v ≡ is_in (written ranges.now) v) }
     {
         let sorted = order::ordered(alloc, ranges)?;
         let mut intervals = Vec::new(alloc);
@@ -121,7 +122,8 @@ impl ValueSet {
         ensures value { result.now ≡ self.now }
         ensures normal { IsNormalForm self.now }
         ensures set_of_written { set_of (written self.now) ≡ self.now }
-        ensures unique { (other : List (ℤ × ℤ)) → IsNormalForm other → ((v : ℤ) → is_in (written other) v ≡ is_in (written self.now) v) → other ≡ self.now }
+        ensures unique { (other : List (ℤ × ℤ)) → IsNormalForm other →
+            ((v : ℤ) → is_in (written other) v ≡ is_in (written self.now) v) → other ≡ self.now }
     {
         self.intervals.as_slice()
     }
@@ -129,7 +131,9 @@ impl ValueSet {
     /// The numbers of both sets.
     pub fn union(&self, alloc: Global, other: &ValueSet) -> Result<ValueSet, Memory>
         ensures set { IfOk result (λ set. set ≡ set_of (written self.now ++ written other.now)) }
-        ensures numbers { IfOk result (λ set. (v : ℤ) → is_in (written set) v ≡ (is_in (written self.now) v || is_in (written other.now) v)) }
+        ensures numbers { IfOk result
+            (λ set. (v : ℤ) → is_in (written set) v ≡
+            (is_in (written self.now) v || is_in (written other.now) v)) }
     {
         let intervals = merge::union_of(
             alloc,
@@ -141,8 +145,11 @@ impl ValueSet {
 
     /// The numbers of this set that are not in the other.
     pub fn minus(&self, alloc: Global, other: &ValueSet) -> Result<ValueSet, Memory>
-        ensures set { IfOk result (λ set. set ≡ set_of (without (written self.now) (written other.now))) }
-        ensures numbers { IfOk result (λ set. (v : ℤ) → is_in (written set) v ≡ (is_in (written self.now) v && not (is_in (written other.now) v))) }
+        ensures set { IfOk result
+            (λ set. set ≡ set_of (without (written self.now) (written other.now))) }
+        ensures numbers { IfOk result
+            (λ set. (v : ℤ) → is_in (written set) v ≡
+            (is_in (written self.now) v && not (is_in (written other.now) v))) }
     {
         let intervals = merge::without(
             alloc,

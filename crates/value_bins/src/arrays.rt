@@ -4,9 +4,9 @@ ghost use Rattle.cov_base.specs.Sets.{set_of, written};
 ghost use Rattle.cov_ground.specs.Limits.{most_bins};
 ghost use Rattle.value_bins.specs.Listed.{spread_sets, HaveTogether};
 
-use crate::ranges::{count_of, plus, size_of};
+use crate::ranges::count_of;
 use crate::{Elems, SpreadFault};
-use cov_base::{Int, Memory, ValueSet};
+use cov_base::{Int, Memory, ValueSet, size_of};
 use cov_ground::limits::MOST_BINS;
 use std::alloc::Global;
 
@@ -29,8 +29,8 @@ fn take_numbers(
         };
         let size = size_of(range.0, range.1);
         if missing < size {
-            rest.push((plus(range.0, missing), range.1))?;
-            bin.push((range.0, plus(range.0, missing - 1)))?;
+            rest.push((range.0.plus(missing), range.1))?;
+            bin.push((range.0, range.0.plus(missing - 1)))?;
             return Ok(());
         }
         bin.push(range)?;

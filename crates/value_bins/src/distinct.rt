@@ -3,9 +3,8 @@ ghost use Rattle.std.specs.Prelude.{◌≡◌, ◌≢◌, ℕ, ◌<◌, ◌≤�
 ghost use Rattle.cov_base.specs.Sets.{ascending, written, span};
 ghost use Rattle.cov_ground.specs.Limits.{most_bins};
 
-use crate::ranges::{plus, size_of};
 use crate::{Elems, SpreadFault};
-use cov_base::{Int, Memory, ValueSet};
+use cov_base::{Int, Memory, ValueSet, size_of};
 use cov_ground::limits::MOST_BINS;
 use std::alloc::Global;
 
@@ -14,7 +13,7 @@ fn add_numbers(numbers: &mut Vec<Int>, low: Int, high: Int) -> Result<(), Memory
     ensures { OnOk result (numbers.new.items ≡ numbers.old.items ++ span (low, high)) }
 {
     for offset in 0..size_of(low, high) {
-        numbers.push(plus(low, offset))?;
+        numbers.push(low.plus(offset))?;
     }
     Ok(())
 }

@@ -5,9 +5,9 @@ ghost use Rattle.cov_base.specs.Sets.{written, span, IsInt};
 ghost use Rattle.cov_ground.specs.Limits.{most_values};
 ghost use Rattle.value_bins.specs.Listed.{Keeps};
 
-use crate::ranges::{count_of, plus, size_of};
+use crate::ranges::count_of;
 use crate::{Elems, FilterFault};
-use cov_base::{Int, Memory};
+use cov_base::{Int, Memory, size_of};
 use cov_ground::limits::MOST_VALUES;
 use std::alloc::Global;
 
@@ -17,10 +17,11 @@ fn keep_number<F: Fn(Int) -> bool>(
     number: Int,
     keep: &F,
 ) -> Result<(), Memory>
-    requires callable { (v : ℤ) → IsInt v → F.pre keep.now v }
-    requires range { IsInt number }
+    requires { (v : ℤ) → IsInt v → F.pre keep.now v }
     ensures { OnOk result ((answer : Bool) × (IsInt number × F.post keep.now number answer) × (written kept.new.items ≡ written kept.old.items ++ items_where_true (answer ∷ []) (number ∷ []))) }
 {
+    // an `Int` is in its range
+    let _number = number.get();
     if keep(number) {
         kept.push((number, number))?;
     }
@@ -38,7 +39,7 @@ fn keep_numbers<F: Fn(Int) -> bool>(
     ensures { OnOk result (Keeps (λ v b. IsInt v × F.post keep.now v b) (span (low, high)) (written kept.old.items) (written kept.new.items)) }
 {
     for offset in 0..size_of(low, high) {
-        keep_number(kept, plus(low, offset), keep)?;
+        keep_number(kept, low.plus(offset), keep)?;
     }
     Ok(())
 }

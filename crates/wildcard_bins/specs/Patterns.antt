@@ -1,8 +1,9 @@
 -- Patterns of bits, some of whose places are free (IEEE 1800-2017, 19.5.4).
-use Rattle.std.specs.Prelude.{ℤ, pos, negsuc, ℕ, suc, ◌-◌, ◌^◌, ◌==◌, Bool, ◌&&◌, ◌||◌, List, filter}
+use Rattle.std.specs.Prelude.{◌≡◌, ℤ, pos, negsuc, ℕ, suc, ◌<◌, ◌-◌, ◌^◌, ◌==◌, Bool, ◌&&◌, ◌||◌, List, length, filter}
 use Rattle.std.specs.List.{list_all}
 use Rattle.std.specs.Int.{bit_at}
-use Rattle.cov_base.specs.Sets.{span, is_within}
+use Rattle.cov_ground.specs.Limits.{most_ranges}
+use Rattle.cov_base.specs.Sets.{span, is_within, set_of}
 use Rattle.bin_spec.specs.Parts.{places}
 use Rattle.bin_spec.specs.Types.{domain}
 use Rattle.wildcard_bins.specs.declared.pattern.Pattern.{Pattern}
@@ -23,3 +24,7 @@ agrees pattern v = is_within v (domain pattern.width pattern.signed) && list_all
 -- the numbers that agree with a pattern, ascending
 unfoldable pub agreeing : Pattern → List ℤ
 agreeing pattern = filter (agrees pattern) (span (domain pattern.width pattern.signed))
+
+-- the set of these numbers has so many intervals, which are more than a set may have
+abbrev pub IsTooMany : Pattern → ℕ → Type 0
+IsTooMany pattern count = (most_ranges < length (set_of (agreeing pattern))) × (count ≡ length (set_of (agreeing pattern)))

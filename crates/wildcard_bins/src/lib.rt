@@ -5,7 +5,6 @@
 
 mod fault;
 mod matching;
-mod numbers;
 mod pattern;
 mod ranges;
 

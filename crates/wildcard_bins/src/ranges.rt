@@ -1,23 +1,21 @@
 //! The set of the numbers that agree with a pattern.
 ghost use Rattle.std.specs.Prelude.{◌≡◌, ℤ, ℕ, ◌<◌, ◌≤◌, ◌↔◌, ◌++◌, All, length, map, Err, IfOk, OnOk};
+ghost use Rattle.cov_ground.specs.Limits.{most_ranges};
 ghost use Rattle.cov_base.specs.Sets.{set_of, is_in, written};
-ghost use Rattle.wildcard_bins.specs.Patterns.{agrees, agreeing, allows};
+ghost use Rattle.wildcard_bins.specs.Patterns.{agrees, agreeing, allows, IsTooMany};
 ghost use Rattle.wildcard_bins.specs.Halves.{has_half, halves, moved, IsMovable, IsLowestFixed};
 
-use crate::numbers::{plus, power_of_two};
 use crate::{Pattern, PatternFault};
-use cov_base::{Int, Memory, ValueSet};
+use cov_base::{Int, Memory, ValueSet, power_of_two};
+use cov_ground::limits::MOST_RANGES;
 use std::alloc::Global;
-
-/// The most intervals of a set.
-const MOST_RANGES: u64 = 65_536;
 
 /// The range that is so much higher.
 fn moved(range: (Int, Int), step: u128) -> (Int, Int)
     requires { IsMovable step range }
     ensures { result ≡ moved step range }
 {
-    (plus(range.0, step), plus(range.1, step))
+    (range.0.plus(step), range.1.plus(step))
 }
 
 /// Adds the ranges that are so much higher.
@@ -71,7 +69,7 @@ impl Pattern {
         requires bit { bit ≤ 1 }
         ensures { result ≡ has_half self.now place bit }
     {
-        if self.signed && place + 1 == self.width {
+        if self.signed && place + 1 == self.width.get() {
             return self.allows(place, 1 - bit);
         }
         self.allows(place, bit)
@@ -79,22 +77,21 @@ impl Pattern {
 
     /// How many places stand below the lowest place that isn't free; all places where each is free.
     fn free_places(&self) -> u8
-        requires { self.now.width ≤ 64 }
         ensures { IsLowestFixed self.now result }
     {
+        let width = self.width.get();
         let ones = self.free.trailing_ones();
-        (ones as u8).min(self.width)
+        (ones as u8).min(width)
     }
 
     /// The number of intervals of the set, with `first` places below the lowest place that isn't free.
     fn range_count(&self, first: u8) -> u64
-        requires narrowest { 1 ≤ self.now.width }
-        requires widest { self.now.width ≤ 64 }
-        requires lowest { IsLowestFixed self.now first }
+        requires { IsLowestFixed self.now first }
         ensures { result ≡ length (set_of (agreeing self.now)) }
     {
+        let width = self.width.get();
         let mut count = 1;
-        for place in first..self.width {
+        for place in first..width {
             count *= 1 + ((self.free >> place) & 1);
         }
         count
@@ -102,14 +99,13 @@ impl Pattern {
 
     /// The intervals of the set, with `first` places below the lowest place that isn't free.
     fn ranges(&self, alloc: Global, first: u8) -> Result<Vec<(Int, Int)>, Memory>
-        requires narrowest { 1 ≤ self.now.width }
-        requires widest { self.now.width ≤ 64 }
-        requires lowest { IsLowestFixed self.now first }
+        requires { IsLowestFixed self.now first }
         ensures { IfOk result (λ ranges. ranges.items ≡ set_of (agreeing self.now)) }
     {
+        let width = self.width.get();
         let low = self.lowest();
-        let mut ranges = vec![in alloc; (low, plus(low, power_of_two(first) - 1))]?;
-        for place in first..self.width {
+        let mut ranges = vec![in alloc; (low, low.plus(power_of_two(first) - 1))]?;
+        for place in first..width {
             let lower = self.has_half(place, 0);
             let upper = self.has_half(place, 1);
             ranges = halves_of(alloc, lower, upper, power_of_two(place), ranges.as_slice())?;
@@ -117,15 +113,14 @@ impl Pattern {
         Ok(ranges)
     }
 
-    /// The numbers that agree with the pattern, whose width is 1 to 64, as a set. It refuses more than 65,536 intervals
-    /// before it makes them, with how many there are.
+    /// The numbers that agree with the pattern, as a set. It refuses more than 65,536 intervals before it makes them,
+    /// with how many there are.
     pub fn as_set(&self, alloc: Global) -> Result<ValueSet, PatternFault>
-        requires narrowest { 1 ≤ self.now.width }
-        requires widest { self.now.width ≤ 64 }
         ensures set { IfOk result (λ set. set ≡ set_of (agreeing self.now)) }
         ensures numbers { IfOk result (λ set. (v : ℤ) → is_in (written set) v ≡ agrees self.now v) }
-        ensures most { OnOk result (length (set_of (agreeing self.now)) ≤ 65536) }
-        ensures too_many { (count : ℕ) → (result ≡ Err (PatternFault.TooManyRanges count)) ↔ ((65536 < length (set_of (agreeing self.now))) × (count ≡ length (set_of (agreeing self.now)))) }
+        ensures most { OnOk result (length (set_of (agreeing self.now)) ≤ most_ranges) }
+        ensures too_many { (count : ℕ)
+            → (result ≡ Err (PatternFault.TooManyRanges count)) ↔ IsTooMany self.now count }
     {
         let first = self.free_places();
         let count = self.range_count(first);

@@ -49,17 +49,16 @@ fn next(pattern: &Pattern, place: u8, bit: u64, met: Met) -> Met
 
 /// How many of the numbers that stand fewer than `bound` above the lowest one have allowed bits at all places.
 pub(crate) fn count_below(pattern: &Pattern, bound: u128) -> u128
-    requires narrowest { 1 ≤ pattern.now.width }
-    requires widest { pattern.now.width ≤ 64 }
-    requires bound { bound ≤ 2 ^ pattern.now.width }
+    requires { bound ≤ 2 ^ pattern.now.width }
     ensures { result ≡ met_below pattern.now pattern.now.width bound }
 {
+    let width = pattern.width.get();
     let mut met = Met { all: 1, below: 0 };
-    for place in 0..pattern.width {
+    for place in 0..width {
         let bit = ((bound >> place) & 1) as u64;
         met = next(pattern, place, bit, met);
     }
-    if bound == power_of_two(pattern.width) {
+    if bound == power_of_two(width) {
         return met.all;
     }
     met.below

@@ -23,7 +23,7 @@ pub(crate) fn has_half(pattern: &Pattern, place: u8, bit: u64) -> bool
     requires bit { bit ≤ 1 }
     ensures { result ≡ has_half_at pattern.now place bit }
 {
-    if pattern.signed && place + 1 == pattern.width {
+    if pattern.signed && place + 1 == pattern.width.get() {
         return allows(pattern, place, 1 - bit);
     }
     allows(pattern, place, bit)

@@ -28,7 +28,8 @@ impl Model for MemDoor {
 impl MemDoor {
     /// A door to these links that fails at the calls of these numbers, the first call being 0.
     pub fn new(links: Vec<MemLink>, failing: Vec<u64>) -> Self
-        ensures { result ≡ record { links = links.items; handed = 0; plan = planned failing.items } }
+        ensures { result ≡
+            record { links = links.items; handed = 0; plan = planned failing.items } }
     {
         MemDoor {
             links: links.into_iter(),

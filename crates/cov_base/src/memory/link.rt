@@ -29,7 +29,10 @@ impl SureLink {
     /// A link with these bytes to read and none written, that moves at most `piece` bytes a call.
     pub fn new(alloc: Global, contents: Vec<u8>, piece: usize) -> Self
         requires { 0 < piece }
-        ensures { result ≡ record { source = record { left = contents.items; piece = piece }; sink = record { written = Some []; piece = piece } } }
+        ensures { result ≡ record {
+          source = record { left = contents.items; piece = piece };
+          sink = record { written = Some []; piece = piece };
+        } }
     {
         SureLink {
             source: SureSource::new(contents, piece),
@@ -104,8 +107,10 @@ impl MemLink {
         failing_writes: Vec<u64>,
     ) -> Self
         requires { 0 < piece }
-        ensures source { result.source ≡ record { left = contents.items; piece = piece; plan = planned failing_reads.items } }
-        ensures sink { result.sink ≡ record { written = []; piece = piece; plan = planned failing_writes.items } }
+        ensures source { result.source
+            ≡ record { left = contents.items; piece = piece; plan = planned failing_reads.items } }
+        ensures sink { result.sink
+            ≡ record { written = []; piece = piece; plan = planned failing_writes.items } }
     {
         MemLink {
             source: MemSource::new(contents, piece, failing_reads),

@@ -93,7 +93,8 @@ impl MemSource {
     /// the first call being 0.
     pub fn new(contents: Vec<u8>, piece: usize, failing: Vec<u64>) -> Self
         requires { 0 < piece }
-        ensures { result ≡ record { left = contents.items; piece = piece; plan = planned failing.items } }
+        ensures { result ≡
+            record { left = contents.items; piece = piece; plan = planned failing.items } }
     {
         MemSource {
             inner: SureSource::new(contents, piece),

@@ -20,11 +20,11 @@ returns-in_default-clause-left c =
 pub returns-then-missing-size-clause-taken : goal.returns-then-missing-size-clause-taken
 returns-then-missing-size-clause-taken c =
     let fits = subst (λ (n : ℕ). c.loop-missing.missing < n) c.size_of-size.ensures.size c.if-missing-size.true in
-    let added = cut_added c.loop-missing.bin.items c.push-then-missing-size.new.self.items c.in-Some.range.0 c.plus-then-missing-size.result c.loop-missing.missing (omega (arith, c.loop-missing-test.true)) c.plus-then-missing-size.ensures.value c.in_ok-push-2.ensures.items in
-    (takes_part c.loop-missing.bin.items c.loop-missing.rest.items c.push-then-missing-size.new.self.items c.pop.new.self.items c.push.new.self.items c.loop-missing.missing c.in-Some.range.0 c.in-Some.range.1 c.plus.result c.loop-missing.invariant c.in-Some.ensures.items fits c.plus.ensures.value c.in_ok-push.ensures.items added).taken
+    let added = cut_added c.loop-missing.bin.items c.push-then-missing-size.new.self.items c.in-Some.range.0 c.plus-then-missing-size.result c.loop-missing.missing (omega (arith, c.loop-missing-test.true)) c.plus-then-missing-size.ensures c.in_ok-push-2.ensures.items in
+    (takes_part c.loop-missing.bin.items c.loop-missing.rest.items c.push-then-missing-size.new.self.items c.pop.new.self.items c.push.new.self.items c.loop-missing.missing c.in-Some.range.0 c.in-Some.range.1 c.plus.result c.loop-missing.invariant c.in-Some.ensures.items fits c.plus.ensures c.in_ok-push.ensures.items added).taken
 
 pub returns-then-missing-size-clause-left : goal.returns-then-missing-size-clause-left
 returns-then-missing-size-clause-left c =
     let fits = subst (λ (n : ℕ). c.loop-missing.missing < n) c.size_of-size.ensures.size c.if-missing-size.true in
-    let added = cut_added c.loop-missing.bin.items c.push-then-missing-size.new.self.items c.in-Some.range.0 c.plus-then-missing-size.result c.loop-missing.missing (omega (arith, c.loop-missing-test.true)) c.plus-then-missing-size.ensures.value c.in_ok-push-2.ensures.items in
-    (takes_part c.loop-missing.bin.items c.loop-missing.rest.items c.push-then-missing-size.new.self.items c.pop.new.self.items c.push.new.self.items c.loop-missing.missing c.in-Some.range.0 c.in-Some.range.1 c.plus.result c.loop-missing.invariant c.in-Some.ensures.items fits c.plus.ensures.value c.in_ok-push.ensures.items added).left
+    let added = cut_added c.loop-missing.bin.items c.push-then-missing-size.new.self.items c.in-Some.range.0 c.plus-then-missing-size.result c.loop-missing.missing (omega (arith, c.loop-missing-test.true)) c.plus-then-missing-size.ensures c.in_ok-push-2.ensures.items in
+    (takes_part c.loop-missing.bin.items c.loop-missing.rest.items c.push-then-missing-size.new.self.items c.pop.new.self.items c.push.new.self.items c.loop-missing.missing c.in-Some.range.0 c.in-Some.range.1 c.plus.result c.loop-missing.invariant c.in-Some.ensures.items fits c.plus.ensures c.in_ok-push.ensures.items added).left

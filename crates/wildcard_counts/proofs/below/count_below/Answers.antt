@@ -1,4 +1,4 @@
-use Rattle.std.proofs.Common.{refl, arith, ◌+◌}
+use Rattle.std.proofs.Common.{refl, ap, ℕ, ◌^◌, ◌∙◌, arith, ◌+◌}
 use Rattle.std.proofs.lemmas.Nat.Bits.{shr_and_one}
 use Rattle.wildcard_counts.proofs.Counted.{all_begin, below_begin, all_step, below_step, whole_few, below_few, bound_all, bound_below}
 use Rattle.wildcard_counts.proofs.below.count_below.Goals as goal
@@ -23,7 +23,9 @@ loop-place-preserved c =
     }
 
 pub returns-then-bound-power_of_two : goal.returns-then-bound-power_of_two
-returns-then-bound-power_of_two c = bound_all c.args.pattern.now c.loop-place.place c.args.bound c.loop-place.met.all c.power_of_two.result c.loop-place-test.false c.loop-place.auto.place-end c.power_of_two.ensures c.if-bound-power_of_two.true c.loop-place.invariant.all
+returns-then-bound-power_of_two c = bound_all c.args.pattern.now c.loop-place.place c.args.bound c.loop-place.met.all c.power_of_two.result (omega (arith, c.loop-place-test.false, c.get-width.ensures.value)) (omega (arith, c.loop-place.auto.place-end, c.get-width.ensures.value)) (c.power_of_two.ensures ∙ ap (λ (n : ℕ). 2 ^ n) c.get-width.ensures.value) c.if-bound-power_of_two.true c.loop-place.invariant.all
 
 pub returns : goal.returns
-returns c = bound_below c.args.pattern.now c.loop-place.place c.args.bound c.power_of_two.result c.loop-place.met.below c.loop-place-test.false c.loop-place.auto.place-end (omega (arith, c.requires.bound, c.power_of_two.ensures)) c.if-bound-power_of_two.false c.power_of_two.ensures c.loop-place.invariant.below
+returns c =
+    let all = c.power_of_two.ensures ∙ ap (λ (n : ℕ). 2 ^ n) c.get-width.ensures.value in
+    bound_below c.args.pattern.now c.loop-place.place c.args.bound c.power_of_two.result c.loop-place.met.below (omega (arith, c.loop-place-test.false, c.get-width.ensures.value)) (omega (arith, c.loop-place.auto.place-end, c.get-width.ensures.value)) (omega (arith, c.requires, all)) c.if-bound-power_of_two.false all c.loop-place.invariant.below
