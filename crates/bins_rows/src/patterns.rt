@@ -1,5 +1,4 @@
 //! Patterns of narrow and wide numbers, as tests and as sets.
-ghost use Rattle.std.specs.Prelude.{◌≤◌};
 
 use crate::ranges::typ_of;
 use crate::words::{int_of, show, show_fault, show_few, split};
@@ -13,10 +12,7 @@ fn bits_of(word: &str) -> u64 {
 }
 
 /// The pattern of a type, its bits, and those that are free.
-fn pattern_of(typ: &str, bits: &str, free: &str) -> Pattern
-    ensures narrowest { 1 ≤ result.width }
-    ensures widest { result.width ≤ 64 }
-{
+fn pattern_of(typ: &str, bits: &str, free: &str) -> Pattern {
     let typ = typ_of(typ);
     Pattern {
         width: typ.width,
@@ -27,10 +23,7 @@ fn pattern_of(typ: &str, bits: &str, free: &str) -> Pattern
 }
 
 /// Writes whether each number agrees with the pattern.
-fn show_agrees<R: Print>(rt: &R, pattern: Pattern, numbers: &str)
-    requires narrowest { 1 ≤ pattern.width }
-    requires widest { pattern.width ≤ 64 }
-{
+fn show_agrees<R: Print>(rt: &R, pattern: Pattern, numbers: &str) {
     for word in numbers.split(',') {
         let agrees = pattern.matches(int_of(word));
         show(rt, if agrees { " yes" } else { " no" });
@@ -38,10 +31,7 @@ fn show_agrees<R: Print>(rt: &R, pattern: Pattern, numbers: &str)
 }
 
 /// Writes the ranges of a pattern.
-fn show_set<R: Print>(rt: &R, alloc: Global, pattern: Pattern)
-    requires narrowest { 1 ≤ pattern.width }
-    requires widest { pattern.width ≤ 64 }
-{
+fn show_set<R: Print>(rt: &R, alloc: Global, pattern: Pattern) {
     match pattern.as_set(alloc) {
         Ok(set) => show_few(rt, set.intervals()),
         Err(fault) => show_fault(rt, &fault),

@@ -5,24 +5,19 @@ use crate::words::{
     ranges_of, show, show_fault, show_few, show_number, show_ranges, small_of, split,
 };
 use auto_bins::{Typ2, auto_ranges};
+use bit_width::Width;
 use cov_base::{Int, ValueSet};
 use std::alloc::Global;
 use std::io::Print;
 use value_bins::{Elems, filter_with, singles, spread};
 
 /// A width, 1 to 64.
-fn width_of(word: &str) -> u8
-    ensures narrowest { 1 ≤ result }
-    ensures widest { result ≤ 64 }
-{
-    small_of(word).clamp(1, 64) as u8
+fn width_of(word: &str) -> Width {
+    Width::of(small_of(word).clamp(1, 64) as u8)
 }
 
 /// A type's width, and whether it has a sign: as `12s` or `12u`.
-pub(crate) fn typ_of(word: &str) -> Typ2
-    ensures narrowest { 1 ≤ result.width }
-    ensures widest { result.width ≤ 64 }
-{
+pub(crate) fn typ_of(word: &str) -> Typ2 {
     Typ2 {
         width: width_of(word.trim_end_matches(['s', 'u'])),
         signed: word.ends_with('s'),

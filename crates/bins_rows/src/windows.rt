@@ -27,25 +27,22 @@ fn samples_of(alloc: Global, text: &str) -> Vec<Option<Int>> {
 }
 
 /// Writes whether the window is a list of the sequence.
-fn show_window<R: Print>(rt: &R, seq: &Seq, samples: &[Option<Int>]) {
-    show(
-        rt,
-        if window_in(seq, samples) {
-            " in"
-        } else {
-            " out"
-        },
-    );
+fn show_window<R: Print>(rt: &R, alloc: Global, seq: &Seq, samples: &[Option<Int>]) {
+    match window_in(alloc, seq, samples) {
+        Ok(true) => show(rt, " in"),
+        Ok(false) => show(rt, " out"),
+        Err(_) => {}
+    }
 }
 
 /// SEQUENCE / SAMPLES: whether the window is a list of the sequence.
 pub(crate) fn window<R: Print>(rt: &R, alloc: Global, row: &str) {
     let (seq, samples) = split(row, '/');
-    show_window(rt, &seq_of(alloc, seq), &samples_of(alloc, samples));
+    show_window(rt, alloc, &seq_of(alloc, seq), &samples_of(alloc, samples));
 }
 
 /// Whether the window of that number, whose digits to the base 3 are its samples, is a list of the sequence.
-fn is_list(seq: &Seq, len: usize, number: u32) -> bool
+fn is_list(alloc: Global, seq: &Seq, len: usize, number: u32) -> bool
     requires { len ≤ 5 }
 {
     let mut window = [None; 5];
@@ -54,16 +51,16 @@ fn is_list(seq: &Seq, len: usize, number: u32) -> bool
         *sample = Int::new(i128::from(rest % 3));
         rest /= 3;
     }
-    window_in(seq, &window[..len])
+    window_in(alloc, seq, &window[..len]).unwrap_or(false)
 }
 
 /// How many windows of that many samples from 0 to 2 are lists of the sequence.
-fn count_lists(seq: &Seq, len: usize) -> u32
+fn count_lists(alloc: Global, seq: &Seq, len: usize) -> u32
     requires { len ≤ 5 }
 {
     let mut count = 0u32;
     for number in 0..3u32.saturating_pow(len as u32) {
-        if is_list(seq, len, number) {
+        if is_list(alloc, seq, len, number) {
             count = count.saturating_add(1);
         }
     }
@@ -71,14 +68,14 @@ fn count_lists(seq: &Seq, len: usize) -> u32
 }
 
 /// Writes how many windows of 0 to 5 samples from 0 to 2 are lists of the sequence, and its cells.
-fn show_windows<R: Print>(rt: &R, seq: &Seq) {
+fn show_windows<R: Print>(rt: &R, alloc: Global, seq: &Seq) {
     for len in 0..6usize {
-        show_number(rt, i128::from(count_lists(seq, len)));
+        show_number(rt, i128::from(count_lists(alloc, seq, len)));
     }
     show_number(rt, i128::from(cells(seq)));
 }
 
 /// SEQUENCE: how many windows are lists of it, and its cells.
 pub(crate) fn windows<R: Print>(rt: &R, alloc: Global, row: &str) {
-    show_windows(rt, &seq_of(alloc, row));
+    show_windows(rt, alloc, &seq_of(alloc, row));
 }

@@ -6,5 +6,5 @@ pub mod Hits
 pub mod Others
 pub mod Products
 pub mod Plain
-pub mod Wide
+pub mod Items
 pub mod Windows

@@ -3,14 +3,11 @@ use Rattle.std.specs.Prelude.{◌≡◌, ℤ, ℕ, ◌+◌, ◌≤◌, ◌==◌,
 use Rattle.std.specs.List.{AllByRecursion, range_with_len}
 use Rattle.trans_seq.specs.declared.seq.Seq.{Seq}
 use Rattle.trans_seq.specs.Windows.{InSome}
-use Rattle.wildcard_bins.specs.declared.pattern.Pattern.{Pattern}
 use Rattle.design_data.specs.declared.infos.ItemInfo.{ItemInfo}
 use Rattle.design_data.specs.declared.infos.InstInfo.{InstInfo}
 use Rattle.design_data.specs.declared.infos.BinInfo.{BinInfo}
-use Rattle.design_data.specs.declared.infos.BinRule.{BinRule}
-use Rattle.design_data.specs.declared.infos.BinRule.TheVariants.{Values, Patterns, Trans, Default, DefaultValues, DefaultSequence, Picked, Product}
 use Rattle.design_data.specs.Crosses.{has}
-use Rattle.design_data.specs.Limits.{HasWidth, IsItem}
+use Rattle.design_data.specs.Limits.{IsItem}
 use Rattle.record_codec.specs.declared.record.Record.{Record}
 use Rattle.record_codec.specs.declared.record.SignalRow.{SignalRow}
 use Rattle.record_codec.specs.declared.record.ArgRow.{ArgRow}
@@ -32,22 +29,6 @@ envs_at signals rows instance before (Set signal value) = []
 envs_at signals rows instance before (Sample sampled args) = if sampled == instance then env_of signals rows before args ∷ [] else []
 
 -- ---- points
-
-abbrev pub ArePatternsWide : List Pattern → Type 0
-ArePatternsWide patterns = AllByRecursion (λ pattern. HasWidth pattern.width) patterns
-
-abbrev pub IsRuleWide : BinRule → Type 0
-IsRuleWide (Values set) = Unit {0}
-IsRuleWide (Patterns patterns) = ArePatternsWide patterns
-IsRuleWide (Trans seqs) = Unit {0}
-IsRuleWide Default = Unit {0}
-IsRuleWide (DefaultValues set) = Unit {0}
-IsRuleWide DefaultSequence = Unit {0}
-IsRuleWide (Picked select) = Unit {0}
-IsRuleWide (Product members) = Unit {0}
-
-abbrev pub AreBinsWide : List BinInfo → Type 0
-AreBinsWide bins = AllByRecursion (λ bin. IsRuleWide bin.rule) bins
 
 -- a window is a list of some own sequence and of no removing one
 abbrev pub Keeps : (own removing : List Seq) → List (Option ℤ) → Type 0

@@ -1,7 +1,7 @@
 //! When a bin of a cross is hit, by definition: all its products are tried.
 ghost use Rattle.std.specs.Prelude.{◌<◌, ◌↔◌, IsTrue, IfOk, length, slice_get};
 ghost use Rattle.cov_counting.specs.Crosses.{NumberHitAt, MemberHitAt, AllHitAt, CrossHitAt};
-ghost use Rattle.cov_counting.specs.Steps.{AreItems, AreBinsWide, SomeProductHit};
+ghost use Rattle.cov_counting.specs.Steps.{AreItems, SomeProductHit};
 
 use crate::points::{holds, is_hit};
 use cov_base::Int;
@@ -38,8 +38,7 @@ fn is_number_hit(
     samples: &[List<Option<Int>>],
     k: usize,
 ) -> Result<bool, Memory>
-    requires wide { AreBinsWide item.now.bins }
-    requires sample { k < length samples.now }
+    requires { k < length samples.now }
     ensures { IfOk result (λ hit. IsTrue hit ↔ NumberHitAt item.now item.now.shape number samples.now k) }
 {
     match &item.shape {

@@ -5,7 +5,7 @@ ghost use Rattle.const_eval.specs.Values.{is_true as is_true_of};
 ghost use Rattle.design_data.specs.Bins.{removing_seqs, seqs_of as seqs_of_rule};
 ghost use Rattle.design_data.specs.Laws.{in_patterns as in_patterns_of, lists as lists_of, is_listed as is_listed_in};
 ghost use Rattle.cov_counting.specs.Hits.{holds as holds_at, trace as trace_of, EndsNone, IsDefaultSequence, Meets, HitAt};
-ghost use Rattle.cov_counting.specs.Steps.{Keeps, ArePatternsWide, IsRuleWide, AreBinsWide};
+ghost use Rattle.cov_counting.specs.Steps.{Keeps};
 
 use const_eval::{Bound, eval};
 use cov_base::Int;
@@ -56,7 +56,6 @@ fn trace(
 
 /// Whether a pattern stands for the value.
 fn in_patterns(patterns: &[Pattern], value: Option<Int>) -> bool
-    requires { ArePatternsWide patterns.now }
     ensures { result ≡ in_patterns_of patterns.now value }
 {
     let Some(number) = value else {
@@ -72,7 +71,6 @@ fn in_patterns(patterns: &[Pattern], value: Option<Int>) -> bool
 
 /// Whether a bin of this rule lists the value.
 fn lists(rule: &BinRule, value: Option<Int>) -> bool
-    requires { IsRuleWide rule.now }
     ensures { result ≡ lists_of value rule.now }
 {
     match rule {
@@ -84,7 +82,6 @@ fn lists(rule: &BinRule, value: Option<Int>) -> bool
 
 /// Whether one of the bins lists the value.
 fn is_listed(bins: &[BinInfo], value: &Option<Int>) -> bool
-    requires { AreBinsWide bins.now }
     ensures { result ≡ is_listed_in bins.now value.now }
 {
     for bin in bins {
@@ -96,10 +93,16 @@ fn is_listed(bins: &[BinInfo], value: &Option<Int>) -> bool
 }
 
 /// Whether the window is a list of one of the sequences.
-fn in_some(seqs: &[Seq], window: &[Option<Int>]) -> bool
-    ensures { IsTrue result ↔ InSome seqs.now window.now }
+fn in_some(alloc: Global, seqs: &[Seq], window: &[Option<Int>]) -> Result<bool, Memory>
+    ensures { IfOk result (λ is. IsTrue is ↔ InSome seqs.now window.now) }
 {
-    seqs.iter().any(|seq| window_in(seq, window))
+    for seq in seqs {
+        let found = window_in(alloc, seq, window)?;
+        if found {
+            return Ok(true);
+        }
+    }
+    Ok(false)
 }
 
 /// The sequences that remove windows from a bin of this kind: those of ignore bins and those of illegal ones.
@@ -114,43 +117,62 @@ fn removing(item: &ItemInfo, kind: BinKind) -> (&[Seq], &[Seq])
 }
 
 /// Whether some window that ends with the last value is one of the sequences and none of those that remove.
-fn counts(seqs: &[Seq], ignored: &[Seq], illegal: &[Seq], values: &[Option<Int>]) -> bool
-    ensures { IsTrue result ↔ EndsKept seqs.now (ignored.now ++ illegal.now) values.now }
+fn counts(
+    alloc: Global,
+    seqs: &[Seq],
+    ignored: &[Seq],
+    illegal: &[Seq],
+    values: &[Option<Int>],
+) -> Result<bool, Memory>
+    ensures { IfOk result
+        (λ counts. IsTrue counts ↔ EndsKept seqs.now (ignored.now ++ illegal.now) values.now) }
 {
     for from in 0..values.len() {
-        if is_kept(seqs, ignored, illegal, &values[from..]) {
-            return true;
+        let kept = is_kept(alloc, seqs, ignored, illegal, &values[from..])?;
+        if kept {
+            return Ok(true);
         }
     }
-    false
+    Ok(false)
 }
 
 /// Whether the window is one of the sequences and none of those that remove.
-fn is_kept(seqs: &[Seq], ignored: &[Seq], illegal: &[Seq], window: &[Option<Int>]) -> bool
-    ensures { IsTrue result ↔ Keeps seqs.now (ignored.now ++ illegal.now) window.now }
+fn is_kept(
+    alloc: Global,
+    seqs: &[Seq],
+    ignored: &[Seq],
+    illegal: &[Seq],
+    window: &[Option<Int>],
+) -> Result<bool, Memory>
+    ensures { IfOk result
+        (λ kept. IsTrue kept ↔ Keeps seqs.now (ignored.now ++ illegal.now) window.now) }
 {
-    if !in_some(seqs, window) {
-        return false;
+    let own = in_some(alloc, seqs, window)?;
+    if !own {
+        return Ok(false);
     }
-    if in_some(ignored, window) {
-        return false;
+    let is_ignored = in_some(alloc, ignored, window)?;
+    if is_ignored {
+        return Ok(false);
     }
-    if in_some(illegal, window) {
-        return false;
+    let is_illegal = in_some(alloc, illegal, window)?;
+    if is_illegal {
+        return Ok(false);
     }
-    true
+    Ok(true)
 }
 
 /// Whether no window that ends with the last value is one of the sequences.
-fn ends_none(seqs: &[Seq], values: &[Option<Int>]) -> bool
-    ensures { IsTrue result ↔ EndsNone seqs.now values.now }
+fn ends_none(alloc: Global, seqs: &[Seq], values: &[Option<Int>]) -> Result<bool, Memory>
+    ensures { IfOk result (λ none. IsTrue none ↔ EndsNone seqs.now values.now) }
 {
     for from in 0..values.len() {
-        if in_some(seqs, &values[from..]) {
-            return false;
+        let found = in_some(alloc, seqs, &values[from..])?;
+        if found {
+            return Ok(false);
         }
     }
-    true
+    Ok(true)
 }
 
 /// The sequences of a transition bin.
@@ -164,66 +186,76 @@ fn seqs_of(rule: &BinRule) -> &[Seq]
 }
 
 /// Whether no window that ends with the last value is one of the sequences of a bin.
-fn ends_no_bin(bins: &[BinInfo], values: &[Option<Int>]) -> bool
-    ensures { IsTrue result ↔ All (λ bin. EndsNone (seqs_of_rule bin.rule) values.now) bins.now }
+fn ends_no_bin(alloc: Global, bins: &[BinInfo], values: &[Option<Int>]) -> Result<bool, Memory>
+    ensures { IfOk result
+        (λ none. IsTrue none ↔ All (λ bin. EndsNone (seqs_of_rule bin.rule) values.now) bins.now) }
 {
     for bin in bins {
-        if !ends_none(seqs_of(&bin.rule), values) {
-            return false;
+        let none = ends_none(alloc, seqs_of(&bin.rule), values)?;
+        if !none {
+            return Ok(false);
         }
     }
-    true
+    Ok(true)
 }
 
 /// Whether `default sequence` is met at the last value.
 fn is_default_sequence(
+    alloc: Global,
     item: &ItemInfo,
     before: &[Option<Int>],
     values: &[Option<Int>],
     now: &Option<Int>,
-) -> bool
+) -> Result<bool, Memory>
     requires { values.now ≡ before.now ++ now.now ∷ [] }
-    ensures { IsTrue result ↔ IsDefaultSequence item.now before.now now.now }
+    ensures { IfOk result (λ met. IsTrue met ↔ IsDefaultSequence item.now before.now now.now) }
 {
     if before.is_empty() {
-        return false;
+        return Ok(false);
     }
-    if !ends_no_bin(item.bins.as_slice(), values) {
-        return false;
+    let no_bin = ends_no_bin(alloc, item.bins.as_slice(), values)?;
+    if !no_bin {
+        return Ok(false);
     }
-    if !ends_none(item.ignored.as_slice(), values) {
-        return false;
+    let no_ignored = ends_none(alloc, item.ignored.as_slice(), values)?;
+    if !no_ignored {
+        return Ok(false);
     }
-    if !ends_none(item.illegal.as_slice(), values) {
-        return false;
+    let no_illegal = ends_none(alloc, item.illegal.as_slice(), values)?;
+    if !no_illegal {
+        return Ok(false);
     }
-    true
+    Ok(true)
 }
 
 /// Whether the rule of a bin of the point is met at the value `now`, the last one of `values`, after the values `before`.
 fn is_met(
+    alloc: Global,
     item: &ItemInfo,
     bin: &BinInfo,
     before: &[Option<Int>],
     values: &[Option<Int>],
     now: &Option<Int>,
-) -> bool
-    requires wide { AreBinsWide item.now.bins }
-    requires own { IsRuleWide bin.now.rule }
-    requires values { values.now ≡ before.now ++ now.now ∷ [] }
-    ensures { IsTrue result ↔ Meets item.now bin.now.kind bin.now.rule before.now now.now }
+) -> Result<bool, Memory>
+    requires { values.now ≡ before.now ++ now.now ∷ [] }
+    ensures { IfOk result
+        (λ met. IsTrue met ↔ Meets item.now bin.now.kind bin.now.rule before.now now.now) }
 {
     match &bin.rule {
-        BinRule::Values(set) => is_inside(set, *now),
-        BinRule::Patterns(patterns) => in_patterns(patterns.as_slice(), *now),
+        BinRule::Values(set) => Ok(is_inside(set, *now)),
+        BinRule::Patterns(patterns) => Ok(in_patterns(patterns.as_slice(), *now)),
         BinRule::Trans(seqs) => {
             let (ignored, illegal) = removing(item, bin.kind);
-            counts(seqs.as_slice(), ignored, illegal, values)
+            let met = counts(alloc, seqs.as_slice(), ignored, illegal, values)?;
+            Ok(met)
         }
-        BinRule::Default => !is_listed(item.bins.as_slice(), now),
-        BinRule::DefaultValues(set) => is_inside(set, *now),
-        BinRule::DefaultSequence => is_default_sequence(item, before, values, now),
-        BinRule::Picked(_) | BinRule::Product(_) => false,
+        BinRule::Default => Ok(!is_listed(item.bins.as_slice(), now)),
+        BinRule::DefaultValues(set) => Ok(is_inside(set, *now)),
+        BinRule::DefaultSequence => {
+            let met = is_default_sequence(alloc, item, before, values, now)?;
+            Ok(met)
+        }
+        BinRule::Picked(_) | BinRule::Product(_) => Ok(false),
     }
 }
 
@@ -236,9 +268,7 @@ pub(crate) fn is_hit(
     samples: &[List<Option<Int>>],
     k: usize,
 ) -> Result<bool, Memory>
-    requires wide { AreBinsWide item.now.bins }
-    requires own { IsRuleWide bin.now.rule }
-    requires sample { k < length samples.now }
+    requires { k < length samples.now }
     ensures { IfOk result (λ hit. IsTrue hit ↔ HitAt item.now expr.now bin.now samples.now k) }
 {
     let env = samples[k].as_slice();
@@ -251,7 +281,8 @@ pub(crate) fn is_hit(
     let now = eval(expr, env, None);
     let before = trace(alloc, expr, &item.guard, &samples[..k])?;
     let values = with_value(alloc, before.as_slice(), &now)?;
-    Ok(is_met(item, bin, before.as_slice(), values.as_slice(), &now))
+    let met = is_met(alloc, item, bin, before.as_slice(), values.as_slice(), &now)?;
+    Ok(met)
 }
 
 /// The values and one more.

@@ -3,7 +3,7 @@ ghost use Rattle.std.specs.Prelude.{◌≡◌, ◌<◌, ◌↔◌, IsTrue, IfOk,
 ghost use Rattle.design_data.specs.Bins.{bins_in, items_of_group, IsNumberedFrom};
 ghost use Rattle.record_codec.specs.Samples.{samples_of};
 ghost use Rattle.cov_counting.specs.Tallies.{Hit, IsCount, IsTally};
-ghost use Rattle.cov_counting.specs.Steps.{AreItems, AreInstances, AreBinsWide, IsRuleWide, Extends, ItemDone, ItemsDone, GroupDone};
+ghost use Rattle.cov_counting.specs.Steps.{AreItems, AreInstances, Extends, ItemDone, ItemsDone, GroupDone};
 
 use crate::crosses::is_cross_hit;
 use crate::points::is_hit;
@@ -25,8 +25,6 @@ fn is_bin_hit(
     k: usize,
 ) -> Result<bool, Memory>
     requires items { AreItems items.now }
-    requires own { AreBinsWide item.now.bins }
-    requires rule { IsRuleWide bin.now.rule }
     requires sample { k < length samples.now }
     ensures { IfOk result (λ hit. IsTrue hit ↔ Hit items.now item.now bin.now samples.now k) }
 {
@@ -52,9 +50,7 @@ fn count_of(
     bin: &BinInfo,
     samples: &[List<Option<Int>>],
 ) -> Result<u64, Memory>
-    requires items { AreItems items.now }
-    requires own { AreBinsWide item.now.bins }
-    requires rule { IsRuleWide bin.now.rule }
+    requires { AreItems items.now }
     ensures { IfOk result (λ count. IsCount items.now item.now bin.now samples.now count) }
 {
     let mut count = 0u64;
@@ -75,7 +71,6 @@ fn add_item(
     counts: &mut List<u64>,
 ) -> Result<(), Memory>
     requires items { AreItems items.now }
-    requires own { AreBinsWide item.now.bins }
     requires next { item.now.first_bin ≡ length counts.old }
     ensures extends { OnOk result (Extends counts.old counts.new (length item.now.bins)) }
     ensures done { OnOk result (ItemDone items.now item.now samples.now counts.new) }

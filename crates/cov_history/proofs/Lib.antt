@@ -2,6 +2,7 @@ pub mod Bools
 pub mod Filters
 pub mod Means
 pub mod Rankings
+pub mod Progress
 pub mod Windows
 pub mod Hits
 pub mod Counting

@@ -11,7 +11,7 @@ use Rattle.trans_seq.specs.declared.seq.Seq.{Seq}
 use Rattle.trans_seq.specs.declared.seq.Repeat.{Repeat}
 use Rattle.trans_seq.specs.declared.seq.Repeat.TheVariants.{Once, Consec, Goto, NonConsec}
 use Rattle.trans_seq.specs.Windows.{is_known_in, is_end, InRepeat, InItem, InSeq, InSome, InBlocks, EndsKept}
-use Rattle.trans_seq.proofs.Progress as progress
+use Rattle.cov_history.proofs.Progress as progress
 use Rattle.cov_counting.specs.Hits.{EndsNone}
 use Rattle.cov_history.specs.Tallies.{ends_inside, in_blocks, in_repeat, in_item, in_seq, in_some, ends_kept, ends_none}
 use Rattle.cov_history.proofs.Bools.{by_bool, and_left, and_right, both, not_true}

@@ -136,7 +136,7 @@ ahead-all : (items : List Item) → ahead items ([] ∷ []) ≡ words items
 ahead-all [] = refl
 ahead-all (item ∷ items) = ap (λ l. flat_map (λ v. map (λ r. v ∷ r) l) (written item.set)) (ahead-all items)
 
-ahead-append : (xs ys : List Item) (ws : List Word) → ahead (xs ++ ys) ws ≡ ahead xs (ahead ys ws)
+pub ahead-append : (xs ys : List Item) (ws : List Word) → ahead (xs ++ ys) ws ≡ ahead xs (ahead ys ws)
 ahead-append [] ys ws = refl
 ahead-append (x ∷ xs) ys ws = ap (λ l. flat_map (λ v. map (λ r. v ∷ r) l) (written x.set)) (ahead-append xs ys ws)
 
@@ -149,7 +149,7 @@ ahead-times-by (v ∷ vs) firsts ws =
     ∙ ap (λ l. l ++ joined rest ws) (sym (map-same (joined here ws)) ∙ first_map [] v firsts ws)
     ∙ ap (λ l. map (λ r. v ∷ r) (joined firsts ws) ++ l) (ahead-times-by vs firsts ws)
 
-ahead-times : (item : Item) (n : ℕ) (ws : List Word) → joined (choices (written item.set) n) ws ≡ ahead (replicate n (once item)) ws
+pub ahead-times : (item : Item) (n : ℕ) (ws : List Word) → joined (choices (written item.set) n) ws ≡ ahead (replicate n (once item)) ws
 ahead-times item zero ws = append-nil (map (λ o. [] ++ o) ws) ∙ map-same ws
 ahead-times item (suc n) ws =
     ahead-times-by (written item.set) (choices (written item.set) n) ws

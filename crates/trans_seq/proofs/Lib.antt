@@ -1,7 +1,5 @@
 pub mod Cuts
 pub mod Blocks
-pub mod Progress
-pub mod Sequences
 pub mod Members
 pub mod News
 pub mod Counted
@@ -15,3 +13,4 @@ pub mod WordLemmas
 pub mod MetLemmas
 pub mod Numbers
 pub mod HeldLemmas
+pub mod RunLemmas

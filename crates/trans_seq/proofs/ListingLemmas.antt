@@ -13,9 +13,9 @@ use Rattle.trans_seq.specs.declared.fault.ExpandFault.TheVariants.{Unbounded, To
 use Rattle.trans_seq.specs.declared.seq.Item.{Item}
 use Rattle.trans_seq.specs.Lists.{from_on, lengths, choices, by_lengths, news, all_of, listed, is_endless, RefusesToExpand}
 use Rattle.trans_seq.specs.Cells.{cells_of_items}
-use Rattle.trans_seq.specs.Found.{lists_of, Holds, FailsAfter, Extends, HasList, NoList, fronted, new_groups, packed}
+use Rattle.trans_seq.specs.Found.{lists_of, Holds, FailsAfter, Extends, HasList, NoList, new_groups, packed}
 use Rattle.trans_seq.proofs.Members.{none_in, first_in, cases_in, in_map, in_flat_map}
-use Rattle.trans_seq.proofs.News.{Word, all_of-new_groups, all_of-packed, packed_level}
+use Rattle.trans_seq.proofs.News.{Word, all_of-new_groups, all_of-packed}
 use Rattle.trans_seq.proofs.Counted.{no_fewer, no_list_here, no_list_later}
 
 -- ---- the numbers from one on
@@ -56,26 +56,14 @@ pub listed_all : (items : List Item) → listed items ≡ all_of (packed (new_gr
 unfolding listed
 listed_all items = sym (all_of-packed (new_groups [] (by_lengths items)) ∙ all_of-new_groups [] (by_lengths items))
 
-pub groups_all : (item : Item) (items : List Item) (behind : List (List Word)) → behind ≡ packed (new_groups [] (by_lengths items))
-    → packed (new_groups [] (fronted (choices (written item.set)) behind (lengths item.repeat))) ≡ packed (new_groups [] (by_lengths (item ∷ items)))
-groups_all item items behind e =
-    ap (λ l. packed (new_groups [] (fronted (choices (written item.set)) l (lengths item.repeat)))) e
-    ∙ sym (packed_level (choices (written item.set)) (by_lengths items) (lengths item.repeat))
-
-news_all : (gs hs : List (List Word)) → packed (new_groups [] gs) ≡ packed (new_groups [] hs) → news [] (all_of gs) ≡ news [] (all_of hs)
+pub news_all : (gs hs : List (List Word)) → packed (new_groups [] gs) ≡ packed (new_groups [] hs) → news [] (all_of gs) ≡ news [] (all_of hs)
 news_all gs hs e = sym (all_of-packed (new_groups [] gs) ∙ all_of-new_groups [] gs) ∙ ap all_of e ∙ all_of-packed (new_groups [] hs) ∙ all_of-new_groups [] hs
 
-fails_same : (xs ys : List Word) (f : ExpandFault) → news [] xs ≡ news [] ys → FailsAfter [] xs f → FailsAfter [] ys f
+pub fails_same : (xs ys : List Word) (f : ExpandFault) → news [] xs ≡ news [] ys → FailsAfter [] xs f → FailsAfter [] ys f
 fails_same xs ys Unbounded e h = h
 fails_same xs ys (TooLong cells) e h = h
 fails_same xs ys (TooManyBins count) e h = (h.0, omega (arith, h.1, ap length e))
 fails_same xs ys Memory e h = h
-
-pub fails_front : (item : Item) (items : List Item) (behind : List (List Word)) (f : ExpandFault) → behind ≡ packed (new_groups [] (by_lengths items))
-    → FailsAfter [] (all_of (fronted (choices (written item.set)) behind (lengths item.repeat))) f → FailsAfter [] (all_of (by_lengths (item ∷ items))) f
-fails_front item items behind f e h =
-    fails_same (all_of (fronted (choices (written item.set)) behind (lengths item.repeat))) (all_of (by_lengths (item ∷ items))) f
-    (news_all (fronted (choices (written item.set)) behind (lengths item.repeat)) (by_lengths (item ∷ items)) (groups_all item items behind e)) h
 
 -- that the others are too many says that all are too many
 no_fewer_news : (item : Item) (items : List Item) → HasList item → length (news [] (all_of (by_lengths items))) ≤ length (news [] (all_of (by_lengths (item ∷ items))))
@@ -126,7 +114,7 @@ has_some item low high are order some =
       is_choice = choice.1;
     }
 
-from_on_low : (low n m : ℕ) → Contains (from_on low n) m → (low ≤ m) × (0 < n)
+pub from_on_low : (low n m : ℕ) → Contains (from_on low n) m → (low ≤ m) × (0 < n)
 from_on_low low zero m h = absurd (none_in m h)
 from_on_low low (suc n) m h = elim (cases_in low (from_on (low + 1) n) m h) [
   | inl same ↦ (omega (arith, same), omega arith)

@@ -5,8 +5,7 @@ use Rattle.std.proofs.lemmas.Bool.{and_parts, and_from, or_cases, or_left, or_ri
 use Rattle.std.proofs.lemmas.List.{take_more, take-take, take_all, drop_all, take-append-drop, drop_more, get_or-replicate, get_or_past, get_or-set_same, get_or-set_other, get_or_default, length-replicate}
 use Rattle.std.proofs.lemmas.List.Elements.{All-nil, All-append, All-take, All-drop}
 use Rattle.trans_seq.specs.declared.seq.Item.{Item}
-use Rattle.trans_seq.specs.declared.seq.Repeat.{Repeat}
-use Rattle.trans_seq.specs.Windows.{Then, AllInside, AllOutside, IsOne, IsBlock, IsGap, IsRun, IsBlocks, InItem, InSeq, is_end, is_known_in}
+use Rattle.trans_seq.specs.Windows.{Then, AllInside, AllOutside, IsOne, IsBlock, IsGap, IsRun, IsBlocks, InItem, InSeq, is_end}
 use Rattle.trans_seq.specs.Reach.{IsReached, Leads, IsPart, IsParts, IsRepeated}
 use Rattle.trans_seq.proofs.Cuts.{then-map, then-assoc, then-assoc_back, then-empty, then-nil}
 use Rattle.trans_seq.proofs.Blocks.{run-zero, blocks-zero, run_at-push, run_at-push_back, after-push, after-push_back, open-cases, open-from}
@@ -171,22 +170,21 @@ module _ (p : Option ℤ → Bool) (w : List (Option ℤ)) (cuts next : List Boo
         ∙ ap (λ c. get_or cuts k false && c) is ∙ ap (λ n. get_or cuts n false && p (get_or w n None)) (sym same)
   ]
 
-  abbrev pub outside_value : Bool
-  outside_value = get_or next (k + 1) false || (get_or next k false && not b)
+-- what is reached by samples outside, one sample further
+pub opened-more : (p : Option ℤ → Bool) (w : List (Option ℤ)) (cuts : List Bool) (k : ℕ) (reached b : Bool) → b ≡ p (get_or w k None) → reached ≡ opened p w cuts k
+    → (get_or cuts (k + 1) false || (reached && not b)) ≡ opened p w cuts (k + 1)
+opened-more p w cuts k reached b is last =
+    let one : suc k ≡ k + 1 = omega arith in
+    ap (λ c. get_or cuts (k + 1) false || (c && not b)) last
+    ∙ ap (λ c. get_or cuts (k + 1) false || (opened p w cuts k && not c)) is
+    ∙ ap (λ n. get_or cuts n false || (opened p w cuts k && not (p (get_or w k None)))) (sym one)
+    ∙ ap (λ n. opened p w cuts n) one
 
-  pub outside-done : ((j : ℕ) → j ≤ k → get_or next j false ≡ opened p w cuts j) → ((j : ℕ) → k < j → get_or next j false ≡ get_or cuts j false) → (j : ℕ) → j ≤ k + 1 → get_or (set next (k + 1) outside_value) j false ≡ opened p w cuts j
-  outside-done done rest j h =
-      let one : suc k ≡ k + 1 = omega arith in
-      let here : outside_value ≡ opened p w cuts (k + 1) =
-      ap (λ c. c || (get_or next k false && not b)) (rest (k + 1) (omega arith))
-      ∙ ap (λ c. get_or cuts (k + 1) false || (c && not b)) (done k (omega arith))
-      ∙ ap (λ c. get_or cuts (k + 1) false || (opened p w cuts k && not c)) is
-      ∙ ap (λ n. get_or cuts n false || (opened p w cuts k && not (p (get_or w k None)))) (sym one)
-      ∙ ap (λ n. opened p w cuts n) one in
-      set-more next (k + 1) outside_value (opened p w cuts) (omega (arith, lt, room)) (λ i less. done i (omega (arith, less))) here j (omega (arith, h))
-
-  pub outside-rest : ((j : ℕ) → k < j → get_or next j false ≡ get_or cuts j false) → (j : ℕ) → k + 1 < j → get_or (set next (k + 1) outside_value) j false ≡ get_or cuts j false
-  outside-rest rest j h = get_or-set_other next (k + 1) j outside_value false (λ e. omega (arith, e, h)) ∙ rest j (omega (arith, h))
+pub first-size : {X : Type 0} (w : List X) (cuts found : List Bool) (low : ℕ) → length cuts ≡ length w + 1 → (low ≡ 0 → found ≡ cuts) → (0 < low → found ≡ replicate (length w + 1) false) → length found ≡ length w + 1
+first-size w cuts found low size here none = elim (cases_lt 0 low) [
+  | inl some ↦ ap length (none some) ∙ length-replicate (length w + 1) false
+  | inr ge ↦ ap length (here (omega (arith, ge))) ∙ size
+]
 
 -- ---- so many parts
 
@@ -236,6 +234,12 @@ module _ (p : Option ℤ → Bool) where
 
   pub repeated-none : (blocks : Bool) (w : List (Option ℤ)) (cuts none : List Bool) (low : ℕ) → 0 < low → ((k : ℕ) → get_or none k false ≡ false) → Leads (IsRepeated p blocks low 0) w cuts none
   repeated-none blocks w cuts none low some empty = leads-none (IsRepeated p blocks low 0) w cuts none empty (λ u r. let lo : low ≤ r.0 = r.1 in let hi : r.0 ≤ 0 = r.2 in omega (arith, lo, hi, some))
+
+  pub repeated-first : (blocks : Bool) (w : List (Option ℤ)) (cuts found : List Bool) (low : ℕ) → (low ≡ 0 → found ≡ cuts) → (0 < low → found ≡ replicate (length w + 1) false) → Leads (IsRepeated p blocks low 0) w cuts found
+  repeated-first blocks w cuts found low here none = elim (cases_lt 0 low) [
+    | inl some ↦ subst (λ f. Leads (IsRepeated p blocks low 0) w cuts f) (sym (none some)) (repeated-none blocks w cuts (replicate (length w + 1) false) low some (λ k. none-marked (length w + 1) k))
+    | inr ge ↦ let zero : low ≡ 0 = omega (arith, ge) in subst (λ f. Leads (IsRepeated p blocks low 0) w cuts f) (sym (here zero)) (repeated-start blocks w cuts low zero)
+  ]
 
   pub repeated-more : (blocks : Bool) (w : List (Option ℤ)) (cuts found now next : List Bool) (low m : ℕ) → low ≤ m + 1
       → ((k : ℕ) → get_or next k false ≡ (get_or found k false || get_or now k false))

@@ -1,5 +1,5 @@
 -- What the inner functions of `expand` do. Public contracts cite none of it.
-use Rattle.std.specs.Prelude.{ℤ, ℕ, zero, suc, ◌≡◌, ◌+◌, ◌≤◌, ◌<◌, List, [], ◌∷◌, ◌++◌, length, map, take, get_or, Option, All, Any, Contains, ⊤}
+use Rattle.std.specs.Prelude.{ℤ, ℕ, zero, suc, ◌≡◌, ◌+◌, ◌-◌, ◌≤◌, ◌<◌, List, [], ◌∷◌, ◌++◌, length, map, take, get_or, Option, All, Any, Contains, ⊤}
 use Rattle.std.specs.Ordering.{int_eq}
 use Rattle.std.specs.List.{flat_map}
 use Rattle.std.specs.Cmp.Lexicographic.{pointwise}
@@ -14,7 +14,7 @@ use Rattle.trans_seq.specs.declared.fault.ExpandFault.TheVariants.{Unbounded, To
 use Rattle.trans_seq.specs.declared.seq.Item.{Item}
 use Rattle.trans_seq.specs.declared.seq.Seq.{Seq}
 use Rattle.trans_seq.specs.Windows.{InSeq}
-use Rattle.trans_seq.specs.Lists.{lengths, choices, joined, is_among, news, all_of, lists_by_all}
+use Rattle.trans_seq.specs.Lists.{from_on, lengths, choices, joined, is_among, news, all_of, lists_by_all}
 
 -- what is new in each group, after the groups before it
 abbrev pub new_groups : List (List ℤ) → List (List (List ℤ)) → List (List (List ℤ))
@@ -24,6 +24,10 @@ new_groups before (g ∷ gs) = news before g ∷ new_groups (before ++ news befo
 -- the groups of an item in front of others: one for each of its lengths and each group behind
 abbrev pub fronted : (ℕ → List (List ℤ)) → List (List (List ℤ)) → List ℕ → List (List (List ℤ))
 fronted firsts gs ns = flat_map (λ n. map (λ g. joined (firsts n) g) gs) ns
+
+-- the groups of low to high numbers of a set in front of others
+abbrev pub in_front : List (ℤ × ℤ) → ℕ → ℕ → List (List (List ℤ)) → List (List (List ℤ))
+in_front set low high gs = fronted (choices (written set)) gs (from_on low (high + 1 - low))
 
 -- the groups that aren't empty
 abbrev pub packed : List (List (List ℤ)) → List (List (List ℤ))

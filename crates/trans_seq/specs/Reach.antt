@@ -1,4 +1,4 @@
--- Which cuts of a window are reached, as the search of short windows marks them. Public contracts cite none of it.
+-- Which cuts of a window are reached, as `window_in` marks them. Public contracts cite none of it.
 use Rattle.std.specs.Prelude.{◌≡◌, ℕ, ◌≤◌, ◌↔◌, Bool, true, false, List, length, take, slice_index_or}
 use Rattle.trans_seq.specs.Windows.{Then, IsOne, IsBlock, IsRun, IsBlocks}
 

@@ -64,7 +64,8 @@ pub(crate) fn known_numbers(
     known: &Known,
 ) -> Result<ValueSet, Memory>
     ensures { IfOk result
-        (λ numbers. (lists : List (List ℤ)) → AreHeld known.now lists → HasAll lists (begun_by first.now (written numbers) rest.now)) }
+        (λ numbers. (lists : List (List ℤ)) → AreHeld known.now lists
+        → HasAll lists (begun_by first.now (written numbers) rest.now)) }
 {
     let key = place_of(alloc, first, rest)?;
     if let Some(held) = known.kept.get(&key) {

@@ -1,21 +1,21 @@
 //! The lists of a sequence, written out.
 ghost use Rattle.std.specs.Prelude.{◌≡◌, ◌+◌, ◌-◌, ◌<◌, ◌≤◌, ◌↔◌, ℤ, Contains, List, [], false, map, length, IsTrue, IfOk, IfErr, IfSome, IfNone, OnOk, All};
 ghost use Rattle.std.specs.List.{list_any};
-ghost use Rattle.cov_base.specs.Sets.{written};
 ghost use Rattle.cov_ground.specs.Limits.{most_bins, most_cells};
 ghost use Rattle.trans_seq.specs.Held.{AreSpread, AreHeld};
-ghost use Rattle.trans_seq.specs.Found.{lists_of, Holds, Takes, FailsAfter, Merges, Extends, HasList, NoList, AllHaveList, SomeNoList, fronted, new_groups, packed};
+ghost use Rattle.trans_seq.specs.Found.{lists_of, Holds, Takes, FailsAfter, Merges, Extends, HasList, NoList, AllHaveList, SomeNoList, in_front, new_groups, packed};
+ghost use Rattle.trans_seq.specs.Cells.{cells_of_repeat, cells_of_items};
 ghost use Rattle.trans_seq.specs.Windows.{HasWord, SomeHasWord};
-ghost use Rattle.trans_seq.specs.Lists.{lengths, choices, by_lengths, from_on, all_of, listed, is_endless, has_endless as seq_has_endless, IsShort, IsFirstLong, HasEndless, Expands, RefusesToExpand, ExpandsAll, RefusesToExpandAll, lists_by_all, listed_by_all};
+ghost use Rattle.trans_seq.specs.Lists.{lengths, by_lengths, from_on, all_of, listed, is_endless, has_endless as seq_has_endless, IsShort, IsFirstLong, HasEndless, Expands, RefusesToExpand, ExpandsAll, RefusesToExpandAll, lists_by_all, listed_by_all};
 
 use crate::fault::ExpandFault;
 use crate::found::{Found, none_found, take_group, take_length};
 use crate::held::{Known, none_known};
 use crate::met::{Met, is_held, none_met};
-use crate::seq::{Item, Repeat, Seq};
+use crate::seq::{Item, Repeat, Seq, same_values};
 use crate::size::cells;
 use crate::spread::{spread, take_items};
-use cov_base::{Int, Memory};
+use cov_base::{Int, Memory, ValueSet};
 use cov_ground::limits::MOST_CELLS;
 use cov_tree::List;
 use std::alloc::Global;
@@ -42,7 +42,8 @@ fn has_unbounded(items: &[Item]) -> bool
 /// The least and the greatest length of an item's lists. For an item with lists of any length they are the wrong way
 /// round.
 pub(crate) fn ends(repeat: Repeat) -> (u32, u32)
-    ensures { lengths repeat ≡ from_on result.0 (result.1 + 1 - result.0) }
+    ensures all { lengths repeat ≡ from_on result.0 (result.1 + 1 - result.0) }
+    ensures most { result.1 ≤ cells_of_repeat repeat }
 {
     match repeat {
         Repeat::Once => (1, 1),
@@ -72,27 +73,58 @@ fn all_have_list(items: &[Item]) -> bool
     }
 }
 
-/// The lists of an item with those of the groups behind, in groups of the same lengths.
-fn with_item(
+/// The lists of `low` to `high` numbers of a set with those of the groups behind, in groups of the same lengths.
+fn with_lengths(
     alloc: Global,
-    item: &Item,
+    set: &ValueSet,
+    low: u32,
+    high: u32,
     groups: &[List<List<Int>>],
 ) -> Result<Vec<List<List<Int>>>, ExpandFault>
-    ensures ok { IfOk result (λ made. made.items ≡ packed (new_groups [] (fronted (choices (written item.now.set)) groups.now (lengths item.now.repeat)))) }
+    ensures ok { IfOk result
+        (λ made. made.items ≡ packed (new_groups [] (in_front set.now low high groups.now))) }
     ensures few { IfOk result (λ made. length (all_of made.items) ≤ most_bins) }
-    ensures err { IfErr result (FailsAfter [] (all_of (fronted (choices (written item.now.set)) groups.now (lengths item.now.repeat)))) }
+    ensures err { IfErr result (FailsAfter [] (all_of (in_front set.now low high groups.now))) }
 {
-    let (low, high) = ends(item.repeat);
     let mut found = none_found(alloc);
     for size in low..=high {
-        take_length(alloc, &item.set, size, groups, &mut found)?;
+        take_length(alloc, set, size, groups, &mut found)?;
     }
     Ok(found.groups)
 }
 
-/// The lists of the items, in groups of the same lengths.
+/// Behind `low` to `high` numbers of a set, passes over the items of the same set: how many numbers there are with
+/// theirs, and the items behind them.
+fn run_of<'a>(set: &ValueSet, low: u32, high: u32, items: &'a [Item]) -> (u32, u32, &'a [Item])
+    requires order { low ≤ high }
+    requires lists { AllHaveList items.now }
+    requires short { high + cells_of_items items.now ≤ most_cells }
+    ensures order { result.0 ≤ result.1 }
+    ensures lists { AllHaveList result.2.now }
+    ensures short { cells_of_items result.2.now ≤ most_cells }
+    ensures fewer { length result.2.now ≤ length items.now }
+    ensures same { packed (new_groups [] (in_front set.now low high (by_lengths items.now)))
+        ≡ packed (new_groups [] (in_front set.now result.0 result.1 (by_lengths result.2.now))) }
+    ensures behind { (fault : ExpandFault) → FailsAfter [] (all_of (by_lengths result.2.now)) fault
+        → FailsAfter [] (all_of (by_lengths items.now)) fault }
+{
+    match items {
+        [] => (low, high, items),
+        [item, rest @ ..] => {
+            if !same_values(&item.set, set) {
+                return (low, high, items);
+            }
+            let (least, most) = ends(item.repeat);
+            run_of(set, low + least, high + most, rest)
+        }
+    }
+}
+
+/// The lists of the items, in groups of the same lengths. Items of one set that stand one after the other are taken
+/// together.
 fn grouped(alloc: Global, items: &[Item]) -> Result<Vec<List<List<Int>>>, ExpandFault>
-    requires { AllHaveList items.now }
+    requires lists { AllHaveList items.now }
+    requires short { cells_of_items items.now ≤ most_cells }
     ensures ok { IfOk result (λ made. made.items ≡ packed (new_groups [] (by_lengths items.now))) }
     ensures few { IfOk result (λ made. length (listed items.now) ≤ most_bins) }
     ensures err { IfErr result (FailsAfter [] (all_of (by_lengths items.now))) }
@@ -104,8 +136,10 @@ fn grouped(alloc: Global, items: &[Item]) -> Result<Vec<List<List<Int>>>, Expand
             Ok(vec![in alloc; group]?)
         }
         [item, rest @ ..] => {
-            let groups = grouped(alloc, rest)?;
-            with_item(alloc, item, groups.as_slice())
+            let (least, most) = ends(item.repeat);
+            let (low, high, behind) = run_of(&item.set, least, most, rest);
+            let groups = grouped(alloc, behind)?;
+            with_lengths(alloc, &item.set, low, high, groups.as_slice())
         }
     }
 }
@@ -126,8 +160,9 @@ fn flattened(alloc: Global, groups: Vec<List<List<Int>>>) -> Result<Vec<List<Int
 /// the last one running fastest. A list that was there before is left out.
 ///
 /// It is refused where an item has `[->` or `[=`; else where the greatest lengths of the items are more than
-/// `MOST_CELLS` together, even where an item has no list; else where more than `MOST_BINS` lists are distinct. The work
-/// grows with the number of distinct lists, not with the ways to make them.
+/// `MOST_CELLS` together, even where an item has no list; else where more than `MOST_BINS` lists are distinct. Items of
+/// one set that stand one after the other are taken as one. The work is then, item by item from the last one, at most
+/// what its set and lengths make of the distinct lists behind it, and never the number of ways to make a list.
 pub fn expand(alloc: Global, seq: &Seq) -> Result<Vec<List<Int>>, ExpandFault>
     ensures lists { IfOk result (λ lists. Expands seq.now.items lists.items) }
     ensures windows { IfOk result

@@ -1,132 +1,196 @@
-//! Which cuts of a short window the lists of items lead to.
-ghost use Rattle.std.specs.Prelude.{◌≡◌, ◌<◌, ◌≤◌, ◌↔◌, ◌||◌, ℕ, IsTrue, length, slice_index_or, true, false};
+//! Which cuts of a window the lists of items lead to.
+ghost use Rattle.std.specs.Prelude.{◌≡◌, ◌+◌, ◌<◌, ◌≤◌, ◌↔◌, ◌||◌, ℕ, IsTrue, IfOk, length, replicate, slice_index_or, true, false};
 ghost use Rattle.trans_seq.specs.Windows.{is_known_in, AllOutside, IsOne, InItem, InSeq};
 ghost use Rattle.trans_seq.specs.Reach.{Leads, IsPart, IsRepeated};
 
-use crate::seq::{Item, Repeat};
+use crate::seq::{Item, Repeat, Seq};
 use crate::windows::is_inside;
-use cov_base::{Int, ValueSet};
+use cov_base::{Int, Memory, ValueSet};
+use std::alloc::Global;
 
-/// How many cuts are kept. A window of fewer samples has no more.
-pub(crate) const MOST_CUTS: usize = 128;
-
-/// Which cuts of a window are reached, each by the number of samples before it.
-pub(crate) type Cuts = [bool; 128];
+/// No cut of the window. A cut is told by the number of samples before it.
+fn no_cuts(alloc: Global, window: &[Option<Int>]) -> Result<Vec<bool>, Memory>
+    ensures { IfOk result (λ cuts. cuts.items ≡ replicate (length window.now + 1) false) }
+{
+    Ok(vec![in alloc; false; window.len() + 1]?)
+}
 
 /// The cuts behind one sample inside.
-fn one_inside(set: &ValueSet, window: &[Option<Int>], cuts: &Cuts) -> Cuts
-    requires { length window.now < 128 }
-    ensures { Leads (IsOne (is_known_in set.now)) window.now cuts.now result }
+fn one_inside(
+    alloc: Global,
+    set: &ValueSet,
+    window: &[Option<Int>],
+    cuts: &[bool],
+) -> Result<Vec<bool>, Memory>
+    requires { length cuts.now ≡ length window.now + 1 }
+    ensures size { IfOk result (λ next. length next.items ≡ length window.now + 1) }
+    ensures leads { IfOk result
+        (λ next. Leads (IsOne (is_known_in set.now)) window.now cuts.now next.items) }
 {
-    let mut next = [false; MOST_CUTS];
+    let mut next = no_cuts(alloc, window)?;
     for (k, sample) in window.iter().enumerate() {
         let inside = is_inside(set, *sample);
         next[k + 1] = cuts[k] & inside;
     }
-    next
+    Ok(next)
 }
 
 /// The cuts behind any number of samples outside.
-fn any_outside(set: &ValueSet, window: &[Option<Int>], cuts: &Cuts) -> Cuts
-    requires { length window.now < 128 }
-    ensures { Leads (AllOutside (is_known_in set.now)) window.now cuts.now result }
+fn any_outside(
+    alloc: Global,
+    set: &ValueSet,
+    window: &[Option<Int>],
+    cuts: &[bool],
+) -> Result<Vec<bool>, Memory>
+    requires { length cuts.now ≡ length window.now + 1 }
+    ensures size { IfOk result (λ next. length next.items ≡ length window.now + 1) }
+    ensures leads { IfOk result
+        (λ next. Leads (AllOutside (is_known_in set.now)) window.now cuts.now next.items) }
 {
-    let mut next = *cuts;
+    let mut next = no_cuts(alloc, window)?;
+    let mut reached = cuts[0];
+    next[0] = reached;
     for (k, sample) in window.iter().enumerate() {
         let outside = !is_inside(set, *sample);
-        next[k + 1] = next[k + 1] | (next[k] & outside);
+        reached = cuts[k + 1] | (reached & outside);
+        next[k + 1] = reached;
     }
-    next
+    Ok(next)
 }
 
 /// The cuts of either.
-fn either(first: &Cuts, second: &Cuts) -> Cuts
-    ensures { (k : ℕ) → slice_index_or result k false ≡ (slice_index_or first.now k false || slice_index_or second.now k false) }
+fn either(alloc: Global, first: &[bool], second: &[bool]) -> Result<Vec<bool>, Memory>
+    requires { length first.now ≡ length second.now }
+    ensures size { IfOk result (λ all. length all.items ≡ length first.now) }
+    ensures each { IfOk result
+        (λ all. (k : ℕ) → slice_index_or all.items k false
+        ≡ (slice_index_or first.now k false || slice_index_or second.now k false)) }
 {
-    let mut all = [false; MOST_CUTS];
-    for k in 0..MOST_CUTS {
+    let mut all = vec![in alloc; false; first.len()]?;
+    for k in 0..first.len() {
         all[k] = first[k] | second[k];
     }
-    all
+    Ok(all)
 }
 
 /// The cuts behind a block, or else behind one sample inside.
-fn once_more(blocks: bool, set: &ValueSet, window: &[Option<Int>], cuts: &Cuts) -> Cuts
-    requires { length window.now < 128 }
-    ensures { Leads (IsPart (is_known_in set.now) blocks) window.now cuts.now result }
+fn once_more(
+    alloc: Global,
+    blocks: bool,
+    set: &ValueSet,
+    window: &[Option<Int>],
+    cuts: &[bool],
+) -> Result<Vec<bool>, Memory>
+    requires { length cuts.now ≡ length window.now + 1 }
+    ensures size { IfOk result (λ next. length next.items ≡ length window.now + 1) }
+    ensures leads { IfOk result
+        (λ next. Leads (IsPart (is_known_in set.now) blocks) window.now cuts.now next.items) }
 {
     if blocks {
-        let open = any_outside(set, window, cuts);
-        one_inside(set, window, &open)
+        let begun = any_outside(alloc, set, window, cuts)?;
+        one_inside(alloc, set, window, begun.as_slice())
     } else {
-        one_inside(set, window, cuts)
+        one_inside(alloc, set, window, cuts)
+    }
+}
+
+/// The cuts where none of the blocks or samples stands: those before them, where none has to stand.
+fn before_any(
+    alloc: Global,
+    low: u32,
+    window: &[Option<Int>],
+    cuts: &[bool],
+) -> Result<Vec<bool>, Memory>
+    ensures here { IfOk result (λ found. low ≡ 0 → found.items ≡ cuts.now) }
+    ensures none { IfOk result
+        (λ found. 0 < low → found.items ≡ replicate (length window.now + 1) false) }
+{
+    if low == 0 {
+        Ok(Vec::from_slice(alloc, cuts)?)
+    } else {
+        no_cuts(alloc, window)
     }
 }
 
 /// The cuts behind from `low` to `high` blocks, or else samples inside.
 fn repeated(
+    alloc: Global,
     blocks: bool,
     set: &ValueSet,
     low: u32,
     high: u32,
     window: &[Option<Int>],
-    cuts: &Cuts,
-) -> Cuts
-    requires { length window.now < 128 }
-    ensures { Leads (IsRepeated (is_known_in set.now) blocks low high) window.now cuts.now result }
+    cuts: &[bool],
+) -> Result<Vec<bool>, Memory>
+    requires { length cuts.now ≡ length window.now + 1 }
+    ensures size { IfOk result (λ next. length next.items ≡ length window.now + 1) }
+    ensures leads { IfOk result
+        (λ next. Leads (IsRepeated (is_known_in set.now) blocks low high)
+        window.now cuts.now next.items) }
 {
-    let mut now = *cuts;
-    let mut found = if low == 0 { *cuts } else { [false; MOST_CUTS] };
+    let mut now = Vec::from_slice(alloc, cuts)?;
+    let mut found = before_any(alloc, low, window, cuts)?;
     let most = window.len().min(high as usize);
     for m in 0..most {
-        now = once_more(blocks, set, window, &now);
+        now = once_more(alloc, blocks, set, window, now.as_slice())?;
         if low as usize <= m + 1 {
-            found = either(&found, &now);
+            found = either(alloc, found.as_slice(), now.as_slice())?;
         }
     }
-    found
+    Ok(found)
 }
 
 /// The cuts behind a list of the item.
-fn after_item(item: &Item, last: bool, window: &[Option<Int>], cuts: &Cuts) -> Cuts
-    requires { length window.now < 128 }
-    ensures { Leads (InItem item.now last) window.now cuts.now result }
+fn after_item(
+    alloc: Global,
+    item: &Item,
+    last: bool,
+    window: &[Option<Int>],
+    cuts: &[bool],
+) -> Result<Vec<bool>, Memory>
+    requires { length cuts.now ≡ length window.now + 1 }
+    ensures size { IfOk result (λ next. length next.items ≡ length window.now + 1) }
+    ensures leads { IfOk result
+        (λ next. Leads (InItem item.now last) window.now cuts.now next.items) }
 {
     let set = &item.set;
     match item.repeat {
-        Repeat::Once => one_inside(set, window, cuts),
-        Repeat::Consec { low, high } => repeated(false, set, low, high, window, cuts),
-        Repeat::Goto { low, high } => repeated(true, set, low, high, window, cuts),
+        Repeat::Once => one_inside(alloc, set, window, cuts),
+        Repeat::Consec { low, high } => repeated(alloc, false, set, low, high, window, cuts),
+        Repeat::Goto { low, high } => repeated(alloc, true, set, low, high, window, cuts),
         Repeat::NonConsec { low, high } => {
-            let at = repeated(true, set, low, high, window, cuts);
+            let at = repeated(alloc, true, set, low, high, window, cuts)?;
             if last {
-                at
+                Ok(at)
             } else {
-                any_outside(set, window, &at)
+                any_outside(alloc, set, window, at.as_slice())
             }
         }
     }
 }
 
 /// The cut before the first sample alone.
-fn first_cut() -> Cuts
-    ensures first { slice_index_or result 0 false ≡ true }
-    ensures others { (k : ℕ) → 0 < k → slice_index_or result k false ≡ false }
+fn first_cut(alloc: Global, window: &[Option<Int>]) -> Result<Vec<bool>, Memory>
+    ensures size { IfOk result (λ cuts. length cuts.items ≡ length window.now + 1) }
+    ensures first { IfOk result (λ cuts. slice_index_or cuts.items 0 false ≡ true) }
+    ensures others { IfOk result
+        (λ cuts. (k : ℕ) → 0 < k → slice_index_or cuts.items k false ≡ false) }
 {
-    let mut cuts = [false; MOST_CUTS];
+    let mut cuts = no_cuts(alloc, window)?;
     cuts[0] = true;
-    cuts
+    Ok(cuts)
 }
 
-/// Whether the window is a list of the items, one after another. It takes at most as many steps as the items have cells,
-/// each of which goes over the window.
-pub(crate) fn short_window_in(items: &[Item], window: &[Option<Int>]) -> bool
-    requires { length window.now < 128 }
-    ensures { IsTrue result ↔ InSeq items.now window.now }
+/// Whether the window is a list of the sequence. It takes at most as many steps as the sequence has cells, each of which
+/// goes over the window, and memory for a mark of each sample.
+pub fn window_in(alloc: Global, seq: &Seq, window: &[Option<Int>]) -> Result<bool, Memory>
+    ensures { IfOk result (λ is. IsTrue is ↔ InSeq seq.now.items window.now) }
 {
-    let mut cuts = first_cut();
+    let items = seq.items.as_slice();
+    let mut cuts = first_cut(alloc, window)?;
     for (i, item) in items.iter().enumerate() {
-        cuts = after_item(item, i + 1 == items.len(), window, &cuts);
+        cuts = after_item(alloc, item, i + 1 == items.len(), window, cuts.as_slice())?;
     }
-    cuts[window.len()]
+    let reached = cuts.as_slice();
+    Ok(reached[window.len()])
 }

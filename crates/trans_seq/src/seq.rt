@@ -98,7 +98,7 @@ pub(crate) fn copied_items(alloc: Global, items: &[Item]) -> Result<Vec<Item>, M
     Ok(copies)
 }
 
-fn same_values(first: &ValueSet, second: &ValueSet) -> bool
+pub(crate) fn same_values(first: &ValueSet, second: &ValueSet) -> bool
     ensures { IsTrue result ↔ (first.now ≡ second.now) }
 {
     first == second

@@ -4,12 +4,7 @@ use Rattle.std.proofs.lemmas.Option.{slice_get_read, slice_get_past}
 use Rattle.design_data.specs.declared.infos.ItemInfo.{ItemInfo}
 use Rattle.cov_counting.specs.Crosses.{MemberHitAt}
 use Rattle.cov_counting.proofs.Windows.{no}
-use Rattle.cov_counting.proofs.Wide.{wide_at}
 use Rattle.cov_counting.proofs.crosses.is_member_hit.Goals as goal
-
-pub is_number_hit-requires-clause-wide : goal.is_number_hit-requires-clause-wide
-is_number_hit-requires-clause-wide c = wide_at c.args.items.now c.args.axis c.index-items-index.result c.requires.items
-    (slice_get_read c.args.items.now (length c.args.items.now) c.args.axis c.index-items-index.result refl (omega arith) c.index-items-index.is)
 
 pub returns-then-index-items : goal.returns-then-index-items
 returns-then-index-items c = no _ refl (λ h. subst (λ (o : Option ItemInfo). MemberHitAt o c.args.number c.args.samples.now c.args.k) (slice_get_past c.args.items.now c.args.axis (omega arith)) h)

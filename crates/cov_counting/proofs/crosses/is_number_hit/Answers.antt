@@ -4,11 +4,7 @@ use Rattle.design_data.specs.declared.infos.BinInfo.{BinInfo}
 use Rattle.design_data.specs.declared.infos.ItemShape.{ItemShape}
 use Rattle.cov_counting.specs.Crosses.{SomeHitAt, NumberHitAt}
 use Rattle.cov_counting.proofs.Windows.{no}
-use Rattle.cov_counting.proofs.Wide.{coverage_at}
 use Rattle.cov_counting.proofs.crosses.is_number_hit.Goals as goal
-
-pub is_hit-requires-clause-own : goal.is_hit-requires-clause-own
-is_hit-requires-clause-own c = coverage_at c.args.item.now c.args.number c.in-Some.bin.now c.requires.wide (sym c.in-Some.ensures)
 
 pub returns-in-Some : goal.returns-in-Some
 returns-in-Some c =

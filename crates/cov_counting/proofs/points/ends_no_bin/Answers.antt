@@ -7,14 +7,14 @@ use Rattle.cov_counting.specs.Hits.{EndsNone}
 use Rattle.cov_counting.proofs.Windows.{yes, no, all_more, all_done}
 use Rattle.cov_counting.proofs.points.ends_no_bin.Goals as goal
 
-pub returns-then-not-ends_none : goal.returns-then-not-ends_none
-returns-then-not-ends_none c = no _ refl (λ all.
+pub returns-then-not-none : goal.returns-then-not-none
+returns-then-not-none c = no _ refl (λ all.
     let here = subst (λ (b : BinInfo). EndsNone (seqs_of b.rule) c.args.values.now) (sym c.bin-item.is) (all c.loop-bin.bin-index c.bin-item.result c.loop-bin-test.true) in
-    false≢true (sym c.if-not-ends_none.true ∙ c.ends_none.ensures.1 (subst (λ (s : List Seq). EndsNone s c.args.values.now) (sym c.seqs_of.ensures) here)))
+    false≢true (sym c.if-not-none.true ∙ c.in_ok-none.ensures.1 (subst (λ (s : List Seq). EndsNone s c.args.values.now) (sym c.seqs_of.ensures) here)))
 
 pub loop-bin-preserved : goal.loop-bin-preserved
 loop-bin-preserved c =
-    let here = subst (λ (s : List Seq). EndsNone s c.args.values.now) c.seqs_of.ensures (c.ends_none.ensures.0 c.if-not-ends_none.false) in
+    let here = subst (λ (s : List Seq). EndsNone s c.args.values.now) c.seqs_of.ensures (c.in_ok-none.ensures.0 c.if-not-none.false) in
     all_more (λ (bin : BinInfo). EndsNone (seqs_of bin.rule) c.args.values.now) c.args.bins.now c.loop-bin.bin-index c.bin-item.result c.loop-bin-test.true c.bin-item.is c.loop-bin.invariant here
 
 pub returns : goal.returns

@@ -1,11 +1,10 @@
-use Rattle.std.proofs.Common.{◌+◌, List, ℕ, length, drop, take, refl, subst, sym, arith}
-use Rattle.std.proofs.lemmas.Option.{slice_get_read, slice_get_within}
+use Rattle.std.proofs.Common.{◌+◌, List, ℕ, length, drop, take, subst, sym, arith}
+use Rattle.std.proofs.lemmas.Option.{slice_get_within}
 use Rattle.std.proofs.lemmas.List.{take_all}
 use Rattle.design_data.specs.declared.infos.ItemInfo.{ItemInfo}
 use Rattle.design_data.specs.Bins.{bins_in, IsNumberedFrom}
 use Rattle.cov_counting.specs.Steps.{Extends}
 use Rattle.cov_counting.proofs.Done.{extends_none, extends_more, length_more, bins_more, numbered_at, item_next}
-use Rattle.cov_counting.proofs.Wide.{wide_at}
 use Rattle.cov_counting.proofs.tally.add_items.Goals as goal
 
 pub loop-item-init : goal.loop-item-init
@@ -14,7 +13,6 @@ loop-item-init c = record { next = c.requires.next; extends = extends_none c.arg
 pub add_item-requires : goal.add_item-requires
 add_item-requires c = record {
   items = c.requires.items;
-  own = wide_at c.args.items.now c.loop-item.item-index c.item-item.result c.requires.items (slice_get_read c.args.items.now (length c.args.items.now) c.loop-item.item-index c.item-item.result refl c.loop-item-test.true c.item-item.is);
   next = (numbered_at (length c.loop-item.counts) c.args.items.now c.loop-item.item-index c.item-item.result c.loop-item-test.true c.item-item.is c.loop-item.invariant.next).0;
 }
 

@@ -11,7 +11,7 @@ use Rattle.cov_counting.specs.Tallies.{IsCount}
 use Rattle.cov_counting.specs.Steps.{Extends, AreInstances}
 use Rattle.cov_counting.proofs.Bins.{each_at}
 use Rattle.cov_counting.proofs.Done.{length_more, numbered_front, numbered_back, bins_in-append, items_stay, groups_from}
-use Rattle.cov_counting.proofs.Wide.{instances}
+use Rattle.cov_counting.proofs.Items.{instances}
 use Rattle.cov_counting.proofs.tally.tally_by_definition.Goals as goal
 
 pub loop-group-init : goal.loop-group-init

@@ -9,7 +9,7 @@ loop-k-preserved c =
     let p = is_known_in c.args.set.now in
     let w = c.args.window.now in
     let cuts = c.args.cuts.now in
-    let next = c.loop-k.next in
+    let next = c.loop-k.next.items in
     let k = c.loop-k.k in
     let b = c.is_inside-inside.result in
     let inv = c.loop-k.invariant in
@@ -22,8 +22,8 @@ loop-k-preserved c =
       done = one-done p w cuts next k b lt room is inv.done;
     }
 
-pub returns : goal.returns
-returns c =
+pub returns-clause-leads : goal.returns-clause-leads
+returns-clause-leads c =
     let w = c.args.window.now in
-    one-leads (is_known_in c.args.set.now) w c.args.cuts.now c.loop-k.next c.loop-k.invariant.first
+    one-leads (is_known_in c.args.set.now) w c.args.cuts.now c.loop-k.next.items c.loop-k.invariant.first
     (λ k lt. c.loop-k.invariant.done k (omega (arith, lt, c.loop-k-test.false)))

@@ -4,7 +4,7 @@ use Rattle.trans_seq.proofs.reach.one_inside.Given as goal
 
 abbrev pub invariant-loop-k : goal.invariant-loop-k
 invariant-loop-k l = record {
-  len : length l.next ≡ 128;
-  first : get_or l.next 0 false ≡ false;
-  done : (j : ℕ) → j < l.k → get_or l.next (j + 1) false ≡ (get_or l.cuts j false && is_known_in l.set (get_or l.window j None));
+  len : length l.next.items ≡ length l.window + 1;
+  first : get_or l.next.items 0 false ≡ false;
+  done : (j : ℕ) → j < l.k → get_or l.next.items (j + 1) false ≡ (get_or l.cuts j false && is_known_in l.set (get_or l.window j None));
 }
