@@ -1,4 +1,5 @@
-//! The same as `bench_lexing` in plain Rust, with the same tokens and the same checks of keywords, names and literals:
+//! The same as `bench_lexing` in plain Rust, with the same tokens and the same checks of keywords, names and literals, the
+//! form of each literal included:
 //! `scan FILE ROUNDS`.
 use std::env;
 use std::fs;
@@ -119,6 +120,10 @@ fn is_word(byte: u8) -> bool {
     byte.is_ascii_alphanumeric() || byte == b'_' || byte == b'$'
 }
 
+fn is_number(byte: u8) -> bool {
+    byte.is_ascii_digit() || byte == b'_'
+}
+
 fn is_unknown(byte: u8) -> bool {
     matches!(byte, b'x' | b'X' | b'z' | b'Z' | b'?')
 }
@@ -162,8 +167,11 @@ fn limit(width: u32) -> u128 {
     1 << width
 }
 
+/// What a literal means; none where it is too wide, or the text isn't one literal from its first byte to its last.
 fn literal(text: &[u8]) -> Option<Literal> {
-    let Some(apostrophe) = text.iter().position(|byte| *byte == b'\'') else {
+    let front = byte_at(text, 0).is_ascii_digit();
+    let end = if front { run(text, 1, is_number) } else { 0 };
+    if front && end == text.len() {
         let (bits, _) = digits(text, 10)?;
         let width = if bits < 1 << 31 {
             32
@@ -173,8 +181,12 @@ fn literal(text: &[u8]) -> Option<Literal> {
             return None;
         };
         return Some(Literal { width, sized: false, signed: true, bits, free: 0 });
-    };
-    let (size, rest) = (&text[..apostrophe], &text[apostrophe + 1..]);
+    }
+    let apostrophe = if front { run(text, end, |byte| byte == b' ') } else { 0 };
+    if based_end(text, apostrophe)? != text.len() {
+        return None;
+    }
+    let (size, rest) = (&text[..end], &text[apostrophe + 1..]);
     let signed = matches!(rest[0], b's' | b'S');
     let rest = if signed { &rest[1..] } else { rest };
     let radix = radix(rest[0])?;
@@ -233,7 +245,7 @@ fn scan(text: &[u8]) -> Option<Vec<Token>> {
                 continue;
             }
             b'0'..=b'9' => {
-                let end = run(text, at + 1, |byte| byte.is_ascii_digit() || byte == b'_');
+                let end = run(text, at + 1, is_number);
                 match based_end(text, run(text, end, |byte| byte == b' ')) {
                     Some(last) => (Kind::Based, last),
                     None => (Kind::Decimal, end),

@@ -8,6 +8,8 @@ use Rattle.cov_tree.specs.declared.groups.EdgeKind.{EdgeKind}
 use Rattle.cov_tree.specs.declared.groups.EdgeKind.TheVariants.{Any, Pos, Negative, Both}
 use Rattle.cov_tree.specs.declared.declarations.TypeText.{TypeText}
 use Rattle.cov_tree.specs.declared.declarations.TypeText.TheVariants.{Vector, Fixed, Named}
+use Rattle.cov_tree.specs.declared.declarations.FixedWidth.{FixedWidth}
+use Rattle.cov_tree.specs.declared.declarations.FixedWidth.TheVariants.{Bits8, Bits16, Bits32, Bits64}
 use Rattle.cov_tree.specs.declared.declarations.Decl.{Decl}
 use Rattle.cov_tree.specs.declared.declarations.Decl.TheVariants.{Enum, Var, Group, Instance}
 use Rattle.cov_grammar.specs.declared.kind.Kind.{Kind}
@@ -26,11 +28,11 @@ vector_words = BitWord ∷ LogicWord ∷ RegWord ∷ []
 abbrev pub fixed_words : List Kind
 fixed_words = ByteWord ∷ ShortintWord ∷ IntWord ∷ LongintWord ∷ IntegerWord ∷ []
 
-abbrev pub width_of : Kind → ℕ
-width_of ByteWord = 8
-width_of ShortintWord = 16
-width_of LongintWord = 64
-width_of _ = 32
+abbrev pub width_of : Kind → FixedWidth
+width_of ByteWord = Bits8
+width_of ShortintWord = Bits16
+width_of LongintWord = Bits64
+width_of _ = Bits32
 
 -- whether the type is signed, by its sign, and without one (6.11)
 abbrev pub signed_or : Bool → Option Marked → Bool

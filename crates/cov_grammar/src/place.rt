@@ -1,6 +1,6 @@
 //! Places among the tokens, the limits of a text, and why a reading stops.
-ghost use Rattle.std.specs.Prelude.{◌≡◌};
-ghost use Rattle.cov_grammar.specs.declared.place.Stop.TheVariants.{Memory};
+ghost use Rattle.std.specs.Prelude.{◌≡◌, ◌+◌, IfOk, IfErr};
+ghost use Rattle.cov_grammar.specs.declared.place.Stop.TheVariants.{Memory, TooDeep};
 
 use std::alloc::{AllocError, AllocFailed};
 
@@ -20,6 +20,24 @@ pub struct Room {
     pub levels: usize,
     /// How many operators between two operands an outermost expression, or a selection, may have.
     pub operators: usize,
+}
+
+impl Room {
+    /// The room with one level less, which the token at this place takes; TooDeep there where none is left.
+    pub fn deeper(self, at: usize) -> Result<Room, Stop>
+        ensures levels { IfOk result (λ inner. inner.levels + 1 ≡ self.levels) }
+        ensures operators { IfOk result (λ inner. inner.operators ≡ self.operators) }
+        ensures none { IfErr result (λ _. self.levels ≡ 0) }
+        ensures fault { IfErr result (λ stop. stop ≡ TooDeep at) }
+    {
+        if self.levels == 0 {
+            return Err(Stop::TooDeep(at));
+        }
+        Ok(Room {
+            levels: self.levels - 1,
+            operators: self.operators,
+        })
+    }
 }
 
 /// Why a reading stops. The places are places in the list of tokens.

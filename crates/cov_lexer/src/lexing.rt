@@ -13,13 +13,16 @@ use std::alloc::Global;
 pub fn lex(alloc: Global, text: &[u8]) -> Result<Vec<Token>, LexFault>
     requires { length text.now ≤ 1048576 }
     ensures read { IfOk result (λ tokens. Lexes text.now tokens.items) }
-    ensures only { IfOk result (λ tokens. (others : _) → Lexes text.now others → others ≡ tokens.items) }
+    ensures only { IfOk result
+        (λ tokens. (others : _) → Lexes text.now others → others ≡ tokens.items) }
     ensures ascend { IfOk result (λ tokens. Ascend 0 tokens.items (length text.now)) }
     ensures within { IfOk result (λ tokens. AllWithin text.now tokens.items) }
     ensures sound { IfOk result (λ _. (fault : _) → IsFault text.now fault → ⊥) }
     ensures cause { IfErr result (λ fault. fault ≢ Memory → IsFault text.now fault) }
-    ensures only_cause { IfErr result (λ fault. fault ≢ Memory → (other : _) → IsFault text.now other → other ≡ fault) }
-    ensures none { IfErr result (λ fault. fault ≢ Memory → (tokens : _) → Lexes text.now tokens → ⊥) }
+    ensures only_cause { IfErr result
+        (λ fault. fault ≢ Memory → (other : _) → IsFault text.now other → other ≡ fault) }
+    ensures none { IfErr result
+        (λ fault. fault ≢ Memory → (tokens : _) → Lexes text.now tokens → ⊥) }
 {
     let mut tokens = Vec::new(alloc);
     let mut at = 0;

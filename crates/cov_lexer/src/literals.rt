@@ -23,8 +23,10 @@ struct Digits {
 pub fn literal(text: &[u8]) -> Option<Literal>
     ensures is { result ≡ literal_of text.now }
     ensures decimal { IsDecimal text.now → result ≡ decimal_literal (value_of Decimal text.now) }
-    ensures based { (size : _) (signed : _) (base : _) (digits : _) → IsBased text.now size signed base digits → result ≡ meaning size signed base digits }
-    ensures found { (whole : _) (i : ℕ) (j : ℕ) → IsNumber whole i j → text.now ≡ slice_range whole i j → IsLiteral text.now }
+    ensures based { (size : _) (signed : _) (base : _) (digits : _) →
+        IsBased text.now size signed base digits → result ≡ meaning size signed base digits }
+    ensures found { (whole : _) (i : ℕ) (j : ℕ) → IsNumber whole i j → text.now
+        ≡ slice_range whole i j → IsLiteral text.now }
     ensures none { (IsLiteral text.now → ⊥) → result ≡ None }
 {
     from_front(text)

@@ -330,7 +330,7 @@ fn first_standing(text: &[u8], at: usize, table: &[Spelling]) -> Option<Spelling
 }
 
 /// Whether no other operator begins with this byte, which is an operator by itself.
-fn is_lone(byte: u8) -> bool
+pub(crate) fn is_lone(byte: u8) -> bool
     ensures { result ≡ is_lone byte }
 {
     matches!(
@@ -344,11 +344,7 @@ pub(crate) fn operator_at(text: &[u8], at: usize) -> Option<(TokenKind, usize)>
     requires { at < length text.now }
     ensures { OperatorAt text.now at result }
 {
-    let first = text[at];
-    if is_lone(first) {
-        return Some((TokenKind::Operator, at + 1));
-    }
-    let Some(spelling) = first_standing(text, at, operators_from(first)) else {
+    let Some(spelling) = first_standing(text, at, operators_from(text[at])) else {
         return None;
     };
     Some((spelling.kind, at + spelling.text.len()))

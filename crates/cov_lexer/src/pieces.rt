@@ -8,7 +8,7 @@ ghost use Rattle.cov_lexer.specs.Reading.{Finds, EndsOf, ClosesAt, OnlyOperators
 
 use crate::bytes::{Base, Class, is_blank, is_digit, is_letter, is_sign};
 use crate::literals::literal;
-use crate::operators::operator_at;
+use crate::operators::{is_lone, operator_at};
 use crate::runs::{byte_at, run_end, stands};
 use crate::token::{LexFault, TokenKind};
 use crate::words::is_keyword;
@@ -63,6 +63,7 @@ pub(crate) fn piece_at(text: &[u8], at: usize) -> Result<Found, LexFault>
         b'$' => system_at(text, at),
         b'\'' => apostrophe_at(text, at),
         b'/' => slash_at(text, at),
+        _ if is_lone(byte) => Ok(Found::token(TokenKind::Operator, at + 1)),
         _ => operator_only(text, at),
     }
 }

@@ -22,13 +22,6 @@ use Rattle.cov_grammar.proofs.Steps.{Leads, leads_self, then, both_opens, step, 
 use Rattle.cov_grammar.proofs.BinsLaws.{ident_lawful, elems_lawful}
 use Rattle.cov_grammar.proofs.GroupLaws.{sel_inner, dotted_lawful, binsof_lawful, not_lawful, sel_paren_lawful, sunary_lawful, sand_lawful, part_sel_lawful}
 
--- a room with one level less
-pub one_less : (b d : Room) → b ≡ record { levels = d.levels - 1; operators = d.operators } → 0 < d.levels → b.levels + 1 ≡ d.levels
-one_less b d e h = let l = ap (λ (x : Room). x.levels) e in omega arith
-
-pub same_operators : (b d : Room) → b ≡ record { levels = d.levels - 1; operators = d.operators } → b.operators ≡ d.operators
-same_operators b d e = ap (λ (x : Room). x.operators) e
-
 module _ (text : List ℕ) (ts : List Marked) where
   abbrev w : (k : Kind) → Lawful ts (λ _. one ts (k ∷ []))
   w k = lawful_word ts k

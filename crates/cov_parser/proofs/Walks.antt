@@ -9,7 +9,7 @@ use Rattle.cov_grammar.specs.declared.kind.Marked.{Marked}
 use Rattle.cov_grammar.specs.declared.place.Place.{Place}
 use Rattle.cov_grammar.specs.declared.place.Room.{Room}
 use Rattle.cov_grammar.specs.declared.place.Stop.{Stop}
-use Rattle.cov_grammar.specs.declared.place.Stop.TheVariants.{Memory}
+use Rattle.cov_grammar.specs.declared.place.Stop.TheVariants.{Memory, TooDeep}
 use Rattle.cov_grammar.specs.Rule.{Rule, after, one, word}
 use Rattle.cov_grammar.specs.Parses.{Reads, Fails}
 use Rattle.cov_grammar.specs.Expressions.{spelled}
@@ -35,6 +35,10 @@ ident_fails text ts r = map_fails (spelled text) (lawful_word ts Ident) r
 -- want of memory
 pub no_more : {T : Type 0} {F : Room → Rule T} {d : Room} {p : Place} (s : Stop) → s ≡ Memory → Fails F d p s
 no_more {F = F} {d = d} {p = p} s e = subst (λ s. Fails F d p s) (sym e) (record { cause = tt })
+
+-- no level is left
+pub too_deep : {T : Type 0} {F : Room → Rule T} {d : Room} {p : Place} {k : ℕ} (s : Stop) → s ≡ TooDeep k → Fails F d p (TooDeep k) → Fails F d p s
+too_deep {F = F} {d = d} {p = p} s e f = subst (λ s. Fails F d p s) (sym e) f
 
 -- the exit of a `?`, where a clause speaks of the fault alone
 pub exits_if : {X : Type 0} (P : Stop → Type 0) (r : Result X Stop) (s : Stop) → IsErrAnd r (λ e. e ≡ s) → P s → IfErr r P

@@ -2,3 +2,6 @@ pub mod Spelled
 pub mod Parse
 pub mod Told
 pub mod Operating
+pub mod Reading
+pub mod Parts
+pub mod Heads

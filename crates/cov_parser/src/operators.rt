@@ -3,7 +3,7 @@ ghost use Rattle.std.specs.Prelude.{◌≡◌, ◌≤◌, ◌<◌, ℕ, true, fa
 ghost use Rattle.cov_grammar.specs.Kinds.{code, has};
 ghost use Rattle.cov_grammar.specs.Rule.{In};
 ghost use Rattle.cov_grammar.specs.Operators.{level_kinds, unary_of, binary_of};
-ghost use Rattle.cov_parser.specs.Operating.{AllOperate, KindAt};
+ghost use Rattle.cov_parser.specs.Operating.{AllOperate, KindAt, level_of};
 
 use cov_grammar::{Kind, Marked};
 use cov_tree::{BinOp, UnOp};
@@ -83,6 +83,35 @@ pub(crate) fn operator_at(tokens: &[Marked], at: usize) -> Option<Kind>
     Some(kind)
 }
 
+/// The level of an operator between two operands; none where it is no such operator.
+fn level_of(kind: Kind) -> Option<usize>
+    ensures { result ≡ level_of kind }
+{
+    match kind {
+        Kind::Star => Some(0),
+        Kind::Slash => Some(0),
+        Kind::Percent => Some(0),
+        Kind::PlusSign => Some(1),
+        Kind::Minus => Some(1),
+        Kind::ShiftLeft => Some(2),
+        Kind::ShiftRight => Some(2),
+        Kind::SignedLeft => Some(2),
+        Kind::SignedRight => Some(2),
+        Kind::Less => Some(3),
+        Kind::LessEqual => Some(3),
+        Kind::Greater => Some(3),
+        Kind::GreaterEqual => Some(3),
+        Kind::EqualEqual => Some(4),
+        Kind::NotEqual => Some(4),
+        Kind::Ampersand => Some(5),
+        Kind::Caret => Some(6),
+        Kind::Bar => Some(7),
+        Kind::AndAnd => Some(8),
+        Kind::OrOr => Some(9),
+        _ => None,
+    }
+}
+
 /// The first of these levels whose operators have the token at this place.
 pub(crate) fn next_level(tokens: &[Marked], at: usize, start: usize, end: usize) -> Option<usize>
     ensures inside { IfSome result (λ level. start ≤ level) }
@@ -93,14 +122,14 @@ pub(crate) fn next_level(tokens: &[Marked], at: usize, start: usize, end: usize)
     let Some(kind) = operator_at(tokens, at) else {
         return None;
     };
-    let mut level = start;
-    while level < end {
-        if kind.is_one_of(operators(level)) {
-            return Some(level);
-        }
-        level += 1;
+    let Some(level) = level_of(kind) else {
+        return None;
+    };
+    if start <= level && level < end {
+        Some(level)
+    } else {
+        None
     }
-    None
 }
 
 pub(crate) fn unary_op(kind: Kind) -> UnOp

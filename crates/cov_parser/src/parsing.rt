@@ -8,13 +8,12 @@ ghost use Rattle.cov_grammar.specs.Fault.{DerivesWithin, Derives, IsCause, is_fo
 ghost use Rattle.cov_parser.specs.Parse.{place_of, IsFault};
 ghost use Rattle.cov_parser.specs.Told.{told};
 ghost use Rattle.cov_parser.specs.declared.fault.ParseFault.TheVariants.{Memory};
+ghost use Rattle.cov_parser.specs.Reading.{over};
 
-use crate::declarations::{enumeration, named, variables};
 use crate::fault::ParseFault;
-use crate::groups::group;
 use crate::marks::marks;
-use crate::reader::take;
-use cov_grammar::{Kind, Marked, Place, Room, Stop};
+use crate::reader::Reader;
+use cov_grammar::{Kind, Place, Room, Stop};
 use cov_lexer::Token;
 use cov_tree::{Decl, DesignText, List};
 use std::alloc::Global;
@@ -30,103 +29,110 @@ const LIMITS: Room = Room {
 pub fn parse(alloc: Global, text: &[u8], tokens: &[Token]) -> Result<DesignText, ParseFault>
     requires short { length text.now ≤ 1048576 }
     requires tokens { Lexes text.now tokens.now }
-    ensures read { IfOk result (λ design. DerivesWithin limits text.now (marked text.now tokens.now) design.decls) }
-    ensures only { IfOk result (λ design. (decls : _) → Derives text.now (marked text.now tokens.now) decls → decls ≡ design.decls) }
+    ensures read { IfOk result (λ design.
+        DerivesWithin limits text.now (marked text.now tokens.now) design.decls) }
+    ensures only { IfOk result (λ design. (decls : _) →
+        Derives text.now (marked text.now tokens.now) decls → decls ≡ design.decls) }
     ensures sound { IfOk result (λ _. (fault : _) → IsFault text.now tokens.now fault → ⊥) }
     ensures cause { IfErr result (λ fault. fault ≢ Memory → IsFault text.now tokens.now fault) }
-    ensures only_cause { IfErr result (λ fault. fault ≢ Memory → (other : _) → IsFault text.now tokens.now other → other ≡ fault) }
-    ensures none { IfErr result (λ fault. fault ≢ Memory → (decls : _) → DerivesWithin limits text.now (marked text.now tokens.now) decls → ⊥) }
+    ensures only_cause { IfErr result (λ fault. fault ≢ Memory →
+        (other : _) → IsFault text.now tokens.now other → other ≡ fault) }
+    ensures none { IfErr result (λ fault. fault ≢ Memory →
+        (decls : _) → DerivesWithin limits text.now (marked text.now tokens.now) decls → ⊥) }
 {
     let Ok(found) = marks(alloc, text, tokens) else {
         return Err(ParseFault::Memory);
     };
     let marked = found.as_slice();
-    match design(alloc, text, marked) {
+    let reader = Reader {
+        alloc,
+        text,
+        tokens: marked,
+    };
+    match reader.design() {
         Ok(decls) => Ok(DesignText { decls }),
-        Err(stop) => Err(fault(text, marked, stop)),
+        Err(stop) => Err(reader.fault(stop)),
     }
 }
 
-/// The declarations of the tokens, or where they have their fault.
-fn design(alloc: Global, text: &[u8], tokens: &[Marked]) -> Result<List<Decl>, Stop>
-    ensures read { IfOk result (λ decls. DerivesWithin limits text.now tokens.now decls) }
-    ensures cause { IfErr result (λ stop. IsCause limits text.now tokens.now stop) }
-{
-    let mut decls = List::new(alloc);
-    let mut place = Place { at: 0, used: 0 };
-    while place.at < tokens.len() {
-        let (more, after) = declaration(alloc, text, tokens, place, LIMITS)?;
-        decls.append(more)?;
-        place = after;
+impl Reader<'_> {
+    /// The declarations of the tokens, or where they have their fault.
+    fn design(self) -> Result<List<Decl>, Stop>
+        ensures read { IfOk result (λ decls.
+            DerivesWithin limits self.entry.text.now self.entry.tokens.now decls) }
+        ensures cause { IfErr result (λ stop.
+            IsCause limits self.entry.text.now self.entry.tokens.now stop) }
+    {
+        let mut decls = List::new(self.alloc);
+        let mut place = Place { at: 0, used: 0 };
+        while place.at < self.tokens.len() {
+            let (more, after) = self.declaration(place, LIMITS)?;
+            decls.append(more)?;
+            place = after;
+        }
+        Ok(decls)
     }
-    Ok(decls)
-}
 
-/// A declaration.
-fn declaration(
-    alloc: Global,
-    text: &[u8],
-    tokens: &[Marked],
-    place: Place,
-    room: Room,
-) -> Result<(List<Decl>, Place), Stop>
-    ensures { Parses (decl text.now tokens.now) room place result }
-{
-    if let Some(_) = take(tokens, place, &[Kind::TypedefWord]) {
-        return enumeration(alloc, text, tokens, place, room);
+    /// A declaration.
+    fn declaration(self, place: Place, room: Room) -> Result<(List<Decl>, Place), Stop>
+        ensures { Parses (over self.entry decl) room place result }
+    {
+        if let Some(_) = self.take(place, &[Kind::TypedefWord]) {
+            return self.enumeration(place, room);
+        }
+        if let Some(_) = self.take(place, &[Kind::CovergroupWord]) {
+            return self.group(place, room);
+        }
+        if let Some(_) = self.take(place, &[Kind::Ident]) {
+            return self.named(place, room);
+        }
+        self.variables(place, room)
     }
-    if let Some(_) = take(tokens, place, &[Kind::CovergroupWord]) {
-        return group(alloc, text, tokens, place, room);
-    }
-    if let Some(_) = take(tokens, place, &[Kind::Ident]) {
-        return named(alloc, text, tokens, place, room);
-    }
-    variables(alloc, text, tokens, place, room)
-}
 
-/// The fault of the text, by what stopped its reading.
-fn fault(text: &[u8], tokens: &[Marked], stop: Stop) -> ParseFault
-    requires { length text.now ≤ 1048576 }
-    ensures { result ≡ told text.now tokens.now stop }
-{
-    match stop {
-        Stop::Memory => ParseFault::Memory,
-        Stop::TooDeep(k) => ParseFault::TooDeep {
-            at: byte_at(text, tokens, k),
-        },
-        Stop::Syntax(k) => {
-            let at = byte_at(text, tokens, k);
-            if is_foreign(tokens, k) {
-                ParseFault::NotSupported { at }
-            } else {
-                ParseFault::Syntax { at }
+    /// The fault of the text, by what stopped its reading.
+    fn fault(self, stop: Stop) -> ParseFault
+        requires { length self.text.now ≤ 1048576 }
+        ensures { result ≡ told self.entry.text.now self.entry.tokens.now stop }
+    {
+        match stop {
+            Stop::Memory => ParseFault::Memory,
+            Stop::TooDeep(k) => ParseFault::TooDeep {
+                at: self.byte_at(k),
+            },
+            Stop::Syntax(k) => {
+                let at = self.byte_at(k);
+                if self.is_foreign(k) {
+                    ParseFault::NotSupported { at }
+                } else {
+                    ParseFault::Syntax { at }
+                }
             }
         }
     }
-}
 
-/// The byte at which token k begins, or the text's length where there is none.
-fn byte_at(text: &[u8], tokens: &[Marked], k: usize) -> u32
-    requires { length text.now ≤ 1048576 }
-    ensures { result ≡ place_of text.now tokens.now k }
-{
-    match tokens.get(k) {
-        Some(token) => token.at,
-        None => text.len() as u32,
+    /// The byte at which token k begins, or the text's length where there is none.
+    fn byte_at(self, k: usize) -> u32
+        requires { length self.text.now ≤ 1048576 }
+        ensures { result ≡ place_of self.entry.text.now self.entry.tokens.now k }
+    {
+        match self.tokens.get(k) {
+            Some(token) => token.at,
+            None => self.text.len() as u32,
+        }
     }
-}
 
-/// Whether the token is one that SystemVerilog has and a design text hasn't.
-fn is_foreign(tokens: &[Marked], k: usize) -> bool
-    ensures { result ≡ is_foreign tokens.now k }
-{
-    match tokens.get(k) {
-        Some(token) => token.kind.is_one_of(&[
-            Kind::System,
-            Kind::NotSupported,
-            Kind::OtherWord,
-            Kind::WithWord,
-        ]),
-        None => false,
+    /// Whether the token is one that SystemVerilog has and a design text hasn't.
+    fn is_foreign(self, k: usize) -> bool
+        ensures { result ≡ is_foreign self.entry.tokens.now k }
+    {
+        match self.tokens.get(k) {
+            Some(token) => token.kind.is_one_of(&[
+                Kind::System,
+                Kind::NotSupported,
+                Kind::OtherWord,
+                Kind::WithWord,
+            ]),
+            None => false,
+        }
     }
 }

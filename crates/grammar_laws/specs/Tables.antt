@@ -13,6 +13,8 @@ use Rattle.cov_tree.specs.declared.groups.EdgeKind.{EdgeKind}
 use Rattle.cov_tree.specs.declared.groups.EdgeKind.TheVariants.{Pos, Negative, Both}
 use Rattle.cov_grammar.specs.declared.kind.Kind.{Kind}
 use Rattle.cov_grammar.specs.declared.kind.Kind.TheVariants.{PlusSign, Minus, Star, Slash, Percent, Tilde, Bang, Ampersand, AndAnd, Bar, OrOr, Caret, TildeAnd, TildeOr, TildeCaret, Less, LessEqual, Greater, GreaterEqual, EqualEqual, NotEqual, ShiftLeft, ShiftRight, SignedLeft, SignedRight, ThinArrow, Assign, BinsWord, IllegalBinsWord, IgnoreBinsWord, ByteWord, ShortintWord, IntWord, LongintWord, IntegerWord, PosedgeWord, NegedgeWord, EdgeWord}
+use Rattle.cov_tree.specs.declared.declarations.FixedWidth.{FixedWidth}
+use Rattle.cov_tree.specs.declared.declarations.FixedWidth.TheVariants.{Bits8, Bits16, Bits32, Bits64}
 
 -- operators before one operand (11.3.2)
 abbrev pub unary_at : Kind → Option UnOp
@@ -67,12 +69,12 @@ bins_word_at IgnoreBinsWord = Some Ignore
 bins_word_at _ = None
 
 -- the types of one width (6.11)
-abbrev pub width_at : Kind → Option ℕ
-width_at ByteWord = Some 8
-width_at ShortintWord = Some 16
-width_at IntWord = Some 32
-width_at LongintWord = Some 64
-width_at IntegerWord = Some 32
+abbrev pub width_at : Kind → Option FixedWidth
+width_at ByteWord = Some Bits8
+width_at ShortintWord = Some Bits16
+width_at IntWord = Some Bits32
+width_at LongintWord = Some Bits64
+width_at IntegerWord = Some Bits32
 width_at _ = None
 
 -- the words before a signal of an event (9.4.2)

@@ -88,13 +88,18 @@ pub fn first_tokens_decide()
 /// The kinds of the lists that rules read by (operators, repetitions, the words of bins, of types of one width, and of
 /// edges) have the meaning of a table that gives none to any other kind: what the grammar says of others is never asked.
 pub fn kinds_have_meanings()
-    ensures unary { (kind : Kind) → has kind unary_kinds ≡ true → unary_at kind ≡ Some (unary_of kind) }
-    ensures binary { (level : ℕ) (kind : Kind) → has kind (level_kinds level) ≡ true → binary_at kind ≡ Some (binary_of kind) }
+    ensures unary { (kind : Kind) → has kind unary_kinds ≡ true → unary_at kind ≡ Some
+        (unary_of kind) }
+    ensures binary { (level : ℕ) (kind : Kind) → has kind (level_kinds level) ≡ true →
+        binary_at kind ≡ Some (binary_of kind) }
     ensures times { (kind : Kind) (low high : Expr) → has kind repetition_kinds ≡ true →
         times_at kind low high ≡ Some (times_of kind low high) }
-    ensures bins { (kind : Kind) → has kind bins_words ≡ true → bins_word_at kind ≡ Some (bins_word_of kind) }
-    ensures width { (kind : Kind) → has kind fixed_words ≡ true → width_at kind ≡ Some (width_of kind) }
-    ensures edge { (kind : Kind) → has kind edge_kinds ≡ true → edge_at kind ≡ Some (edge_kind kind) }
+    ensures bins { (kind : Kind) → has kind bins_words ≡ true → bins_word_at kind ≡ Some
+        (bins_word_of kind) }
+    ensures width { (kind : Kind) → has kind fixed_words ≡ true → width_at kind ≡ Some
+        (width_of kind) }
+    ensures edge { (kind : Kind) → has kind edge_kinds ≡ true → edge_at kind ≡ Some
+        (edge_kind kind) }
 {}
 
 /// Each literal among the tokens of a text has a meaning, and no other is made up for it.

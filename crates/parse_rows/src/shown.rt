@@ -368,7 +368,8 @@ impl Shown {
             }
             TypeText::Fixed { width, signed } => {
                 let sign = if *signed { 's' } else { 'u' };
-                let told = format!(in self.alloc; "{sign}{width}").ok();
+                let bits = width.bits();
+                let told = format!(in self.alloc; "{sign}{bits}").ok();
                 self.put_told(told);
             }
             TypeText::Named { name, at } => {

@@ -42,7 +42,7 @@ fn set_number(alloc: Global, on_type: bool, level: Level, name: &[u8], number: i
     let Some(number) = Int::new(number) else {
         return Err(OptFault::UnknownOption);
     };
-    Options::new(alloc).set(on_type, level, name, OptValue::Number(number))
+    Options::new().set(on_type, level, name, OptValue::Number(number))
 }
 
 #[test]
@@ -83,7 +83,7 @@ fn texts_have_their_levels(rt: HostRuntime) -> Result<(), Fail> {
     ];
     for (on_type, name, level, wanted) in rows {
         let value = OptValue::Text(Name::of(alloc, b"why")?);
-        let got = Options::new(alloc).set(on_type, level, name, value);
+        let got = Options::new().set(on_type, level, name, value);
         assert_eq!(rt; got, wanted, "{name:?}");
     }
     Ok(())
@@ -92,7 +92,7 @@ fn texts_have_their_levels(rt: HostRuntime) -> Result<(), Fail> {
 #[test]
 fn an_option_is_set_once(rt: HostRuntime) -> Result<(), Fail> {
     let alloc = rt.alloc();
-    let mut options = Options::new(alloc);
+    let mut options = Options::new();
     assert_eq!(rt; (options.goal, options.goal_set), (100, false));
     let rows: [(bool, i128, Answer); 5] = [
         (false, 101, RANGE),

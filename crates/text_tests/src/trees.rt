@@ -6,9 +6,10 @@ fn keeps_what_it_is_given(rt: HostRuntime) -> Result<(), Fail> {
     let alloc = rt.alloc();
     let name = Name::of(alloc, b"v_1")?;
     assert_eq!(rt; name.as_slice(), b"v_1".as_slice());
-    assert!(rt; name == Name::from_vec(Vec::from_slice(alloc, b"v_1")?));
+    assert!(rt; name == Name::from_vec(Vec::from_slice(alloc, b"v_1")?)?);
     assert!(rt; name != Name::of(alloc, b"v_")?);
-    assert_eq!(rt; name.into_vec().as_slice(), b"v_1".as_slice());
+    assert_eq!(rt; name.share()?.as_slice(), b"v_1".as_slice());
+    assert_eq!(rt; Name::empty().as_slice(), b"".as_slice());
     let list = List::of(Vec::from_slice(alloc, &[3u64, 1])?);
     assert_eq!(rt; list.as_slice(), [3u64, 1].as_slice());
     assert_eq!(rt; list.into_vec().as_slice(), [3u64, 1].as_slice());

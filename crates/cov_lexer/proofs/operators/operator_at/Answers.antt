@@ -1,11 +1,8 @@
 use Rattle.std.proofs.Common.{sym, ◌∙◌, ap, option_map}
 use Rattle.cov_lexer.specs.Operators.{operators, first_standing}
 use Rattle.cov_lexer.specs.Reading.{seen}
-use Rattle.cov_lexer.proofs.Tables.{standing_by_first, longest_operator, none_is_none, lone_stands}
+use Rattle.cov_lexer.proofs.Tables.{standing_by_first, longest_operator, none_is_none}
 use Rattle.cov_lexer.proofs.operators.operator_at.Goals as goal
-
-pub returns-then-is_lone : goal.returns-then-is_lone
-returns-then-is_lone c = lone_stands c.args.text.now c.args.«at» c.requires (sym c.if-is_lone.ensures)
 
 pub returns : goal.returns
 returns c = longest_operator c.args.text.now c.args.«at» (seen c.in-Some.spelling) c.requires

@@ -1,4 +1,4 @@
-use Rattle.std.proofs.Common.{◌≡◌, true, nat_le, sym}
+use Rattle.std.proofs.Common.{nat_le}
 use Rattle.std.proofs.lemmas.Bool.{and_parts}
 use Rattle.cov_grammar.specs.declared.kind.Kind.TheVariants.{PlusSign, SignedRight}
 use Rattle.cov_grammar.specs.Kinds.{code}
