@@ -22,22 +22,43 @@ use Rattle.cov_ground.specs.Limits.{most_bins, most_products}
 use Rattle.cross_sampler.specs.declared.plan.CrossPlan.{CrossPlan}
 use Rattle.cross_sampler.specs.declared.plan.Table.{Table}
 use Rattle.cross_sampler.specs.declared.plan.Table.TheVariants.{Nothing}
-use Rattle.cross_sampler.specs.Plans.{is_picked, is_automatic, IsDeclaredEnd, bin_has, has_at, bins_with, HaveBins, AreRows, IsTable, IsPlan}
+use Rattle.const_eval.specs.Terms.{Term}
+use Rattle.record_codec.specs.Samples.{Env}
+use Rattle.cov_counting.specs.Hits.{holds}
+use Rattle.cross_sampler.specs.Once.{guard_of, guard_at}
+use Rattle.cross_sampler.specs.Plans.{is_picked, is_automatic, IsDeclaredEnd, IsGuardEnd, bin_has, has_at, bins_with, HaveBins, AreRows, IsTable, IsPlan}
 use Rattle.cross_sampler.proofs.Radix.{number_below, product_back, number_back}
 
 -- ---- declared bins stand in front
 
-pub end_more : (bins : List BinInfo) (end k : ℕ) (bin : BinInfo) → k < length bins → bin ≡ get_or bins k bin → is_picked bin.rule ≡ false → ((b : ℕ) (other : BinInfo) → end ≤ b → b < k → slice_get bins b ≡ Some other → is_picked other.rule ≡ false)
-    → (b : ℕ) (other : BinInfo) → end ≤ b → b < k + 1 → slice_get bins b ≡ Some other → is_picked other.rule ≡ false
-end_more bins end k bin lt is none h b other le less at = elim (cases_lt b k) [
+-- what all bins from an index on are, they are with one more
+one_more : (P : BinInfo → Type 0) (bins : List BinInfo) (end k : ℕ) (bin : BinInfo) → k < length bins → bin ≡ get_or bins k bin → P bin → ((b : ℕ) (other : BinInfo) → end ≤ b → b < k → slice_get bins b ≡ Some other → P other)
+    → (b : ℕ) (other : BinInfo) → end ≤ b → b < k + 1 → slice_get bins b ≡ Some other → P other
+one_more P bins end k bin lt is none h b other le less at = elim (cases_lt b k) [
   | inl lower ↦ h b other le lower at
   | inr ge ↦
       let same : k ≡ b = omega (arith, ge, less) in
       let here : slice_get bins k ≡ Some bin = slice_get_read bins (length bins) k bin refl lt is in
       let one : Some bin ≡ Some other = sym here ∙ ap (λ (n : ℕ). slice_get bins n) same ∙ at in
       let equal : bin ≡ other = cc in
-      subst (λ (x : BinInfo). is_picked x.rule ≡ false) equal none
+      subst P equal none
 ]
+
+pub end_more : (bins : List BinInfo) (end k : ℕ) (bin : BinInfo) → k < length bins → bin ≡ get_or bins k bin → is_picked bin.rule ≡ false → ((b : ℕ) (other : BinInfo) → end ≤ b → b < k → slice_get bins b ≡ Some other → is_picked other.rule ≡ false)
+    → (b : ℕ) (other : BinInfo) → end ≤ b → b < k + 1 → slice_get bins b ≡ Some other → is_picked other.rule ≡ false
+end_more bins end k bin = one_more (λ (x : BinInfo). is_picked x.rule ≡ false) bins end k bin
+
+pub guards_more : (bins : List BinInfo) (end k : ℕ) (bin : BinInfo) → k < length bins → bin ≡ get_or bins k bin → bin.guard ≡ None → ((b : ℕ) (other : BinInfo) → end ≤ b → b < k → slice_get bins b ≡ Some other → other.guard ≡ None)
+    → (b : ℕ) (other : BinInfo) → end ≤ b → b < k + 1 → slice_get bins b ≡ Some other → other.guard ≡ None
+guards_more bins end k bin = one_more (λ (x : BinInfo). x.guard ≡ None) bins end k bin
+
+-- a bin without a guard counts at each sample
+pub always : (bins : List BinInfo) (end b : ℕ) (env : Env) → IsGuardEnd bins end → end ≤ b → b < length bins → guard_at bins env b ≡ true
+always bins end b env h le lt = by (slice_get bins b) refl
+  where
+    by : (found : Option BinInfo) → slice_get bins b ≡ found → guard_of env found ≡ true
+    by None e = refl
+    by (Some bin) e = ap (λ (guard : Option Term). holds guard env) (h.none b bin le e)
 
 no_pick : (product : List ℕ) (rule : BinRule) → is_picked rule ≡ false → picks product rule ≡ false
 no_pick product (Values set) e = refl
@@ -191,13 +212,14 @@ module _ (sizes : List ℕ) (bins : List BinInfo) (k : ℕ) (bin : BinInfo) (lt 
               absurd (eqb-false number n e (num ∙ ap (number_of 0 sizes) (sym members_are) ∙ back))
 
 -- a cross without products
-pub nothing_planned : (bins : List BinInfo) (sizes : List ℕ) (declared : ℕ) (plan : CrossPlan) → length bins ≤ most_bins → product_of sizes ≡ 0 → IsDeclaredEnd bins declared → plan.sizes ≡ sizes → plan.declared ≡ declared → plan.table ≡ Nothing
+pub nothing_planned : (bins : List BinInfo) (sizes : List ℕ) (declared guards : ℕ) (plan : CrossPlan) → length bins ≤ most_bins → product_of sizes ≡ 0 → IsDeclaredEnd bins declared → IsGuardEnd bins guards → plan.sizes ≡ sizes → plan.declared ≡ declared → plan.guards ≡ guards → plan.table ≡ Nothing
     → IsPlan bins plan
-nothing_planned bins sizes declared plan few none end are_sizes is_declared is_table =
+nothing_planned bins sizes declared guards plan few none end guard_end are_sizes is_declared is_guards is_table =
     let empty : product_of plan.sizes ≡ 0 = ap product_of are_sizes ∙ none in
     record {
       few_bins = few;
       few = omega (arith, empty);
       declared = subst (IsDeclaredEnd bins) (sym is_declared) end;
+      guards = subst (IsGuardEnd bins) (sym is_guards) guard_end;
       table = subst (λ (t : Table). IsTable plan.sizes plan.weights bins t) (sym is_table) (λ product p. absurd (omega (arith, number_below plan.sizes product p, empty)));
     }

@@ -4,7 +4,7 @@ use Rattle.std.specs.Prelude.{map, filter, nat_lt}
 use Rattle.std.specs.List.{All, flat_map}
 use Rattle.std.specs.Global.{Vec}
 use Rattle.std.proofs.Math.Nat.{mul-div_cancel_left, mod-lt, div-lt_iff_lt-mul}
-use Rattle.std.proofs.lemmas.Bool.{ltb-true}
+use Rattle.std.proofs.lemmas.Bool.{ltb-true, lt-ltb}
 use Rattle.std.proofs.lemmas.Nat.{mul-add-lt, mul-le, div-mul-add, mod-mul-add, div-add-mod'}
 use Rattle.std.proofs.lemmas.List.{drop_more, length-map, get_or-map}
 use Rattle.std.proofs.lemmas.List.Elements.{All-get_or, All-head, All-tail, All-cons, All-nil, All-append, All-map, All-drop}
@@ -87,6 +87,11 @@ module _ (sizes axes : List ℕ) (rows : List (Vec ℕ)) (k : ℕ) (lt : k < len
     pub all_small : All (λ n. n * get_or sizes k 0 + get_or sizes k 0 ≤ most) numbers
     all_small i d li = small (get_or numbers i d) (get_or sizes k 0) (product_of (drop (k + 1) sizes)) most
         (some (drop (k + 1) sizes) (All-drop (λ (size : ℕ). 0 < size) (k + 1) sizes positive)) (fit_here i d li)
+
+-- one number with one bin of one more point
+pub one_extended : (n size bin : ℕ) (hit : List ℕ) → bin < size → hit ≡ bin ∷ [] → extended size hit (n ∷ []) ≡ (n * size + bin) ∷ []
+one_extended n size bin hit lt is =
+    ap (λ (hs : List ℕ). extended size hs (n ∷ [])) is ∙ ap (λ (t : Bool). map (λ (b : ℕ). n * size + b) (cond t (bin ∷ []) []) ++ []) (lt-ltb bin size lt)
 
 -- numbers of which one product is still to come
 pub all_below : (most : ℕ) (numbers : List ℕ) → AllFit most [] numbers → All (λ n. n < most) numbers

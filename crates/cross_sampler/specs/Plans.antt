@@ -39,6 +39,11 @@ pub record IsDeclaredEnd (bins : List BinInfo) (declared : ℕ) : Type 0 where
   pub within : declared ≤ length bins
   pub none : (b : ℕ) (bin : BinInfo) → declared ≤ b → slice_get bins b ≡ Some bin → is_picked bin.rule ≡ false
 
+-- from this index on no bin has a guard
+pub record IsGuardEnd (bins : List BinInfo) (end : ℕ) : Type 0 where
+  pub within : end ≤ length bins
+  pub none : (b : ℕ) (bin : BinInfo) → end ≤ b → slice_get bins b ≡ Some bin → bin.guard ≡ None
+
 abbrev pub bin_has : List BinInfo → (product : List ℕ) → Option BinInfo → Bool
 bin_has bins product None = false
 bin_has bins product (Some bin) = has bins bin.kind bin.rule product
@@ -75,4 +80,5 @@ pub record IsPlan (bins : List BinInfo) (plan : CrossPlan) : Type 0 where
   pub few_bins : length bins ≤ most_bins
   pub few : product_of plan.sizes ≤ most_products
   pub declared : IsDeclaredEnd bins plan.declared
+  pub guards : IsGuardEnd bins plan.guards
   pub table : IsTable plan.sizes plan.weights bins plan.table

@@ -1,5 +1,5 @@
 //! What is worked out of a cross.
-ghost use Rattle.std.specs.Prelude.{◌≡◌, ◌<◌, ◌≤◌, ◌+◌, ◌++◌, ◌∷◌, [], if◌then◌else◌, length, false, MatchOption, IfOk, OnOk};
+ghost use Rattle.std.specs.Prelude.{◌≡◌, ◌<◌, ◌≤◌, ◌+◌, ◌++◌, ◌∷◌, [], if◌then◌else◌, length, false, MatchOption, IfOk, OnOk, None};
 ghost use Rattle.std.specs.List.{All, AllByRecursion};
 ghost use Rattle.cov_ground.specs.Limits.{most_bins, most_products};
 ghost use Rattle.cross_select.specs.Products.{product_of};
@@ -7,7 +7,7 @@ ghost use Rattle.design_data.specs.Bins.{sizes_of};
 ghost use Rattle.design_data.specs.Limits.{IsCross, IsCrossRule};
 ghost use Rattle.design_data.specs.Crosses.{has as has_of};
 ghost use Rattle.cross_sampler.specs.Numbers.{weights_of};
-ghost use Rattle.cross_sampler.specs.Plans.{is_picked as is_picked_rule, is_automatic, IsDeclaredEnd, bins_with, HaveBins, AreRows, IsTable, IsPlan};
+ghost use Rattle.cross_sampler.specs.Plans.{is_picked as is_picked_rule, is_automatic, IsDeclaredEnd, IsGuardEnd, bins_with, HaveBins, AreRows, IsTable, IsPlan};
 ghost use Rattle.cross_sampler.specs.declared.plan.Table.TheVariants.{Nothing};
 ghost use Rattle.design_data.specs.declared.infos.BinRule.TheVariants.{Product};
 
@@ -18,6 +18,7 @@ use cov_tree::List;
 use cross_select::count_products;
 use design_data::{BinInfo, BinRule, ItemInfo, has, sizes};
 use std::alloc::Global;
+use value_index::Rows;
 
 /// Whether the rule is that of a declared bin.
 fn is_picked(rule: &BinRule) -> bool
@@ -41,6 +42,30 @@ fn declared_end(bins: &[BinInfo]) -> usize
         }
     }
     end
+}
+
+/// Whether the bin has a guard.
+fn is_guarded(bin: &BinInfo) -> bool
+    ensures { result ≡ false → bin.now.guard ≡ None }
+{
+    match bin.guard {
+        None => false,
+        Some(_) => true,
+    }
+}
+
+/// The index from which on no bin has a guard.
+#[tactic(auto, using(crate::proofs::Bins::guards_more))]
+fn guard_end(bins: &[BinInfo]) -> usize
+    ensures { IsGuardEnd bins.now result }
+{
+    let mut guards = 0;
+    for bin in 0..bins.len() {
+        if is_guarded(&bins[bin]) {
+            guards = bin + 1;
+        }
+    }
+    guards
 }
 
 /// Whether the product is one of a bin's. Bins from `declared` on, none of which is declared, leave each product as it is.
@@ -160,6 +185,17 @@ fn add_automatic(
     }
 }
 
+/// The rows, one after the other.
+fn joined(alloc: Global, rows: &[List<u32>]) -> Result<Rows, Memory>
+    ensures { IfOk result (λ all. all ≡ rows.now) }
+{
+    let mut all = Rows::new(alloc);
+    for row in rows {
+        all.push(row.as_slice())?;
+    }
+    Ok(all)
+}
+
 /// The bins of each product.
 fn rows(
     alloc: Global,
@@ -168,7 +204,7 @@ fn rows(
     sizes: &[u32],
     weights: &[u32],
     count: u32,
-) -> Result<List<List<u32>>, Memory>
+) -> Result<Rows, Memory>
     requires count { count ≡ product_of sizes.now }
     requires few { product_of sizes.now ≤ most_products }
     requires few_bins { length bins.now ≤ most_bins }
@@ -182,7 +218,7 @@ fn rows(
     for bin in declared..bins.len() {
         add_automatic(bins, bin, sizes, &mut rows)?;
     }
-    Ok(List::of(rows))
+    joined(alloc, rows.as_slice())
 }
 
 /// What a table of rows costs: room for each product, and a question to each declared bin.
@@ -218,16 +254,19 @@ fn table(
 }
 
 /// What is worked out of a cross without products.
-fn empty_plan(alloc: Global, declared: usize, sizes: List<u32>) -> CrossPlan
-    requires { declared ≤ most_bins }
+fn empty_plan(alloc: Global, declared: usize, guards: usize, sizes: List<u32>) -> CrossPlan
+    requires declared { declared ≤ most_bins }
+    requires guards { guards ≤ most_bins }
     ensures sizes { result.sizes ≡ sizes }
     ensures declared { result.declared ≡ declared }
+    ensures guards { result.guards ≡ guards }
     ensures table { result.table ≡ Nothing }
 {
     CrossPlan {
         sizes,
         weights: List::new(alloc),
         declared: declared as u32,
+        guards: guards as u32,
         table: Table::Nothing,
     }
 }
@@ -237,6 +276,7 @@ fn full_plan(
     alloc: Global,
     bins: &[BinInfo],
     declared: usize,
+    guards: usize,
     sizes: List<u32>,
     count: u32,
     room: &mut u64,
@@ -245,6 +285,7 @@ fn full_plan(
     requires few { product_of sizes ≤ most_products }
     requires few_bins { length bins.now ≤ most_bins }
     requires declared { IsDeclaredEnd bins.now declared }
+    requires guards { IsGuardEnd bins.now guards }
     requires rules { AllByRecursion (λ bin. IsCrossRule sizes bins.now bin.kind bin.rule) bins.now }
     requires some { All (λ size. 0 < size) sizes }
     ensures plan { IfOk result (λ plan. IsPlan bins.now plan) }
@@ -264,6 +305,7 @@ fn full_plan(
         sizes,
         weights,
         declared: declared as u32,
+        guards: guards as u32,
         table,
     })
 }
@@ -293,11 +335,12 @@ fn plan(
     ensures sizes { IfOk result (λ plan. plan.sizes ≡ sizes) }
 {
     let declared = declared_end(bins);
+    let guards = guard_end(bins);
     let count = all_products(sizes.as_slice());
     if count == 0 {
-        return Ok(empty_plan(alloc, declared, sizes));
+        return Ok(empty_plan(alloc, declared, guards, sizes));
     }
-    full_plan(alloc, bins, declared, sizes, count, room)
+    full_plan(alloc, bins, declared, guards, sizes, count, room)
 }
 
 impl CrossPlan {

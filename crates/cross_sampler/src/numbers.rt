@@ -1,5 +1,5 @@
 //! The products that are hit at a sample, by their numbers.
-ghost use Rattle.std.specs.Prelude.{◌≡◌, ◌<◌, ◌≤◌, ◌^◌, ◌+◌, ◌*◌, ◌++◌, ◌∷◌, [], map, length, OnOk};
+ghost use Rattle.std.specs.Prelude.{◌≡◌, ◌<◌, ◌≤◌, ◌^◌, ◌+◌, ◌*◌, ◌++◌, ◌∷◌, [], map, length, OnOk, IfSome};
 ghost use Rattle.std.specs.List.{All};
 ghost use Rattle.cross_select.specs.Products.{product_of};
 ghost use Rattle.cross_sampler.specs.Numbers.{below, extended, numbers_of, row_at, hits_of};
@@ -57,6 +57,39 @@ fn row(rows: &[Vec<u32>], axis: u32) -> &[u32]
         Some(row) => row.as_slice(),
         None => &[],
     }
+}
+
+/// The bin that is hit, where there is one alone, and the point has it.
+fn one_bin(hit: &[u32], size: u32) -> Option<u32>
+    ensures below { IfSome result (λ bin. bin < size) }
+    ensures alone { IfSome result (λ bin. hit.now ≡ bin ∷ []) }
+{
+    if hit.len() != 1 {
+        return None;
+    }
+    let bin = hit[0];
+    if bin >= size {
+        return None;
+    }
+    Some(bin)
+}
+
+/// The number of the product that is hit, where one bin of each point is hit.
+pub(crate) fn one_number(sizes: &[u32], axes: &[u32], rows: &[Vec<u32>]) -> Option<u32>
+    requires same { length sizes.now ≡ length axes.now }
+    requires some { All (λ size. 0 < size) sizes.now }
+    requires few { product_of sizes.now ≤ 2 ^ 32 }
+    ensures below { IfSome result (λ number. number < product_of sizes.now) }
+    ensures number { IfSome result (λ number. numbers_of (0 ∷ []) sizes.now (hits_of rows.now axes.now) ≡ number ∷ []) }
+{
+    let mut number = 0;
+    for k in 0..sizes.len() {
+        let Some(bin) = one_bin(row(rows, axes[k]), sizes[k]) else {
+            return None;
+        };
+        number = number * sizes[k] + bin;
+    }
+    Some(number)
 }
 
 /// Puts the numbers of all products that are hit into `numbers`. `spare` is room.

@@ -1,6 +1,7 @@
 //! What is worked out of a cross once for a design.
 
 use cov_tree::List;
+use value_index::Rows;
 
 /// What is worked out of a cross once for a design. It serves any number of records.
 #[derive(Drop)]
@@ -11,6 +12,8 @@ pub struct CrossPlan {
     pub weights: List<u32>,
     /// From this index on there is no declared bin.
     pub declared: u32,
+    /// From this index on no bin has a guard.
+    pub guards: u32,
     pub table: Table,
 }
 
@@ -18,7 +21,7 @@ pub struct CrossPlan {
 #[derive(Drop)]
 pub enum Table {
     /// The bins of each product, by its number: the bins of the last point run fastest.
-    Rows(List<List<u32>>),
+    Rows(Rows),
     /// A product's bins are worked out where it is hit.
     Scan,
     /// There are no products: one of the points has no coverage bin.

@@ -5,32 +5,34 @@ ghost use Rattle.cov_ground.specs.Limits.{most_bins};
 ghost use Rattle.cross_select.specs.Products.{product_of};
 ghost use Rattle.cross_sampler.specs.Numbers.{product_at};
 ghost use Rattle.cross_sampler.specs.Once.{Once, HasRoom, guard_at};
-ghost use Rattle.cross_sampler.specs.Plans.{IsDeclaredEnd, bins_with, AreRows, HasProducts, IsPlan};
+ghost use Rattle.cross_sampler.specs.Plans.{IsDeclaredEnd, IsGuardEnd, bins_with, AreRows, HasProducts, IsPlan};
 ghost use Rattle.cross_sampler.specs.Standing.{visited, hit_bins, Raises, TakesSample};
 
 use crate::building::push_bins;
 use crate::guard::holds;
-use crate::numbers::product_numbers;
+use crate::numbers::{one_number, product_numbers};
 use crate::once::add_once;
 use crate::plan::{CrossPlan, Table};
 use crate::products::put_product;
 use crate::state::CrossState;
 use cov_base::{Int, Memory};
-use cov_tree::List;
 use design_data::{BinInfo, ItemInfo};
+use value_index::Rows;
 
 /// Adds one to each bin that has one of the products, by the rows of all products.
 fn add_by_rows(
     bins: &[BinInfo],
+    guards: usize,
     first: usize,
     sizes: &[u32],
-    table: &[List<u32>],
+    table: &Rows,
     numbers: &[u32],
     env: &[Option<Int>],
     mark: u32,
     stamps: &mut [u32],
     counts: &mut [u64],
 )
+    requires guards { IsGuardEnd bins.now guards }
     requires bins { length stamps.old ≡ length bins.now }
     requires within { first + length stamps.old ≤ length counts.old }
     requires table { AreRows sizes.now bins.now (length bins.now) table.now }
@@ -40,8 +42,8 @@ fn add_by_rows(
 {
     let _ = sizes;
     for number in numbers {
-        let hit = table[*number as usize].as_slice();
-        add_once(bins, first, env, hit, mark, stamps, counts);
+        let hit = table.row(*number as usize);
+        add_once(bins, guards, first, env, hit, mark, stamps, counts);
     }
 }
 
@@ -71,6 +73,7 @@ fn put_bins(
 fn add_by_scan(
     bins: &[BinInfo],
     declared: usize,
+    guards: usize,
     first: usize,
     sizes: &[u32],
     weights: &[u32],
@@ -85,6 +88,7 @@ fn add_by_scan(
     requires few { length bins.now ≤ most_bins }
     requires declared { IsDeclaredEnd bins.now declared }
     requires products { HasProducts sizes.now weights.now }
+    requires guards { IsGuardEnd bins.now guards }
     requires bins { length stamps.old ≡ length bins.now }
     requires within { first + length stamps.old ≤ length counts.old }
     ensures { OnOk result (HasRoom first mark stamps.old counts.old
@@ -92,7 +96,16 @@ fn add_by_scan(
 {
     for number in numbers {
         put_bins(bins, declared, sizes, weights, *number, product, hit)?;
-        add_once(bins, first, env, hit.as_slice(), mark, stamps, counts);
+        add_once(
+            bins,
+            guards,
+            first,
+            env,
+            hit.as_slice(),
+            mark,
+            stamps,
+            counts,
+        );
     }
     Ok(())
 }
@@ -101,7 +114,7 @@ impl CrossPlan {
     /// Adds one to each bin of the cross that has a product all of whose members are hit, by the rows of all products.
     fn raise_by_rows(
         &self,
-        table: &[List<u32>],
+        table: &Rows,
         item: &ItemInfo,
         axes: &[u32],
         state: &mut CrossState,
@@ -120,17 +133,23 @@ impl CrossPlan {
         ensures once { OnOk result (Raises item.now.bins item.now.first_bin env.now state.old.samples (hit_bins item.now.bins self.now.sizes rows.now axes.now) state.old.stamps.items counts.old state.new.stamps.items counts.new) }
     {
         let sizes = self.sizes.as_slice();
+        let bins = item.bins.as_slice();
+        let guards = self.guards as usize;
+        let first = item.first_bin as usize;
+        let mark = state.samples;
+        if let Some(number) = one_number(sizes, axes, rows) {
+            let stamps = state.stamps.as_mut_slice();
+            let numbers = [number];
+            add_by_rows(
+                bins, guards, first, sizes, table, &numbers, env, mark, stamps, counts,
+            );
+            return Ok(());
+        }
         product_numbers(sizes, axes, rows, &mut state.numbers, &mut state.spare)?;
+        let stamps = state.stamps.as_mut_slice();
+        let numbers = state.numbers.as_slice();
         add_by_rows(
-            item.bins.as_slice(),
-            item.first_bin as usize,
-            sizes,
-            table,
-            state.numbers.as_slice(),
-            env,
-            state.samples,
-            state.stamps.as_mut_slice(),
-            counts,
+            bins, guards, first, sizes, table, numbers, env, mark, stamps, counts,
         );
         Ok(())
     }
@@ -159,6 +178,7 @@ impl CrossPlan {
         add_by_scan(
             item.bins.as_slice(),
             self.declared as usize,
+            self.guards as usize,
             item.first_bin as usize,
             sizes,
             self.weights.as_slice(),
@@ -192,7 +212,7 @@ impl CrossPlan {
     {
         match &self.table {
             Table::Rows(table) => {
-                self.raise_by_rows(table.as_slice(), item, axes, state, env, rows, counts)
+                self.raise_by_rows(table, item, axes, state, env, rows, counts)
             }
             Table::Scan => self.raise_by_scan(item, axes, state, env, rows, counts),
             Table::Nothing => Ok(()),
@@ -218,7 +238,8 @@ impl CrossPlan {
         requires stamps { length state.old.stamps.items ≡ length item.now.bins }
         requires within { item.now.first_bin + length item.now.bins ≤ length counts.old }
         ensures stamps { OnOk result (length state.new.stamps.items ≡ length item.now.bins) }
-        ensures takes { OnOk result (TakesSample self.now.sizes item.now axes.now env.now rows.now state.old counts.old state.new counts.new) }
+        ensures takes { OnOk result (TakesSample self.now.sizes item.now axes.now env.now rows.now
+            state.old counts.old state.new counts.new) }
     {
         state.begin();
         if !holds(&item.guard, env) {

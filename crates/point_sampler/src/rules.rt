@@ -2,7 +2,7 @@
 ghost use Rattle.std.specs.Prelude.{◌≡◌, ◌++◌, ◌∷◌, [], OnOk, IfSome, if◌then◌else◌};
 ghost use Rattle.std.specs.List.{AllByRecursion};
 ghost use Rattle.const_eval.specs.Values.{is_true as is_true_of};
-ghost use Rattle.design_data.specs.Limits.{IsPointRule, HasWidth};
+ghost use Rattle.design_data.specs.Limits.{IsPointRule};
 ghost use Rattle.design_data.specs.Laws.{in_patterns as in_patterns_of, lists as lists_of, is_listed as is_listed_in};
 ghost use Rattle.cov_counting.specs.Hits.{holds as holds_at};
 ghost use Rattle.point_sampler.specs.Plans.{IsPoint, IsLookupOf, places_from, has_value as has_value_of};
@@ -37,7 +37,6 @@ pub(crate) fn holds(guard: &Option<Bound>, env: &[Option<Int>]) -> bool
 
 /// Whether a pattern stands for the value.
 fn in_patterns(patterns: &[Pattern], value: Option<Int>) -> bool
-    requires { AllByRecursion (λ pattern. HasWidth pattern.width) patterns.now }
     ensures { result ≡ in_patterns_of patterns.now value }
 {
     let Some(number) = value else {

@@ -12,4 +12,5 @@ mod segment;
 mod sets;
 
 pub use index::Index;
+pub use rows::Rows;
 pub use sets::{Set, Span};

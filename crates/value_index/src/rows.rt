@@ -12,6 +12,7 @@ pub struct Place {
     to: usize,
 }
 
+/// Rows of bins, one after the other in one flat list.
 #[derive(Drop)]
 pub struct Rows {
     places: Vec<Place>,
@@ -30,7 +31,8 @@ impl Model for Rows {
 }
 
 impl Rows {
-    pub(crate) fn new(alloc: Global) -> Rows
+    /// No rows.
+    pub fn new(alloc: Global) -> Rows
         ensures { result ≡ [] }
     {
         Rows {
@@ -39,7 +41,8 @@ impl Rows {
         }
     }
 
-    pub(crate) fn push(&mut self, row: &[u32]) -> Result<(), Memory>
+    /// Puts a row behind the others.
+    pub fn push(&mut self, row: &[u32]) -> Result<(), Memory>
         ensures after { OnOk result (self.new ≡ self.old ++ row.now ∷ []) }
     {
         let from = self.flat.len();
@@ -49,7 +52,8 @@ impl Rows {
         Ok(())
     }
 
-    pub(crate) fn row(&self, k: usize) -> &[u32]
+    /// The row at an index.
+    pub fn row(&self, k: usize) -> &[u32]
         requires { k < length self.now }
         ensures { result.now ≡ slice_index_or self.now k [] }
     {
