@@ -3,6 +3,7 @@ pub mod Items
 pub mod Walks
 pub mod Starts
 mod Parts
+pub mod Alike
 mod Expressions
 pub mod Designs
 mod OneRecord

@@ -4,6 +4,7 @@ pub mod Standing
 pub mod Walking
 pub mod Shares
 pub mod Plans
+pub mod Alike
 pub mod Starting
 pub mod Encoded
 pub mod Preparing

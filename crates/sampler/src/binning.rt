@@ -11,7 +11,7 @@ use crate::sharing::share_of;
 use crate::starting::{inst_states, unknown_values};
 use crate::walking::walk;
 use cov_base::Memory;
-use cov_tree::List;
+use cov_tree::{List, Shared};
 use design_data::{Design, InstInfo};
 use record_codec::Record;
 use std::alloc::Global;
@@ -22,7 +22,7 @@ fn count_share(
     alloc: Global,
     instances: &[InstInfo],
     plans: &[InstPlan],
-    share: &[List<u32>],
+    share: &[Shared<List<u32>>],
     rec: &Record,
     counts: &mut [u64],
 ) -> Result<(), Memory>
@@ -60,7 +60,7 @@ fn share_counts(
     labels: &[List<u32>],
     parts: u32,
     part: u32,
-    share: &[List<u32>],
+    share: &[Shared<List<u32>>],
     rec: &Record,
 ) -> Result<Vec<u64>, Memory>
     requires plan { IsDesignPlan design.now.instances plan.now }
@@ -99,7 +99,8 @@ pub fn part_counts(
     requires plan { IsDesignPlan design.now.instances plan.now }
     requires parts { 0 < parts }
     requires together { AreTogether design.now.instances labels.now }
-    ensures { IfOk result (λ counts. IsPartTally design.now rec.now labels.now parts part counts.items) }
+    ensures { IfOk result
+        (λ counts. IsPartTally design.now rec.now labels.now parts part counts.items) }
 {
     let share = share_of(alloc, design.instances(), labels, parts, part)?;
     let share = share.as_slice();

@@ -52,7 +52,7 @@ fn point_taken(
 {
     match plan {
         ItemPlan::Point(plan) => match state {
-            ItemState::Point(state) => plan.sample(item, expr, state, env, counts, row),
+            ItemState::Point(state) => plan.get().sample(item, expr, state, env, counts, row),
             ItemState::Cross(_) => Ok(()),
         },
         ItemPlan::Cross(_) => Ok(()),
@@ -188,7 +188,7 @@ fn cross_taken(
     match plan {
         ItemPlan::Cross(plan) => match state {
             ItemState::Cross(state) => {
-                plan.sample(item, axes, state, env, rows, counts)?;
+                plan.get().sample(item, axes, state, env, rows, counts)?;
                 Ok(())
             }
             ItemState::Point(_) => Ok(()),

@@ -7,9 +7,11 @@
 mod binning;
 mod encoded;
 mod instance;
+mod known;
 mod plan;
 mod planning;
 mod prepared;
+mod sameness;
 mod shape;
 mod sharing;
 mod starting;

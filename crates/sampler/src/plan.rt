@@ -1,6 +1,8 @@
 //! What is worked out of a design once.
+ghost use Rattle.std.specs.Prelude.{◌≡◌, IfOk};
 
-use cov_tree::List;
+use cov_base::Memory;
+use cov_tree::{List, Shared};
 use cross_sampler::CrossPlan;
 use point_sampler::PointPlan;
 
@@ -11,16 +13,28 @@ pub struct Plan {
     pub instances: List<InstPlan>,
 }
 
-/// What is worked out of an instance.
+/// What is worked out of an instance. It stands once in memory for instances of a group whose items are alike.
 #[derive(Drop)]
 pub struct InstPlan {
     /// One for each item.
-    pub items: List<ItemPlan>,
+    pub items: Shared<List<ItemPlan>>,
 }
 
-/// What is worked out of an item.
+/// What is worked out of an item. It stands once in memory for items that are alike in several instances of a group.
 #[derive(Drop)]
 pub enum ItemPlan {
-    Point(PointPlan),
-    Cross(CrossPlan),
+    Point(Shared<PointPlan>),
+    Cross(Shared<CrossPlan>),
+}
+
+impl ItemPlan {
+    /// The same plan for a further item. It copies nothing.
+    pub(crate) fn share(&self) -> Result<ItemPlan, Memory>
+        ensures { IfOk result (λ plan. plan ≡ self.now) }
+    {
+        match self {
+            ItemPlan::Point(plan) => Ok(ItemPlan::Point(plan.share()?)),
+            ItemPlan::Cross(plan) => Ok(ItemPlan::Cross(plan.share()?)),
+        }
+    }
 }

@@ -60,7 +60,21 @@ impl Prepared {
         ensures design { IfOk result (λ p. p.under ≡ arc_value design.now) }
         ensures of { IfOk result (λ p. p.of ≡ rec) }
     {
-        let rec = Arc::new(alloc, EncodedRecord::of(alloc, rec)?)?;
+        Prepared::of_encoded(alloc, design, EncodedRecord::of(alloc, rec)?, tally)
+    }
+
+    /// The same of a record that is encoded already.
+    pub fn of_encoded(
+        alloc: Global,
+        design: &Arc<Design>,
+        rec: EncodedRecord,
+        tally: Tally,
+    ) -> Result<Prepared, Memory>
+        requires { IsTallyOf (arc_value design.now) rec tally }
+        ensures design { IfOk result (λ p. p.under ≡ arc_value design.now) }
+        ensures of { IfOk result (λ p. p.of ≡ rec) }
+    {
+        let rec = Arc::new(alloc, rec)?;
         let tally = Arc::new(alloc, tally)?;
         let design = design.clone()?;
         Ok(Prepared { design, rec, tally })

@@ -3,8 +3,9 @@ ghost use Rattle.std.specs.Prelude.{◌≡◌, ◌==◌, ◌<◌, ◌^◌, ◌%�
 ghost use Rattle.design_data.specs.declared.infos.InstInfo.{InstInfo as Inst};
 ghost use Rattle.sampler.specs.Shares.{labels_at as labels_of, chosen_items, IsShareOf};
 
+use crate::sameness::same_numbers;
 use cov_base::Memory;
-use cov_tree::List;
+use cov_tree::{List, Shared};
 use design_data::InstInfo;
 use std::alloc::Global;
 
@@ -69,23 +70,65 @@ fn chosen_of(
     Ok(List::of(chosen))
 }
 
-/// The items of the instances that belong to this part.
+/// The same, where those that were chosen by known labels among so many items are known.
+fn chosen_again(
+    alloc: Global,
+    known: &Shared<List<u32>>,
+    known_labels: &[u32],
+    known_count: usize,
+    labels: &[u32],
+    parts: u32,
+    part: u32,
+    count: usize,
+) -> Result<Shared<List<u32>>, Memory>
+    requires parts { 0 < parts }
+    requires few { count < 2 ^ 32 }
+    requires known { known.now ≡ chosen_items known_labels.now parts part known_count }
+    ensures { IfOk result (λ chosen. chosen ≡ chosen_items labels.now parts part count) }
+{
+    if known_count == count {
+        if same_numbers(known_labels, labels) {
+            return Ok(known.share()?);
+        }
+    }
+    let chosen = chosen_of(alloc, labels, parts, part, count)?;
+    Ok(Shared::of(alloc, chosen)?)
+}
+
+/// The items of the instances that belong to this part. Instances of as many items with the same labels share theirs.
 pub(crate) fn share_of(
     alloc: Global,
     instances: &[InstInfo],
     labels: &[List<u32>],
     parts: u32,
     part: u32,
-) -> Result<Vec<List<u32>>, Memory>
+) -> Result<Vec<Shared<List<u32>>>, Memory>
     requires parts { 0 < parts }
     requires few { (j : ℕ) (inst : Inst) → slice_get instances.now j ≡ Some inst → length inst.items < 2 ^ 32 }
     ensures { IfOk result (λ share. IsShareOf instances.now labels.now parts part share.items) }
 {
     let mut share = Vec::new(alloc);
+    let mut known = Shared::of(alloc, List::new(alloc))?;
+    let mut known_labels: &[u32] = &[];
+    let mut known_count = 0;
     for j in 0..instances.len() {
         let items = instances[j].items.as_slice();
+        let count = items.len();
         let own = labels_at(labels, j);
-        share.push(chosen_of(alloc, own, parts, part, items.len())?)?;
+        let chosen = chosen_again(
+            alloc,
+            &known,
+            known_labels,
+            known_count,
+            own,
+            parts,
+            part,
+            count,
+        )?;
+        known = chosen.share()?;
+        known_labels = own;
+        known_count = count;
+        share.push(chosen)?;
     }
     Ok(share)
 }

@@ -10,7 +10,7 @@ use crate::instance::{InstState, ItemState, chosen_at};
 use crate::plan::{InstPlan, ItemPlan};
 use cov_base::{Int, Memory};
 use cov_ground::limits::{MOST_ARGUMENTS, MOST_SIGNALS};
-use cov_tree::List;
+use cov_tree::{List, Shared};
 use cross_sampler::CrossState;
 use design_data::{InstInfo, ItemInfo};
 use point_sampler::PointState;
@@ -32,7 +32,7 @@ fn item_state(
 {
     let _ = items;
     match plan {
-        ItemPlan::Point(plan) => Ok(ItemState::Point(PointState::start(alloc, plan)?)),
+        ItemPlan::Point(plan) => Ok(ItemState::Point(PointState::start(alloc, plan.get())?)),
         ItemPlan::Cross(_) => Ok(ItemState::Cross(CrossState::new(
             alloc,
             item.bins.as_slice().len(),
@@ -53,7 +53,7 @@ fn item_states(
     ensures fits { IfOk result (λ states. AllFit items.now plans.now chosen.now states.items) }
     ensures stands { IfOk result (λ states. (all : List Env) (counts : List ℕ) → AreAllZero counts → AllStand items.now plans.now chosen.now all (λ shape. 0) states.items counts) }
 {
-    let mut states = Vec::new(alloc);
+    let mut states = Vec::with_capacity(alloc, chosen.len())?;
     for i in 0..chosen.len() {
         let t = chosen_at(items, chosen, i);
         states.push(item_state(alloc, items, &items[t], &plans[t])?)?;
@@ -65,7 +65,7 @@ fn item_states(
 pub(crate) fn empty_rows(alloc: Global, count: usize) -> Result<Vec<Vec<u32>>, Memory>
     ensures { IfOk result (λ rows. length rows.items ≡ count) }
 {
-    let mut rows = Vec::new(alloc);
+    let mut rows = Vec::with_capacity(alloc, count)?;
     for index in 0..count {
         let _ = index;
         rows.push(Vec::new(alloc))?;
@@ -96,7 +96,7 @@ pub(crate) fn inst_states(
     alloc: Global,
     instances: &[InstInfo],
     plans: &[InstPlan],
-    share: &[List<u32>],
+    share: &[Shared<List<u32>>],
     counts: &[u64],
 ) -> Result<Vec<InstState>, Memory>
     requires work { IsWork instances.now plans.now share.now (length counts.now) }
@@ -107,8 +107,8 @@ pub(crate) fn inst_states(
     let mut kept = Vec::new(alloc);
     for j in 0..instances.len() {
         let items = instances[j].items.as_slice();
-        let own = plans[j].items.as_slice();
-        let chosen = share[j].as_slice();
+        let own = plans[j].items.get().as_slice();
+        let chosen = share[j].get().as_slice();
         kept.push(inst_state(alloc, items, own, chosen)?)?;
     }
     Ok(kept)

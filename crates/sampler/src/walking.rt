@@ -11,7 +11,7 @@ use crate::instance::{InstState, sample_instance};
 use crate::plan::{InstPlan, ItemPlan};
 use crate::values::{clear_args, set_signal, write_args};
 use cov_base::{Int, Memory};
-use cov_tree::List;
+use cov_tree::{List, Shared};
 use design_data::{InstInfo, ItemInfo};
 use record_codec::{ArgRow, Event, InstRow, Record};
 
@@ -127,7 +127,7 @@ fn take_event(
     rec: &Record,
     instances: &[InstInfo],
     plans: &[InstPlan],
-    share: &[List<u32>],
+    share: &[Shared<List<u32>>],
     values: &mut [Option<Int>],
     kept: &mut Vec<InstState>,
     event: &Event,
@@ -152,8 +152,8 @@ fn take_event(
                 return Ok(());
             }
             let items = instances[index].items.as_slice();
-            let own = plans[index].items.as_slice();
-            let chosen = share[index].as_slice();
+            let own = plans[index].items.get().as_slice();
+            let chosen = share[index].get().as_slice();
             let args = args.as_slice();
             let state = &mut kept[index];
             take_sample(rec, index, items, own, chosen, values, state, args, counts)?;
@@ -167,7 +167,7 @@ pub(crate) fn walk(
     rec: &Record,
     instances: &[InstInfo],
     plans: &[InstPlan],
-    share: &[List<u32>],
+    share: &[Shared<List<u32>>],
     values: &mut [Option<Int>],
     kept: &mut Vec<InstState>,
     counts: &mut [u64],

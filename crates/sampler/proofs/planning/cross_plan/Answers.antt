@@ -1,6 +1,9 @@
-use Rattle.std.proofs.Common.{subst}
+use Rattle.std.proofs.Common.{sym, subst}
 use Rattle.design_data.specs.Limits.{IsShape}
-use Rattle.cov_counting.proofs.Wide.{few}
+use Rattle.cross_sampler.specs.declared.plan.CrossPlan.{CrossPlan}
+use Rattle.cov_counting.proofs.Items.{few}
+use Rattle.sampler.specs.declared.plan.ItemPlan.TheVariants as plan
+use Rattle.sampler.specs.Standing.{IsCrossPlan}
 use Rattle.sampler.proofs.planning.cross_plan.Goals as goal
 
 pub new-requires : goal.new-requires
@@ -12,5 +15,8 @@ new-requires c = record {
 
 pub returns : goal.returns
 returns c =
-    let cross = subst (IsShape c.args.items.now c.args.item.now) c.requires.shape c.requires.item.shape in
-    (c.in_ok-new.ensures.plan, c.in_ok-new.ensures.sizes, cross.points)
+    let items = c.args.items.now in
+    let axes = c.args.axes.now in
+    let cross = subst (IsShape items c.args.item.now) c.requires.shape c.requires.item.shape in
+    subst (λ (p : CrossPlan). IsCrossPlan items c.args.item.now axes (plan.Cross p)) (sym c.in_ok-of.ensures)
+    (c.in_ok-plan.ensures.plan, c.in_ok-plan.ensures.sizes, cross.points)

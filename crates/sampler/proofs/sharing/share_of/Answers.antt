@@ -16,14 +16,15 @@ loop-j-preserved c =
     let j = c.loop-j.j in
     let share = c.loop-j.share.items in
     let inst = c.index-instances-j.result in
-    let own = c.in_ok-chosen_of.field-0 in
+    let own = c.in_ok-chosen.chosen in
     let inv = c.loop-j.invariant in
     let at_inst : slice_get instances j ≡ Some inst = read_at instances j inst c.loop-j-test.true c.index-instances-j.is in
     let items : c.as_slice-items.result.now ≡ inst.items = cc in
     let is : own ≡ chosen_items (labels_at labels j) c.args.parts c.args.part (length inst.items) =
-    c.in_ok-chosen_of.ensures ∙ ap (λ (ls : List ℕ). chosen_items ls c.args.parts c.args.part (length c.as_slice-items.result.now)) c.labels_at-own.ensures
+    c.in_ok-chosen.ensures ∙ ap (λ (ls : List ℕ). chosen_items ls c.args.parts c.args.part (length c.as_slice-items.result.now)) c.labels_at-own.ensures
     ∙ ap (λ (xs : List ItemInfo). chosen_items (labels_at labels j) c.args.parts c.args.part (length xs)) items in
     record {
+      latest = c.in_ok-known-2.ensures ∙ c.in_ok-chosen.ensures;
       same = ap (λ (xs : List (List ℕ)). length xs) c.in_ok-push.ensures.items ∙ length-append share (own ∷ []) ∙ ap (λ (n : ℕ). n + 1) inv.same;
       at = each_push (ShareAt instances labels c.args.parts c.args.part) share c.push.new.self.items j own inv.same c.in_ok-push.ensures.items
           (λ x e. one_of (λ (y : InstInfo). own ≡ chosen_items (labels_at labels j) c.args.parts c.args.part (length y.items)) instances j inst x at_inst e is) inv.at;

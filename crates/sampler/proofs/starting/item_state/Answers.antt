@@ -1,4 +1,9 @@
-use Rattle.std.proofs.Common.{sym, subst}
+use Rattle.std.proofs.Common.{List, sym, subst}
+use Rattle.const_eval.specs.Terms.{Term}
+use Rattle.design_data.specs.declared.infos.ItemInfo.{ItemInfo}
+use Rattle.record_codec.specs.Samples.{Env}
+use Rattle.point_sampler.specs.Points.{StateStands}
+use Rattle.point_sampler.specs.declared.plan.PointPlan.{PointPlan}
 use Rattle.sampler.specs.declared.plan.ItemPlan.{ItemPlan}
 use Rattle.sampler.specs.declared.instance.ItemState.TheVariants as kept
 use Rattle.sampler.specs.Standing.{IsPlanOf, Stands}
@@ -10,7 +15,7 @@ returns-in_ok-start-in-Point-clause-stands c = λ all counts zeros.
     let items = c.args.items.now in
     let item = c.args.item.now in
     subst (λ (p : ItemPlan). Stands items item all 0 item.shape p (kept.Point c.in_ok-start-in-Point.field-0) counts) (sym c.in-Point.is)
-    (start_point items item all counts item.shape c.in-Point.plan c.in_ok-start-in-Point.field-0 (subst (λ (p : ItemPlan). IsPlanOf items item item.shape p) c.in-Point.is c.requires) c.in_ok-start-in-Point.ensures.stands zeros)
+    (start_point items item all counts item.shape c.in-Point.plan c.in_ok-start-in-Point.field-0 (subst (λ (p : ItemPlan). IsPlanOf items item item.shape p) c.in-Point.is c.requires) (subst (λ (p : PointPlan). (item : ItemInfo) (expr : Term) (all : List Env) → StateStands item expr p all 0 c.in_ok-start-in-Point.field-0) c.get.ensures c.in_ok-start-in-Point.ensures.stands) zeros)
 
 pub returns-in_ok-new-in-Cross-clause-stands : goal.returns-in_ok-new-in-Cross-clause-stands
 returns-in_ok-new-in-Cross-clause-stands c = λ all counts zeros.
