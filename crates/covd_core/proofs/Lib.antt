@@ -1,4 +1,5 @@
 pub mod Admissions
+pub mod Ahead
 pub mod Designs
 pub mod Digits
 pub mod Dumping

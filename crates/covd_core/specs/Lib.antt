@@ -6,6 +6,7 @@ pub mod Sessions
 pub mod Starts
 pub mod Forms
 pub mod Filling
+pub mod Batches
 pub mod Digits
 pub mod Admission
 pub mod Statuses

@@ -3,11 +3,12 @@ ghost use Rattle.std.specs.Prelude.{◌≡◌, IfOk, true};
 ghost use Rattle.std.specs.Arc.{arc_value};
 ghost use Rattle.cov_history.specs.Tables.{fits};
 ghost use Rattle.merge_store.specs.Stores.{opening_of, entries_of};
-ghost use Rattle.sampler.specs.Plans.{IsDesignPlan};
+ghost use Rattle.sampler.specs.Plans.{IsDesignPlan, IsTallyOf};
 ghost use Rattle.sampler.specs.Shape.{Fits};
 ghost use Rattle.covd_core.specs.Filling.{IsPlain, Admits, IsRefusal};
 
 use crate::Status;
+use crate::batches::Counted;
 use crate::stop::Stop;
 use crate::unadmitted::{full, id_taken, which_word};
 use cov_base::{Memory, OpenGate};
@@ -64,6 +65,25 @@ pub(crate) fn admit_record<R: Threads + Sync>(
     ensures admits { Admits (arc_value design.now) k (entries_of store.old) rec (entries_of store.new) result }
 {
     let prepared = bin_record_par_under(rt, alloc, plan, design, rec, &OpenGate)?;
+    admit_prepared(alloc, store, k, prepared)?;
+    Ok(())
+}
+
+/// Admits the k-th record by caller 0, which is counted.
+pub(crate) fn admit_counted(
+    alloc: Global,
+    design: &Arc<Design>,
+    store: &mut Store,
+    k: u64,
+    counted: Counted,
+) -> Result<(), Stop>
+    requires plain { IsPlain (arc_value design.now) store.old }
+    requires fits { Fits (arc_value design.now) counted.rec }
+    requires counted { IsTallyOf (arc_value design.now) counted.rec counted.tally }
+    ensures opening { opening_of store.new ≡ opening_of store.old }
+    ensures admits { Admits (arc_value design.now) k (entries_of store.old) counted.rec (entries_of store.new) result }
+{
+    let prepared = Prepared::of_encoded(alloc, design, counted.rec, counted.tally)?;
     admit_prepared(alloc, store, k, prepared)?;
     Ok(())
 }

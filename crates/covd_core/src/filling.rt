@@ -1,52 +1,24 @@
 //! A store that is filled with records from files, one after the other.
-ghost use Rattle.std.specs.Prelude.{◌≡◌, ◌≤◌, [], length, map, string_bytes, IfOk, IfErr, OnOk};
+ghost use Rattle.std.specs.Prelude.{◌≡◌, ◌+◌, ◌^◌, ◌<◌, ◌≤◌, ◌∷◌, [], length, map, string_bytes, OnOk};
 ghost use Rattle.std.specs.Arc.{arc_value};
-ghost use Rattle.cov_base.specs.Loads.{HasFile};
-ghost use Rattle.cov_ground.specs.Limits.{longest_record};
 ghost use Rattle.sampler.specs.Plans.{IsDesignPlan};
 ghost use Rattle.merge_store.specs.Stores.{opening_of, entries_of};
-ghost use Rattle.covd_core.specs.Filling.{IsPlain, IsUnread, IsDecoded, Takes, IsFilled};
+ghost use Rattle.covd_core.specs.Filling.{IsPlain, Takes, IsFilled};
+ghost use Rattle.covd_core.specs.Batches.{AreFound};
 
-use crate::admitting::admit_record;
-use crate::count::{refused, undecoded};
-use crate::loading::{Loaded, load};
+use crate::admitting::{admit_counted, admit_record};
+use crate::batches::{Counted, MOST_RECORDS, next_counted};
+use crate::reading::{decoded, read};
 use crate::stop::Stop;
 use cov_base::Shelf;
-use cov_ground::limits::LONGEST_RECORD;
 use design_data::Design;
 use merge_store::Store;
-use record_codec::{Record, decode};
-use sampler::{Plan, shape_fits};
+use sampler::Plan;
 use std::alloc::Global;
+use std::collections::VecDeque;
 use std::sync::Arc;
+use std::thread;
 use std::thread::Threads;
-
-/// The bytes of a record's file.
-fn read<F: Shelf>(alloc: Global, name: &str, shelf: &mut F) -> Result<Vec<u8>, Stop>
-    ensures same { F.files shelf.new ≡ F.files shelf.old }
-    ensures later { F.faults shelf.old ≤ F.faults shelf.new }
-    ensures had { IfOk result (λ bytes. HasFile (F.files shelf.old) name.now bytes.items × (length bytes.items ≤ longest_record)) }
-    ensures unread { IfErr result (IsUnread (F.files shelf.old) (F.faults shelf.old) (F.faults shelf.new) name.now) }
-{
-    match load(alloc, name, LONGEST_RECORD, shelf)? {
-        Loaded::Bytes(bytes) => Ok(bytes),
-        Loaded::Refused(answer) => Err(Stop::Refused(answer)),
-    }
-}
-
-/// The k-th record from its bytes, where it is one and fits the design.
-fn decoded(alloc: Global, k: u64, design: &Design, bytes: &[u8]) -> Result<Record, Stop>
-    requires { length bytes.now ≤ longest_record }
-    ensures { IsDecoded k design.now bytes.now result }
-{
-    match decode(alloc, bytes) {
-        Ok(rec) => match shape_fits(design, &rec) {
-            Ok(()) => Ok(rec),
-            Err(wrong) => Err(Stop::Refused(refused(alloc, k, "WrongShape", wrong.at as u64)?)),
-        },
-        Err(fault) => Err(Stop::Refused(undecoded(alloc, k, fault)?)),
-    }
-}
 
 /// Takes the k-th record in: load, decoding, shape, admission.
 fn take_file<R: Threads + Sync, F: Shelf>(
@@ -72,6 +44,71 @@ fn take_file<R: Threads + Sync, F: Shelf>(
     Ok(())
 }
 
+/// Takes the k-th record in, which is counted in a batch: the first of those that are found, or the first of a new one.
+fn take_counted<R: Threads + Sync, F: Shelf>(
+    rt: &R,
+    alloc: Global,
+    design: &Arc<Design>,
+    plan: &Plan,
+    store: &mut Store,
+    k: u64,
+    name: &str,
+    later: &[String],
+    found: &mut VecDeque<Result<Counted, Stop>>,
+    shelf: &mut F,
+) -> Result<(), Stop>
+    requires plain { IsPlain (arc_value design.now) store.old }
+    requires planned { IsDesignPlan (arc_value design.now).instances plan.now }
+    requires room { k + length later.now < 2 ^ 64 }
+    requires found { AreFound (F.files shelf.old) (arc_value design.now) k (name.now ∷ map string_bytes later.now) found.old.items }
+    ensures same { F.files shelf.new ≡ F.files shelf.old }
+    ensures later { F.faults shelf.old ≤ F.faults shelf.new }
+    ensures opening { opening_of store.new ≡ opening_of store.old }
+    ensures found { OnOk result (AreFound (F.files shelf.old) (arc_value design.now) (k + 1) (map string_bytes later.now) found.new.items) }
+    ensures takes { Takes (F.files shelf.old) (F.faults shelf.old) (F.faults shelf.new) (arc_value design.now) k (entries_of store.old) name.now (entries_of store.new) result }
+{
+    let counted = next_counted(rt, alloc, plan, design, k, name, later, found, shelf)?;
+    admit_counted(alloc, design, store, k, counted)?;
+    Ok(())
+}
+
+/// Whether a record and so many later ones are fewer than the processors, which then count each of them together.
+fn are_few<R: Threads + Sync>(rt: &R, later: usize) -> bool {
+    match thread::available_parallelism(rt) {
+        Ok(count) => count.get() == 1 || later.saturating_add(1) < count.get().min(MOST_RECORDS),
+        Err(_) => true,
+    }
+}
+
+/// Takes the k-th record in: alone where few are left, else with a batch.
+fn take_next<R: Threads + Sync, F: Shelf>(
+    rt: &R,
+    alloc: Global,
+    design: &Arc<Design>,
+    plan: &Plan,
+    store: &mut Store,
+    k: u64,
+    name: &str,
+    later: &[String],
+    found: &mut VecDeque<Result<Counted, Stop>>,
+    shelf: &mut F,
+) -> Result<(), Stop>
+    requires plain { IsPlain (arc_value design.now) store.old }
+    requires planned { IsDesignPlan (arc_value design.now).instances plan.now }
+    requires room { k + length later.now < 2 ^ 64 }
+    requires found { AreFound (F.files shelf.old) (arc_value design.now) k (name.now ∷ map string_bytes later.now) found.old.items }
+    ensures same { F.files shelf.new ≡ F.files shelf.old }
+    ensures later { F.faults shelf.old ≤ F.faults shelf.new }
+    ensures opening { opening_of store.new ≡ opening_of store.old }
+    ensures found { OnOk result (AreFound (F.files shelf.old) (arc_value design.now) (k + 1) (map string_bytes later.now) found.new.items) }
+    ensures takes { Takes (F.files shelf.old) (F.faults shelf.old) (F.faults shelf.new) (arc_value design.now) k (entries_of store.old) name.now (entries_of store.new) result }
+{
+    if found.is_empty() && are_few(rt, later.len()) {
+        return take_file(rt, alloc, design, plan, store, k, name, shelf);
+    }
+    take_counted(rt, alloc, design, plan, store, k, name, later, found, shelf)
+}
+
 /// Takes the records of these files in, in order, up to the first that is refused.
 pub(crate) fn fill<R: Threads + Sync, F: Shelf>(
     rt: &R,
@@ -90,11 +127,23 @@ pub(crate) fn fill<R: Threads + Sync, F: Shelf>(
     ensures plain { OnOk result (IsPlain (arc_value design.now) store.new) }
     ensures filled { IsFilled (F.files shelf.old) (F.faults shelf.old) (F.faults shelf.new) (arc_value design.now) (map string_bytes names.now) (entries_of store.new) result }
 {
+    let mut found = VecDeque::new(alloc);
     let mut k: u64 = 0;
     let mut rest = names;
     while let Some((name, later)) = rest.split_first() {
         k += 1;
-        take_file(rt, alloc, design, plan, store, k, name.as_str(), shelf)?;
+        take_next(
+            rt,
+            alloc,
+            design,
+            plan,
+            store,
+            k,
+            name.as_str(),
+            later,
+            &mut found,
+            shelf,
+        )?;
         rest = later;
     }
     Ok(())

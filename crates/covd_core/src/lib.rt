@@ -5,6 +5,7 @@
 
 mod admitting;
 mod answer;
+mod batches;
 mod check;
 mod count;
 mod filling;
@@ -14,6 +15,7 @@ mod loading;
 mod making;
 mod numbers;
 mod printing;
+mod reading;
 mod record;
 mod report;
 mod running;

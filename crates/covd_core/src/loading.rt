@@ -190,7 +190,8 @@ pub(crate) fn had_design<F: Shelf>(
 
 /// The refusal that is printed for a fault of a design text; none for want of memory.
 pub fn refusal_of(fault: CompileFault) -> Option<Refusal>
-    ensures told { IfSome result (λ r. IsDesignFaultText fault (design_refused_text r.kind.now r.at)) }
+    ensures told { IfSome result
+        (λ r. IsDesignFaultText fault (design_refused_text r.kind.now r.at)) }
     ensures memory { IfNone result (is_memory fault) }
 {
     match fault {

@@ -152,7 +152,8 @@ pub struct DumpRefusal {
 
 /// The refusal that is printed for a dump; none for want of memory.
 pub fn dump_refusal_of(fault: DumpFault) -> Option<DumpRefusal>
-    ensures told { IfSome result (λ r. IsDumpFaultText fault (dump_refused_text r.kind.now r.number)) }
+    ensures told { IfSome result
+        (λ r. IsDumpFaultText fault (dump_refused_text r.kind.now r.number)) }
     ensures memory { IsNone result → fault ≡ dumping.Memory }
 {
     let (kind, number) = match fault {

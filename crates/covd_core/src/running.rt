@@ -44,7 +44,8 @@ pub fn run<R: Threads + Sync, F: Shelf, L: Link>(
         result }
     ensures one_answer { HasOneAnswer (map string_bytes words.now)
         (F.files shelf.old) (F.faults shelf.old) (F.faults shelf.new) }
-    ensures one_design { HasOneDesign (F.files shelf.old) (F.faults shelf.old) (F.faults shelf.new) }
+    ensures one_design { HasOneDesign (F.files shelf.old) (F.faults shelf.old)
+        (F.faults shelf.new) }
     // What the call leaves alone.
     ensures files { F.files shelf.new ≡ F.files shelf.old }
     ensures shelf_faults { F.faults shelf.old ≤ F.faults shelf.new }
