@@ -55,7 +55,7 @@ fn numbered_name(alloc: Global, k: usize) -> Result<Name, Memory>
 {
     let mut text = Vec::from_slice(alloc, b"cross_".as_slice())?;
     text.extend_from_slice(k.to_string(alloc)?.as_bytes())?;
-    Ok(Name::from_vec(text))
+    Name::from_vec(text)
 }
 
 /// The name of a cross behind these items.
@@ -63,7 +63,7 @@ fn name_of(alloc: Global, cross: &CrossDecl, items: &Items) -> Result<Name, Memo
     ensures { IfOk result (λ name. name ≡ name_meant cross.now.label (length items.now.items)) }
 {
     match &cross.label {
-        Some(label) => label.copy(alloc),
+        Some(label) => label.share(),
         None => numbered_name(alloc, items.items.as_slice().len()),
     }
 }
@@ -87,7 +87,7 @@ fn implicit_decl(alloc: Global, name: &Name, at: u32) -> Result<PointDecl, Memor
     Ok(PointDecl {
         label: None,
         expr: Expr::Name {
-            name: name.copy(alloc)?,
+            name: name.share()?,
             at,
         },
         guard: None,
@@ -110,7 +110,7 @@ fn add_implicit(
     ensures gives { Makes result items.new (named_point outside.old inside.now name.now (decl_meant name.now at) items.old) }
     ensures same { outside.new ≡ outside.old }
 {
-    let label = name.copy(alloc)?;
+    let label = name.share()?;
     let decl = implicit_decl(alloc, name, at)?;
     add_named(alloc, outside, inside, label, &decl, items)
 }
@@ -246,7 +246,7 @@ fn read_head(
     ensures same { scope.new ≡ scope.old }
 {
     let guard = guard_in(alloc, scope, &cross.guard)?;
-    let mut options = cross_defaults(alloc, &inside.options);
+    let mut options = cross_defaults(&inside.options);
     set_options(
         alloc,
         Level::Cross,

@@ -44,7 +44,7 @@ fn constants_of(alloc: Global, enumeration: &Enumeration) -> Result<Vec<Constant
     let mut constants = Vec::new(alloc);
     for constant in enumeration.constants.as_slice() {
         constants.push(Constant {
-            name: constant.0.copy(alloc)?,
+            name: constant.0.share()?,
             value: constant.1,
         })?;
     }

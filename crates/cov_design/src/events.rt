@@ -170,7 +170,7 @@ fn add_pair(
 {
     match meaning {
         Some(meaning) => {
-            names.push((name.copy(alloc)?, meaning))?;
+            names.push((name.share()?, meaning))?;
             Ok(())
         }
         None => Ok(()),

@@ -29,7 +29,7 @@ fn info(alloc: Global, name: &Name, options: &Options) -> Result<GroupInfo, Memo
     ensures { IfOk result (λ info. info ≡ group_info name.now options.now) }
 {
     Ok(GroupInfo {
-        name: name.copy(alloc)?,
+        name: name.share()?,
         weight: options.type_weight,
         goal: options.type_goal,
         merge: options.type_merge_instances == 1,
@@ -40,7 +40,7 @@ fn info(alloc: Global, name: &Name, options: &Options) -> Result<GroupInfo, Memo
 fn info_by_default(alloc: Global, name: &Name) -> Result<GroupInfo, Memory>
     ensures { IfOk result (λ info. info ≡ group_info name.now defaults) }
 {
-    info(alloc, name, &Options::new(alloc))
+    info(alloc, name, &Options::new())
 }
 
 /// The groups, of which one has these type options.

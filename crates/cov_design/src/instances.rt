@@ -198,7 +198,7 @@ fn keep_instance(
         counts,
     } = items;
     known.instances.push(InstInfo {
-        name: name.copy(alloc)?,
+        name: name.share()?,
         group,
         weight: options.weight,
         goal: options.goal,

@@ -17,7 +17,7 @@ fn add_meets(
     ensures { OnOk result (names.new ≡ with_meets point.now meets.now at names.old) }
 {
     if meets.is_some() {
-        names.declare(point.copy(alloc)?, at)?;
+        names.declare(point.share()?, at)?;
     }
     Ok(())
 }

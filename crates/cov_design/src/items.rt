@@ -109,7 +109,7 @@ fn add_place(
     ensures { OnOk result (places.new ≡ with_name places.old name.now place) }
 {
     let place = index_of(place)?;
-    places.declare(name.copy(alloc)?, place)?;
+    places.declare(name.share()?, place)?;
     Ok(())
 }
 

@@ -57,7 +57,7 @@ fn numbered_name(alloc: Global, k: usize) -> Result<Name, Memory>
 {
     let mut text = Vec::from_slice(alloc, b"point_".as_slice())?;
     text.extend_from_slice(k.to_string(alloc)?.as_bytes())?;
-    Ok(Name::from_vec(text))
+    Name::from_vec(text)
 }
 
 /// The name of a point that has so many items before it.
@@ -66,9 +66,9 @@ pub(crate) fn name_of(alloc: Global, point: &PointDecl, k: usize) -> Result<Name
     ensures { IfOk result (λ name. name ≡ point_name point.now k) }
 {
     match &point.label {
-        Some(label) => label.copy(alloc),
+        Some(label) => label.share(),
         None => match &point.expr {
-            Expr::Name { name, .. } => name.copy(alloc),
+            Expr::Name { name, .. } => name.share(),
             _ => numbered_name(alloc, k),
         },
     }
@@ -167,7 +167,7 @@ fn read_head(
 {
     let expr = bind_in(alloc, &outside.scope, &point.expr)?;
     let guard = guard_in(alloc, &outside.scope, &point.guard)?;
-    let mut options = point_defaults(alloc, &inside.options);
+    let mut options = point_defaults(&inside.options);
     let decls = point.options.as_slice();
     set_options(alloc, Level::Point, &mut outside.scope, decls, &mut options)?;
     check_width(&expr, point.at)?;

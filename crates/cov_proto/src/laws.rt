@@ -24,7 +24,8 @@ pub fn read_requests_are_spelled()
 
 /// Bytes spell one request at most.
 pub fn bytes_have_one_request()
-    ensures { (r q : Request) (body : List ℕ) → SpellsRequest r body → SpellsRequest q body → r ≡ q }
+    ensures { (r q : Request) (body : List ℕ) → SpellsRequest r body → SpellsRequest q body → r
+        ≡ q }
 {}
 
 /// A fault's place is at most the body's length, and what stands before it begins a request.

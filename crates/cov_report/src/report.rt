@@ -34,7 +34,8 @@ pub fn report_lines<R: Threads + Sync>(
     alloc: Global,
     store: &Store,
 ) -> Result<Vec<u8>, Memory>
-    ensures { IfOk result (λ text. text.items ≡ report_text (opening_of store.now) (entries_of store.now)) }
+    ensures { IfOk result (λ text. text.items ≡ report_text (opening_of store.now)
+        (entries_of store.now)) }
 {
     let mut text = Vec::new(alloc);
     let ids = append_all_tests(alloc, &mut text, store)?;

@@ -56,7 +56,7 @@ pub(crate) fn ids_of(alloc: Global, tests: &[HistoryNode]) -> Result<Vec<Name>, 
 {
     let mut ids = Vec::new(alloc);
     for test in tests {
-        ids.push(test.id.copy(alloc)?)?;
+        ids.push(test.id.share()?)?;
     }
     Ok(ids)
 }

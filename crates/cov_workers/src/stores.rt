@@ -35,7 +35,8 @@ pub fn serve_store<R: Threads + Wait + Sync>(
     ensures seen { seen seat.new ≡ seen seat.old }
     ensures split { OnOk result ((free seat.new + workers ≡ free seat.old)
         × (left seat.new + workers ≡ left seat.old)) }
-    ensures refused { OnErr result ((free seat.new ≡ free seat.old) × (left seat.new ≡ left seat.old)) }
+    ensures refused { OnErr result
+        ((free seat.new ≡ free seat.old) × (left seat.new ≡ left seat.old)) }
 {
     serve_with(rt, alloc, listener, shared, seat, workers, rounds)
 }

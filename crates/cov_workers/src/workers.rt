@@ -91,7 +91,8 @@ pub fn serve_with<C: Core + Send, R: Threads + Wait + Sync>(
     ensures seen { seen seat.new ≡ seen seat.old }
     ensures split { OnOk result ((free seat.new + workers ≡ free seat.old)
         × (left seat.new + workers ≡ left seat.old)) }
-    ensures refused { OnErr result ((free seat.new ≡ free seat.old) × (left seat.new ≡ left seat.old)) }
+    ensures refused { OnErr result
+        ((free seat.new ≡ free seat.old) × (left seat.new ≡ left seat.old)) }
 {
     if workers == 0 {
         return Ok(());

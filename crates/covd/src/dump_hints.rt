@@ -74,7 +74,7 @@ fn add_scopes(
             }
             shown += 1;
             hint.push_str(" ")?;
-            hint.push_str(String::from_utf8_lossy(alloc, var.scope.get().as_slice())?.as_str())?;
+            hint.push_str(String::from_utf8_lossy(alloc, var.scope.as_slice())?.as_str())?;
         }
     }
     if shown == 0 {
@@ -117,7 +117,7 @@ fn width_hint(
     for var in dump.vars.as_slice() {
         if width == 0
             && is_named(var, signal.name.as_slice())
-            && var.scope.get().as_slice() == given.scope.as_bytes()
+            && var.scope.as_slice() == given.scope.as_bytes()
         {
             width = var.width;
         }

@@ -21,9 +21,12 @@ pub fn ended(printed: &io::Result<()>) -> Status
 /// The words of a command. Words of which one is no text of UTF-8 are no command, as no words are.
 pub fn given(alloc: Global, words: io::Result<Vec<String>>) -> Result<Vec<String>, Status>
     ensures read { IfOk words (λ all. result ≡ Ok all) }
-    ensures memory { IfErr words (λ e. error_kind e ≡ ErrorKind.OutOfMemory → result ≡ Err Status.Memory) }
-    ensures none { IfErr words (λ e. error_kind e ≢ ErrorKind.OutOfMemory → IfOk result (λ all. all.items ≡ [])) }
-    ensures no_status { IfErr words (λ e. error_kind e ≢ ErrorKind.OutOfMemory → IfErr result (λ _. ⊥)) }
+    ensures memory { IfErr words
+        (λ e. error_kind e ≡ ErrorKind.OutOfMemory → result ≡ Err Status.Memory) }
+    ensures none { IfErr words
+        (λ e. error_kind e ≢ ErrorKind.OutOfMemory → IfOk result (λ all. all.items ≡ [])) }
+    ensures no_status { IfErr words
+        (λ e. error_kind e ≢ ErrorKind.OutOfMemory → IfErr result (λ _. ⊥)) }
 {
     match words {
         Ok(words) => Ok(words),

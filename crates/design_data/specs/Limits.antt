@@ -2,7 +2,8 @@
 use Rattle.std.specs.Prelude.{◌≡◌, ℤ, ℕ, ◌+◌, ◌<◌, ◌≤◌, List, [], ◌∷◌, ◌++◌, length, slice_get, IsSomeAnd, IsTrue}
 use Rattle.std.specs.List.{AllByRecursion, list_any}
 use Rattle.std.proofs.Props.{props}
-use Rattle.cov_ground.specs.Limits.{most_signals, most_instances, most_items, most_arguments, most_bins, most_design_bins, most_ranges, most_design_ranges, most_points, most_products, most_cells, most_bits}
+use Rattle.cov_ground.specs.Limits.{most_signals, most_instances, most_items, most_arguments, most_bins, most_design_bins, most_ranges, most_design_ranges, most_points, most_products, most_cells}
+pub use Rattle.bit_width.specs.Widths.{HasWidth}
 use Rattle.trans_seq.specs.declared.seq.Seq.{Seq}
 use Rattle.trans_seq.specs.Cells.{cells_of_seqs}
 use Rattle.cross_select.specs.Products.{product_of}
@@ -20,10 +21,6 @@ use Rattle.design_data.specs.declared.infos.ItemShape.TheVariants.{Point, Cross}
 use Rattle.design_data.specs.Bins.{is_point, sizes_of, total, numbered_items, bins_in, items_in, IsNumberedFrom, removing_seqs}
 use Rattle.design_data.specs.Crosses.{IsProduct, products, fits, has}
 use Rattle.design_data.specs.Left.{has_seq_left}
-
--- a type of so many bits
-abbrev pub HasWidth : ℕ → Type 0
-HasWidth width = (1 ≤ width) × (width ≤ most_bits)
 
 -- ---- sets
 
@@ -54,7 +51,7 @@ ranges_in items = total (λ item. total (λ bin. ranges_of bin.rule) item.bins) 
 -- the rule of a bin of a point, which has something left
 abbrev pub IsPointRule : ItemInfo → BinKind → BinRule → Type 0
 IsPointRule item kind (Values set) = IsSetLeft set
-IsPointRule item kind (Patterns patterns) = (1 ≤ length patterns) × AllByRecursion (λ pattern. HasWidth pattern.width) patterns
+IsPointRule item kind (Patterns patterns) = 1 ≤ length patterns
 IsPointRule item kind (Trans seqs) = (cells_of_seqs seqs ≤ most_cells) × AreSetsShort seqs × IsTrue (has_seq_left (removing_seqs item kind) seqs)
 IsPointRule item kind Default = Unit {0}
 IsPointRule item kind (DefaultValues set) = IsSetLeft set

@@ -4,16 +4,12 @@ use Rattle.std.specs.List.{AllByRecursion}
 use Rattle.cov_ground.specs.Limits.{most_bins, most_ranges}
 use Rattle.trans_seq.specs.declared.seq.Item.{Item}
 use Rattle.trans_seq.specs.declared.seq.Seq.{Seq}
-use Rattle.wildcard_bins.specs.declared.pattern.Pattern.{Pattern}
 use Rattle.design_data.specs.declared.infos.Signal.{Signal}
 use Rattle.design_data.specs.declared.infos.ItemInfo.{ItemInfo}
 use Rattle.design_data.specs.declared.infos.InstInfo.{InstInfo}
 use Rattle.design_data.specs.declared.infos.BinInfo.{BinInfo}
 use Rattle.design_data.specs.Bins.{total, bins_in, IsNumberedFrom}
 use Rattle.design_data.specs.Limits.{HasWidth, ranges_of, IsPointRule, IsCrossRule, IsItem, IsInstance}
-
-abbrev pub ArePatternsWide : List Pattern → Type 0
-ArePatternsWide patterns = AllByRecursion (λ (pattern : Pattern). HasWidth pattern.width) patterns
 
 abbrev pub AreSignalsWide : List Signal → Type 0
 AreSignalsWide signals = AllByRecursion (λ (signal : Signal). HasWidth signal.width) signals

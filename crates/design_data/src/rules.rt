@@ -7,7 +7,7 @@ ghost use Rattle.design_data.specs.Bins.{removing_seqs};
 ghost use Rattle.design_data.specs.Left.{has_seq_left as has_seq_left_of};
 ghost use Rattle.design_data.specs.Crosses.{IsProduct, is_size, fits as fits_of, has as has_of, products as products_of};
 ghost use Rattle.design_data.specs.Limits.{HasWidth, IsSetLeft, AreSetsShort, IsPointRule, IsCrossRule};
-ghost use Rattle.design_data.specs.Tested.{ArePatternsWide, AreItemsShort, ArePointRules, AreCrossRules};
+ghost use Rattle.design_data.specs.Tested.{AreItemsShort, ArePointRules, AreCrossRules};
 
 use crate::left::has_seq_left;
 use crate::{BinInfo, BinKind, BinRule, ItemInfo, has};
@@ -16,7 +16,6 @@ use cov_ground::limits::{MOST_BITS, MOST_CELLS, MOST_RANGES};
 use cov_tree::List;
 use cross_select::Select;
 use trans_seq::{Item, Seq, cells_of_seqs};
-use wildcard_bins::Pattern;
 
 /// Whether a type may have so many bits.
 pub(crate) fn is_width(width: u8) -> bool
@@ -37,26 +36,6 @@ fn is_set_left(set: &ValueSet) -> bool
         return false;
     }
     count as u64 <= MOST_RANGES
-}
-
-fn are_wide(patterns: &[Pattern]) -> bool
-    ensures { IsTrue result ↔ ArePatternsWide patterns.now }
-{
-    for pattern in patterns {
-        if !is_width(pattern.width) {
-            return false;
-        }
-    }
-    true
-}
-
-fn are_patterns(patterns: &[Pattern]) -> bool
-    ensures { IsTrue result ↔ ((1 ≤ length patterns.now) × ArePatternsWide patterns.now) }
-{
-    if patterns.len() < 1 {
-        return false;
-    }
-    are_wide(patterns)
 }
 
 fn is_short(set: &ValueSet) -> bool
@@ -112,7 +91,7 @@ fn is_point_rule(item: &ItemInfo, kind: BinKind, rule: &BinRule) -> bool
 {
     match rule {
         BinRule::Values(set) => is_set_left(set),
-        BinRule::Patterns(patterns) => are_patterns(patterns.as_slice()),
+        BinRule::Patterns(patterns) => patterns.as_slice().len() >= 1,
         BinRule::Trans(seqs) => are_seqs(item, kind, seqs.as_slice()),
         BinRule::Default => true,
         BinRule::DefaultValues(set) => is_set_left(set),

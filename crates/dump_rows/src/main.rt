@@ -23,7 +23,7 @@ fn show_name<R: Print>(rt: &R, alloc: Global, bytes: &[u8]) -> Option<()> {
 }
 
 fn show_var<R: Print>(rt: &R, alloc: Global, var: &DumpVar) -> Option<()> {
-    show_name(rt, alloc, var.scope.get().as_slice())?;
+    show_name(rt, alloc, var.scope.as_slice())?;
     show_name(rt, alloc, var.name.as_slice())?;
     show_code(rt, var)
 }

@@ -63,6 +63,6 @@ pub fn add_name(
 ) -> Result<(), Memory>
     ensures { OnOk result (names.new ≡ with_name names.old name.now what) }
 {
-    names.declare(name.copy(alloc)?, what)?;
+    names.declare(name.share()?, what)?;
     Ok(())
 }

@@ -26,7 +26,7 @@ fn add_name(alloc: Global, bin: &BinInfo, names: &mut List<Name>) -> Result<(), 
     ensures { OnOk result (names.new ≡ names.old ++ coverage_name bin.now) }
 {
     if bin.kind.is_coverage() {
-        names.push(bin.name.copy(alloc)?)?;
+        names.push(bin.name.share()?)?;
     }
     Ok(())
 }
@@ -100,7 +100,7 @@ fn product_name(alloc: Global, names: &[List<Name>], product: &[u32]) -> Result<
         axis += 1;
     }
     text.push(b'>')?;
-    Ok(Name::from_vec(text.into_vec()))
+    Name::from_vec(text.into_vec())
 }
 
 /// The automatic bin of a product.

@@ -66,7 +66,7 @@ fn add_own(alloc: Global, names: &mut NameMap<()>, member: &Member) -> Result<()
     ensures { OnOk result (names.new ≡ with_own (own_name_of member.now) names.old) }
 {
     if let Some(name) = own_name(member) {
-        names.declare(name.copy(alloc)?, ())?;
+        names.declare(name.share()?, ())?;
     }
     Ok(())
 }
@@ -144,7 +144,7 @@ fn signal_axis(
     if is_later || !is_signal {
         return Ok(None);
     }
-    Ok(Some(Axis::Implicit(name.copy(alloc)?)))
+    Ok(Some(Axis::Implicit(name.share()?)))
 }
 
 fn item_axis(items: &[ItemInfo], index: u32) -> Option<Axis>
@@ -195,7 +195,7 @@ fn known(axis: Option<Axis>, at: u32) -> Result<Axis, ElabFault>
 fn keep_axis(alloc: Global, name: &Name, axis: Axis, named: &mut Named) -> Result<(), Memory>
     ensures { OnOk result (named.new ≡ with_axis name.now axis named.old) }
 {
-    named.seen.declare(name.copy(alloc)?, ())?;
+    named.seen.declare(name.share()?, ())?;
     named.axes.push(axis)?;
     Ok(())
 }

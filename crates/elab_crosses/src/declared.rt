@@ -61,7 +61,7 @@ fn keep_bin(
     let place = walked.bins.as_slice().len() as u32;
     walked.bins.push(Made {
         bin: BinInfo {
-            name: decl.name.copy(alloc)?,
+            name: decl.name.share()?,
             kind: kind_of(&decl.word),
             rule: BinRule::Picked(select),
             guard,

@@ -2,6 +2,9 @@
 use Rattle.std.proofs.Common.{◌≡◌, ℕ, ◌+◌, ◌<◌, ◌≤◌, subst, arith, true, Option, Some, None, Ok}
 use Rattle.std.specs.Prelude.{ℤ, pos, negsuc, ◌-ℤ◌, int_le, int_lt, unsigned_abs, nat_le, ◌&&◌, slice_get}
 use Rattle.name_map.specs.Names.{meaning_of}
+use Rattle.cov_tree.specs.Widths.{bits_of}
+use Rattle.cov_tree.specs.declared.declarations.FixedWidth.{FixedWidth}
+use Rattle.cov_tree.specs.declared.declarations.FixedWidth.TheVariants.{Bits8, Bits16, Bits32, Bits64}
 use Rattle.cov_tree.specs.declared.declarations.TypeText.{TypeText}
 use Rattle.cov_tree.specs.declared.declarations.TypeText.TheVariants as texts
 use Rattle.const_eval.specs.Binding.{has_width}
@@ -42,6 +45,12 @@ span_width high low e =
 one_bit : HasBits 1
 one_bit = (omega arith, omega arith)
 
+fixed_width : (width : FixedWidth) → HasBits (bits_of width)
+fixed_width Bits8 = (omega arith, omega arith)
+fixed_width Bits16 = (omega arith, omega arith)
+fixed_width Bits32 = (omega arith, omega arith)
+fixed_width Bits64 = (omega arith, omega arith)
+
 enumerated_width : (place : ℕ) (e : Option Enumeration) (at : ℕ) (shape : Shape) → enumerated place e at ≡ Ok shape → HasWidth shape.typ
 enumerated_width place None at shape e = absurd cc
 enumerated_width place (Some x) at shape e =
@@ -67,7 +76,5 @@ shape_width outside (texts.Vector signed (Some ends) place) at shape e =
     let l = bind_ok (number_in outside.scope ends.1) _ shape h.2 in
     let n = bind_ok (needs (is_span h.0 l.0) kind.TooWide place) _ shape l.2 in
     subst (λ (s : Shape). HasWidth s.typ) (ok_is (span_shape signed h.0 l.0) shape n.2) (span_width h.0 l.0 (needs_ok (is_span h.0 l.0) kind.TooWide place n.0 n.1))
-shape_width outside (texts.Fixed width signed) at shape e =
-    let n = bind_ok (needs (has_width width) kind.TooWide at) _ shape e in
-    subst (λ (s : Shape). HasWidth s.typ) (ok_is (plain_shape width signed) shape n.2) (tested_width width (needs_ok (has_width width) kind.TooWide at n.0 n.1))
+shape_width outside (texts.Fixed width signed) at shape e = subst (λ (s : Shape). HasWidth s.typ) (ok_is (plain_shape (bits_of width) signed) shape e) (fixed_width width)
 shape_width outside (texts.Named name place) at shape e = named_width outside (meaning_of outside.names name) place shape e

@@ -2,6 +2,7 @@
 use Rattle.std.specs.Prelude.{ℕ, ◌+◌, ℤ, pos, ◌-ℤ◌, int_lt, int_le, unsigned_abs, ◌&&◌, Bool, Option, Some, None, Result, Ok, Err, slice_get}
 use Rattle.bin_spec.specs.Types.{lowest, highest}
 use Rattle.name_map.specs.Names.{meaning_of}
+use Rattle.cov_tree.specs.Widths.{bits_of}
 use Rattle.cov_tree.specs.declared.declarations.TypeText.{TypeText}
 use Rattle.cov_tree.specs.declared.declarations.TypeText.TheVariants as texts
 use Rattle.const_eval.specs.declared.typs.Typ.{Typ}
@@ -49,7 +50,5 @@ shape_of outside (texts.Vector signed (Some ends) place) at = do
   low ← number_in outside.scope ends.1
   _ ← needs (is_span high low) kind.TooWide place
   Ok (span_shape signed high low)
-shape_of outside (texts.Fixed width signed) at = do
-  _ ← needs (has_width width) kind.TooWide at
-  Ok (plain_shape width signed)
+shape_of outside (texts.Fixed width signed) at = Ok (plain_shape (bits_of width) signed)
 shape_of outside (texts.Named name place) at = named_shape outside (meaning_of outside.names name) place

@@ -105,7 +105,7 @@ fn declare_constant(
 {
     add_name(alloc, &mut outside.names, name, What::Constant)?;
     outside.scope.declare(
-        name.copy(alloc)?,
+        name.share()?,
         Meaning::Const {
             value,
             typ,
@@ -121,7 +121,7 @@ fn list_constant(alloc: Global, name: &Name, value: Int, all: &mut Constants) ->
     ensures values { all.new.values ≡ all.old.values }
     ensures next { OnOk result (all.new.next ≡ value +ℤ pos 1) }
 {
-    all.constants.push((name.copy(alloc)?, value))?;
+    all.constants.push((name.share()?, value))?;
     all.next = value.get() + 1;
     Ok(())
 }

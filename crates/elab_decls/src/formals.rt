@@ -104,7 +104,7 @@ fn keep_formal(
         enumeration: shape.enumeration,
     };
     add_name(alloc, &mut all.names, &formal.name, what)?;
-    all.inner.declare(formal.name.copy(alloc)?, meaning)?;
+    all.inner.declare(formal.name.share()?, meaning)?;
     Ok(())
 }
 

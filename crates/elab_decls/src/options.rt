@@ -50,7 +50,7 @@ fn value_of(
             let number = number(alloc, scope, on_type, expr)?;
             Ok(OptValue::Number(number))
         }
-        OptText::Text(text) => Ok(OptValue::Text(text.copy(alloc)?)),
+        OptText::Text(text) => Ok(OptValue::Text(text.share()?)),
     }
 }
 
@@ -141,7 +141,7 @@ pub fn read_options(
     ensures gives { Gives result (group_options scope.old members.now) }
     ensures scope { scope.new ≡ scope.old }
 {
-    let mut options = Options::new(alloc);
+    let mut options = Options::new();
     for member in members {
         set_member(alloc, scope, member, &mut options)?;
     }
@@ -149,10 +149,10 @@ pub fn read_options(
 }
 
 /// The options of a point where it sets none: those of its group of which it has its own, and the defaults.
-pub fn point_defaults(alloc: Global, group: &Options) -> Options
+pub fn point_defaults(group: &Options) -> Options
     ensures { result ≡ defaults_of_point group.now }
 {
-    let mut options = Options::new(alloc);
+    let mut options = Options::new();
     options.at_least = group.at_least;
     options.auto_bin_max = group.auto_bin_max;
     options.detect_overlap = group.detect_overlap;
@@ -160,10 +160,10 @@ pub fn point_defaults(alloc: Global, group: &Options) -> Options
 }
 
 /// The same of a cross.
-pub fn cross_defaults(alloc: Global, group: &Options) -> Options
+pub fn cross_defaults(group: &Options) -> Options
     ensures { result ≡ defaults_of_cross group.now }
 {
-    let mut options = Options::new(alloc);
+    let mut options = Options::new();
     options.at_least = group.at_least;
     options.cross_num_print_missing = group.cross_num_print_missing;
     options

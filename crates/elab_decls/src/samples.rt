@@ -39,7 +39,7 @@ fn keep_argument(alloc: Global, name: &Name, shape: Shape, all: &mut Formals) ->
     };
     add_name(alloc, &mut all.names, name, what)?;
     all.inner.declare(
-        name.copy(alloc)?,
+        name.share()?,
         Meaning::Signal {
             index,
             typ: shape.typ,
@@ -47,7 +47,7 @@ fn keep_argument(alloc: Global, name: &Name, shape: Shape, all: &mut Formals) ->
         },
     )?;
     all.args.push(Signal {
-        name: name.copy(alloc)?,
+        name: name.share()?,
         width: shape.typ.width,
         signed: shape.typ.signed,
     })?;

@@ -112,12 +112,7 @@ fn shape_as(alloc: Global, outside: &Outside, typ: &TypeText, at: u32) -> Result
             }
             Ok(span(*signed, high, low))
         }
-        TypeText::Fixed { width, signed } => {
-            if !has_width(*width) {
-                return Err(ElabKind::TooWide.at(at));
-            }
-            Ok(plain(*width, *signed))
-        }
+        TypeText::Fixed { width, signed } => Ok(plain(width.bits(), *signed)),
         TypeText::Named { name, at: place } => {
             shape_named(outside, what_is(outside, name), *place)
         }

@@ -42,7 +42,7 @@ fn keep_signal(
     };
     add_name(alloc, &mut outside.names, name, what)?;
     outside.scope.declare(
-        name.copy(alloc)?,
+        name.share()?,
         Meaning::Signal {
             index,
             typ: shape.typ,
@@ -50,7 +50,7 @@ fn keep_signal(
         },
     )?;
     outside.signals.push(Signal {
-        name: name.copy(alloc)?,
+        name: name.share()?,
         width: shape.typ.width,
         signed: shape.typ.signed,
     })?;

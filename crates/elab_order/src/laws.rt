@@ -8,5 +8,6 @@ ghost use Rattle.elab_order.specs.Order.{numbered};
 /// Numbered bins stand in the order of the nodes without a gap, from 0 on.
 #[tactic(auto, using(crate::proofs::Numbering::numbered_is_numbered))]
 pub fn numbers_follow()
-    ensures { (groups : List GroupInfo) (instances : List InstInfo) → IsNumberedFrom 0 (numbered_items groups (numbered instances)) }
+    ensures { (groups : List GroupInfo) (instances : List InstInfo) → IsNumberedFrom 0
+        (numbered_items groups (numbered instances)) }
 {}

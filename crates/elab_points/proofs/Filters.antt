@@ -1,7 +1,6 @@
 -- What filters keep of numbers and of sets.
 use Rattle.std.proofs.Common.{◌≡◌, ◌∙◌, ℕ, ◌<◌, ◌≤◌, ℤ, List, [], ◌∷◌, length, map, filter, refl, ap, sym, arith, Bool, true, false, Some, Result, Ok, Err}
 use Rattle.std.specs.Prelude.{nat_le, IfOk, ◌&&◌}
-use Rattle.std.specs.List.{AllByRecursion}
 use Rattle.cov_ground.specs.Limits.{most_values}
 use Rattle.cov_base.specs.Sets.{written, set_of}
 use Rattle.cov_base.proofs.Members.{is_in-filter}
@@ -9,9 +8,6 @@ use Rattle.cov_base.proofs.Runs.{set_of_normal, set_of_covers, set_of_is, set_of
 use Rattle.const_eval.specs.Terms.{Term}
 use Rattle.elab_base.specs.declared.fault.ElabKind.TheVariants as kind
 use Rattle.elab_base.specs.Gives.{needs}
-use Rattle.elab_values.specs.declared.elements.Listed.{Listed}
-use Rattle.elab_values.specs.Listed.{IsListed}
-use Rattle.elab_points.specs.Declarations.{whole_elements}
 use Rattle.elab_points.specs.Filter.{passes, kept_numbers}
 use Rattle.elab_points.specs.Made.{set_filtered}
 
@@ -45,10 +41,3 @@ each_passing term (part ∷ parts) = λ i. set_passing (passes term) part i ∷ 
 
 pub parts_passing : (term : Term) (parts : List (List ℤ)) (sets left : List (List (ℤ × ℤ))) → sets ≡ map set_of parts → left ≡ map (set_filtered term) sets → left ≡ map set_of (map (filter (passes term)) parts)
 parts_passing term parts sets left are is = is ∙ (ap (map (set_filtered term)) are ∙ each_passing term parts)
-
-known_elements : (set : List (ℤ × ℤ)) → AllByRecursion IsListed (whole_elements set)
-known_elements [] = tt
-known_elements (range ∷ set) = (tt, known_elements set)
-
-pub whole_known : (set : List (ℤ × ℤ)) (elements : List Listed) → elements ≡ whole_elements set → AllByRecursion IsListed elements
-whole_known set elements is = rw is (known_elements set)

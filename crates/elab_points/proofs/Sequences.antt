@@ -38,11 +38,9 @@ use Rattle.elab_values.specs.declared.domain.Domain.{Domain}
 use Rattle.elab_values.specs.declared.elements.Listed.{Listed}
 use Rattle.elab_values.specs.declared.made.Made.{Made}
 use Rattle.elab_values.specs.declared.made.Settings.{Settings}
-use Rattle.design_data.specs.Limits.{HasWidth}
-use Rattle.elab_values.specs.Listed.{IsListed}
 use Rattle.elab_points.specs.declared.made.Manner.{Manner}
 use Rattle.elab_points.specs.Wildcards.{is_kept, patterns_in, has_number, pattern_rule, numbers_in}
-use Rattle.elab_points.proofs.Literals.{widths_in, some_first, elements_listed}
+use Rattle.elab_points.proofs.Literals.{some_first}
 use Rattle.elab_transitions.specs.declared.plans.Before.{Before}
 use Rattle.elab_transitions.specs.declared.bins.TransBins.{TransBins}
 use Rattle.elab_transitions.specs.Bins.{is_array, list_bin, made_bin, default_bin_of, trans_bins_of, removed_by}
@@ -71,7 +69,7 @@ use Rattle.elab_points.specs.Transitions.{before, seqs_kept, trans_listed, trans
 -- and one of transitions has 120 cells at most, and a sequence left wherever the test of its declaration leaves it
 abbrev pub IsKnown : (array : Bool) → BinKind → BinRule → Type 0
 IsKnown array kind (Values set) = Unit {0}
-IsKnown array kind (Patterns patterns) = (1 ≤ length patterns) × AllByRecursion (λ pattern. HasWidth pattern.width) patterns
+IsKnown array kind (Patterns patterns) = 1 ≤ length patterns
 IsKnown array kind (Trans seqs) = (cells_of_seqs seqs ≤ most_cells)
     × ((ignored illegal : List Seq) → list_any (is_seq_left array (removing_of kind ignored illegal)) seqs ≡ true → has_seq_left (removing_of kind ignored illegal) seqs ≡ true)
 IsKnown array kind Default = Unit {0}
@@ -190,19 +188,19 @@ one_next bs head rule w t known e h =
     let n = bind_ok (needs (nat_le (w.count + 1) most_bins) kind.TooManyBins head.at) _ t e in
     subst (IsNext bs w) (ok_is _ t n.2) (made_next bs head.name (named_bin head head.name rule) w known h)
 
-pattern_known : (array : Bool) (bin_kind : BinKind) (domain : Domain) (elements : List Listed) → AllByRecursion IsListed elements → IsKnown array bin_kind (pattern_rule domain (patterns_in elements))
-pattern_known array bin_kind domain elements listed = by (list_any (has_number domain) (patterns_in elements)) refl
+pattern_known : (array : Bool) (bin_kind : BinKind) (domain : Domain) (elements : List Listed) → IsKnown array bin_kind (pattern_rule domain (patterns_in elements))
+pattern_known array bin_kind domain elements = by (list_any (has_number domain) (patterns_in elements)) refl
   where
     by : (b : Bool) → list_any (has_number domain) (patterns_in elements) ≡ b → IsKnown array bin_kind (if b then Patterns (patterns_in elements) else Values [])
-    by true e = (some_first (has_number domain) (patterns_in elements) e, widths_in elements (patterns_in elements) listed refl)
+    by true e = some_first (has_number domain) (patterns_in elements) e
     by false e = tt
 
-listed_next : (bs : List BinsDecl) (domain : Domain) (manner : Manner) (keep : Option Term) (wanted : Wanted) (elements : List Listed) (head : Head) (w t : Walked) → AllByRecursion IsListed elements → listed_binned domain manner keep wanted elements head w ≡ Ok t → AreKnown bs w → IsNext bs w t
+listed_next : (bs : List BinsDecl) (domain : Domain) (manner : Manner) (keep : Option Term) (wanted : Wanted) (elements : List Listed) (head : Head) (w t : Walked) → listed_binned domain manner keep wanted elements head w ≡ Ok t → AreKnown bs w → IsNext bs w t
 unfolding listed_binned
-listed_next bs domain manner keep wanted elements head w t listed e h = by (is_kept manner.patterns head.kind keep wanted elements) e
+listed_next bs domain manner keep wanted elements head w t e h = by (is_kept manner.patterns head.kind keep wanted elements) e
   where
     by : (b : Bool) → (if b then rule_added head (pattern_rule domain (patterns_in elements)) w else values_binned domain manner.distribute keep wanted elements head w) ≡ Ok t → IsNext bs w t
-    by true e = one_next bs head (pattern_rule domain (patterns_in elements)) w t (pattern_known (in_array bs head.declared) head.kind domain elements listed) e h
+    by true e = one_next bs head (pattern_rule domain (patterns_in elements)) w t (pattern_known (in_array bs head.declared) head.kind domain elements) e h
     by false e = values_next bs domain manner.distribute keep wanted elements head w t e h
 
 declared_values : (bs : List BinsDecl) (levels : Levels) (domain : Domain) (manner : Manner) (b : BinsDecl) (w t : Walked) → values_declared levels domain manner b w ≡ Ok t → AreKnown bs w → IsNext bs w t
@@ -212,7 +210,7 @@ declared_values bs levels domain manner b w t e h =
     let k = bind_ok (filter_in levels domain.typ (keep_of b.right)) _ t s.2 in
     let a = bind_ok (wanted_in levels b.size b.at) _ t k.2 in
     let g = bind_ok (guard_in levels b.guard) _ t a.2 in
-    listed_next bs domain manner k.0 a.0 s.0 (head_of b (kind_of b.word) g.0 w) w t (elements_listed levels domain b.wildcard b.right s.0 s.1) g.2 h
+    listed_next bs domain manner k.0 a.0 s.0 (head_of b (kind_of b.word) g.0 w) w t g.2 h
 
 rest_next : (bs : List BinsDecl) (head : Head) (w : Walked) → AreKnown bs w → IsNext bs w (rest_added head w)
 unfolding rest_added
@@ -401,7 +399,7 @@ by_known bs ignored illegal bins h = left_known bs (set_of (written (ignored ++ 
 -- a rule of a point, of which a sequence is left where it is one of transitions
 abbrev pub HasSeq : (removing : List Seq) → BinRule → Type 0
 HasSeq removing (Values set) = Unit {0}
-HasSeq removing (Patterns patterns) = (1 ≤ length patterns) × AllByRecursion (λ pattern. HasWidth pattern.width) patterns
+HasSeq removing (Patterns patterns) = 1 ≤ length patterns
 HasSeq removing (Trans seqs) = (cells_of_seqs seqs ≤ most_cells) × (has_seq_left removing seqs ≡ true)
 HasSeq removing Default = Unit {0}
 HasSeq removing (DefaultValues set) = Unit {0}

@@ -9,6 +9,7 @@ ghost use Rattle.elab_points.specs.Automatic.{CanHaveBins, auto_head as head_mea
 use crate::declared::{Walked, keep_bins};
 use crate::made::{Head, bin_of, check_room, indexed_name};
 use auto_bins::{Typ2, auto_ranges};
+use bit_width::Width;
 use cov_base::{Int, Memory, ValueSet};
 use cov_tree::{BinsDecl, List, Name, Word};
 use design_data::{BinKind, BinRule};
@@ -115,7 +116,7 @@ fn automatic_bins(
         Some(constants) => constant_bins(alloc, &head, constants.as_slice()),
         None => {
             let typ = Typ2 {
-                width: domain.typ.width,
+                width: Width::of(domain.typ.width),
                 signed: domain.typ.signed,
             };
             let ranges = auto_ranges(alloc, typ, settings.auto_bin_max)?;

@@ -1,12 +1,10 @@
 //! The declarations of bins of a point, in order.
 ghost use Rattle.std.specs.Prelude.{◌≡◌, ◌++◌, ◌∷◌, [], ◌+◌, ◌≤◌, map, true, OnOk, IfOk};
-ghost use Rattle.std.specs.List.{AllByRecursion};
 ghost use Rattle.cov_ground.specs.Limits.{most_bins};
 ghost use Rattle.name_map.specs.Names.{with_name};
 ghost use Rattle.cov_base.specs.Sets.{written, set_of};
 ghost use Rattle.elab_base.specs.declared.names.What.TheVariants as what;
 ghost use Rattle.elab_base.specs.Gives.{Gives, Makes};
-ghost use Rattle.elab_values.specs.Listed.{IsListed};
 ghost use Rattle.design_data.specs.declared.infos.BinRule.TheVariants.{Default};
 ghost use Rattle.elab_points.specs.declared.declared.Entry.TheVariants.{Bin};
 ghost use Rattle.elab_points.specs.Made.{IsWanted, IsPlan, plan_bins};
@@ -162,7 +160,7 @@ fn whole(alloc: Global, set: &[(Int, Int)]) -> Result<List<Listed>, Memory>
 }
 
 /// What a declaration lists.
-#[tactic(auto, using(crate::proofs::Filters::whole_known), unfolding(crate::specs::Declarations::elements_in))]
+#[tactic(auto, unfolding(crate::specs::Declarations::elements_in))]
 fn elements(
     alloc: Global,
     scope: &Scope,
@@ -170,8 +168,7 @@ fn elements(
     wildcard: bool,
     right: &Right,
 ) -> Result<List<Listed>, ElabFault>
-    ensures gives { Gives result (elements_in scope.now domain.now wildcard right.now) }
-    ensures widths { IfOk result (λ elements. AllByRecursion IsListed elements) }
+    ensures { Gives result (elements_in scope.now domain.now wildcard right.now) }
 {
     match right {
         Right::Ranges { elems, .. } => elements_of(
@@ -226,7 +223,7 @@ fn head(
 {
     let place = place_of(walked.names.as_slice().len())?;
     Ok(Head {
-        name: decl.name.copy(alloc)?,
+        name: decl.name.share()?,
         kind,
         guard,
         at: decl.at,
@@ -239,7 +236,7 @@ pub(crate) fn keep_name(alloc: Global, name: &Name, walked: &mut Walked) -> Resu
     ensures { OnOk result (walked.new ≡ record walked.old { known = with_name walked.old.known name.now what.Bin; names = walked.old.names ++ name.now ∷ [] }) }
 {
     add_name(alloc, &mut walked.known, name, What::Bin)?;
-    walked.names.push(name.copy(alloc)?)?;
+    walked.names.push(name.share()?)?;
     Ok(())
 }
 
@@ -294,8 +291,7 @@ fn bin_values(
     head: &Head,
     walked: &mut Walked,
 ) -> Result<(), ElabFault>
-    requires widths { AllByRecursion IsListed elements.now }
-    requires wanted { IsWanted wanted }
+    requires { IsWanted wanted }
     ensures { Makes result walked.new (values_binned domain.now distribute keep.now wanted elements.now head.now walked.old) }
 {
     let numbers = numbers_in(alloc, domain, keep, elements, head.at)?;
@@ -315,7 +311,6 @@ fn bin_patterns(
     head: &Head,
     walked: &mut Walked,
 ) -> Result<(), ElabFault>
-    requires { AllByRecursion IsListed elements.now }
     ensures { Makes result walked.new (rule_added head.now (rule_meant domain.now (patterns_meant elements.now)) walked.old) }
 {
     check_room(walked.count, 1, head.at)?;
@@ -336,8 +331,7 @@ fn bin_listed(
     head: &Head,
     walked: &mut Walked,
 ) -> Result<(), ElabFault>
-    requires widths { AllByRecursion IsListed elements.now }
-    requires wanted { IsWanted wanted }
+    requires { IsWanted wanted }
     ensures { Makes result walked.new (listed_binned domain.now manner keep.now wanted elements.now head.now walked.old) }
 {
     if is_kept(manner.patterns, head.kind, keep, wanted, elements) {
@@ -365,7 +359,6 @@ fn bin_elements(
     elements: &[Listed],
     walked: &mut Walked,
 ) -> Result<(), ElabFault>
-    requires { AllByRecursion IsListed elements.now }
     ensures { Makes result walked.new (elements_binned scope.now domain.now manner decl.now elements.now walked.old) }
 {
     let keep = filter_of(alloc, scope, domain.typ, &decl.right)?;
@@ -408,7 +401,7 @@ fn add_one(alloc: Global, head: &Head, rule: BinRule, walked: &mut Walked) -> Re
     requires { walked.old.count + 1 ≤ most_bins }
     ensures { OnOk result (walked.new ≡ one_added head.now rule walked.old) }
 {
-    let name = head.name.copy(alloc)?;
+    let name = head.name.share()?;
     let made = bin_of(alloc, head, name, rule)?;
     add_made(alloc, &head.name, made, walked)
 }

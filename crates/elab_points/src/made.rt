@@ -176,7 +176,7 @@ pub(crate) fn indexed_name(alloc: Global, name: &Name, index: &[u8]) -> Result<N
     text.push(b'[')?;
     text.extend_from_slice(index)?;
     text.push(b']')?;
-    Ok(Name::from_vec(text))
+    Name::from_vec(text)
 }
 
 /// A bin of a declaration, or an automatic one.
@@ -317,7 +317,7 @@ fn whole_bin(alloc: Global, head: &Head, elems: &Elems) -> Result<List<Made>, Me
     ensures { IfOk result (λ bins. bins ≡ value_bin head.now head.now.name (set_of (written elems.now)) ∷ []) }
 {
     let set = ValueSet::from_ranges(alloc, elems.as_slice())?;
-    let name = head.name.copy(alloc)?;
+    let name = head.name.share()?;
     let mut bins = List::new(alloc);
     bins.push(bin_of(alloc, head, name, BinRule::Values(set))?)?;
     Ok(bins)

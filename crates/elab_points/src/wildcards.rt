@@ -1,11 +1,9 @@
 //! Literals with digits x, z or `?` in bins of values.
 ghost use Rattle.std.specs.Prelude.{◌≡◌, ◌^◌, ◌-◌, min, filter, length, IfOk};
-ghost use Rattle.std.specs.List.{AllByRecursion, list_all, list_any};
+ghost use Rattle.std.specs.List.{list_all, list_any};
 ghost use Rattle.cov_base.specs.Sets.{is_in, span, written};
-ghost use Rattle.design_data.specs.Limits.{HasWidth};
 ghost use Rattle.design_data.specs.Bins.{is_coverage as is_coverage_kind};
 ghost use Rattle.elab_base.specs.Gives.{Gives, GivesAs};
-ghost use Rattle.elab_values.specs.Listed.{IsListed};
 ghost use Rattle.elab_points.specs.Wildcards.{is_open as is_open_size, wants_sets as wants_all_sets, keeps_patterns as keeps_all_patterns, manner_of as manner_meant, is_one as is_one_bin, is_literal as is_literal_element, is_kept as is_bin_kept, patterns_in as patterns_meant, has_number as has_some_number, pattern_rule as rule_meant, element_count as count_meant, values_count as count_all, few_values, numbers_in as numbers_meant};
 
 use crate::auto::is_coverage;
@@ -153,14 +151,12 @@ fn patterns_in(alloc: Global, elements: &[Listed]) -> Result<List<Pattern>, Memo
 /// Whether some number of the point agrees with the pattern.
 #[tactic(auto, using(crate::proofs::Literals::some_agree))]
 fn has_number(domain: &Domain, pattern: &Pattern) -> bool
-    requires { HasWidth pattern.now.width }
     ensures { result ≡ has_some_number domain.now pattern.now }
 {
     count_in(pattern, &domain.numbers) > 0
 }
 
 fn have_number(domain: &Domain, patterns: &[Pattern]) -> bool
-    requires { AllByRecursion (λ pattern. HasWidth pattern.width) patterns.now }
     ensures { result ≡ list_any (has_some_number domain.now) patterns.now }
 {
     for pattern in patterns {
@@ -172,13 +168,11 @@ fn have_number(domain: &Domain, patterns: &[Pattern]) -> bool
 }
 
 /// The rule of a bin that keeps the patterns of its elements.
-#[tactic(auto, using(crate::proofs::Literals::widths_in))]
 pub(crate) fn pattern_rule(
     alloc: Global,
     domain: &Domain,
     elements: &[Listed],
 ) -> Result<BinRule, Memory>
-    requires { AllByRecursion IsListed elements.now }
     ensures { IfOk result (λ rule. rule ≡ rule_meant domain.now (patterns_meant elements.now)) }
 {
     let patterns = patterns_in(alloc, elements)?;
@@ -203,7 +197,6 @@ fn range_count(alloc: Global, domain: &Domain, low: Int, high: Int) -> Result<u1
 
 /// How many numbers of the point an element lists.
 fn element_count(alloc: Global, domain: &Domain, listed: &Listed) -> Result<u128, Memory>
-    requires { IsListed listed.now }
     ensures { IfOk result (λ count. count ≡ count_meant domain.now listed.now) }
 {
     match listed {
@@ -221,7 +214,6 @@ fn cut(count: u128) -> u64
 
 /// How many numbers of the point elements list, `u64::MAX` at most.
 fn values_count(alloc: Global, domain: &Domain, elements: &[Listed]) -> Result<u64, Memory>
-    requires { AllByRecursion IsListed elements.now }
     ensures { IfOk result (λ count. count ≡ min (count_all domain.now elements.now) (2 ^ 64 - 1)) }
 {
     let mut sum = 0u64;
@@ -238,7 +230,6 @@ fn check_values(
     elements: &[Listed],
     at: u32,
 ) -> Result<(), ElabFault>
-    requires { AllByRecursion IsListed elements.now }
     ensures { Gives result (few_values domain.now elements.now at) }
 {
     if values_count(alloc, domain, elements)? > MOST_VALUES {
@@ -256,7 +247,6 @@ pub(crate) fn numbers_in(
     elements: &[Listed],
     at: u32,
 ) -> Result<Elems, ElabFault>
-    requires { AllByRecursion IsListed elements.now }
     ensures { GivesAs written result (numbers_meant domain.now keep.now elements.now at) }
 {
     match numbers_listed(alloc, domain, elements, at) {

@@ -24,10 +24,9 @@ use Rattle.elab_base.specs.Steps.{number_in}
 use Rattle.elab_base.proofs.Keeps.{bind_ok, ok_is, each_keeps, needs_ok, and_first, all_push, all_as}
 use Rattle.elab_values.specs.declared.domain.Domain.{Domain}
 use Rattle.elab_values.specs.Listed.{listed_in, numbers_listed}
-use Rattle.elab_values.proofs.Widths.{all_listed}
 use Rattle.elab_transitions.specs.declared.steps.ListedStep.{ListedStep}
 use Rattle.elab_transitions.specs.Bins.{any_goes_on}
-use Rattle.elab_transitions.specs.Steps.{capped, is_repetition, ends_of, repeat_of, step_of, with_step, steps_of, with_sequence, sequences_of, item_of, with_item, items_of, with_seq, seqs_of, IsStep, AreSteps}
+use Rattle.elab_transitions.specs.Steps.{capped, is_repetition, ends_of, repeat_of, step_of, with_step, steps_of, with_sequence, sequences_of, item_of, with_item, items_of, with_seq, seqs_of}
 
 -- ---- repetitions
 
@@ -98,16 +97,6 @@ one_often levels domain wildcard step listed e =
     let n = bind_ok (listed_in levels domain wildcard step.elems) _ listed e in
     let r = bind_ok (repeat_of levels step.times step.at) _ listed n.2 in
     subst (λ (x : ListedStep). IsOften x.repeat) (ok_is _ listed r.2) (repeat_often levels step.times step.at r.0 r.1)
-
-one_wide : (levels : Levels) (domain : Domain) (wildcard : Bool) (step : Step) (listed : ListedStep) → step_of levels domain wildcard step ≡ Ok listed → IsStep listed
-unfolding step_of
-one_wide levels domain wildcard step listed e =
-    let n = bind_ok (listed_in levels domain wildcard step.elems) _ listed e in
-    let r = bind_ok (repeat_of levels step.times step.at) _ listed n.2 in
-    subst IsStep (ok_is _ listed r.2) (all_listed levels domain wildcard step.elems n.0 n.1)
-
-pub sequences_widths : (levels : Levels) (domain : Domain) (wildcard : Bool) (written : List (List Step)) (sequences : List (List ListedStep)) → sequences_of levels domain wildcard written ≡ Ok sequences → AllByRecursion AreSteps sequences
-sequences_widths levels domain wildcard = sequences_have levels domain wildcard IsStep (one_wide levels domain wildcard)
 
 pub sequences_often : (levels : Levels) (domain : Domain) (wildcard : Bool) (written : List (List Step)) (sequences : List (List ListedStep)) → sequences_of levels domain wildcard written ≡ Ok sequences
     → AllByRecursion (AllByRecursion (λ (step : ListedStep). IsOften step.repeat)) sequences

@@ -1,6 +1,5 @@
 -- The steps and sequences of a declaration of transition bins (IEEE 1800-2017, 19.5.2).
 use Rattle.std.specs.Prelude.{ℕ, ◌-◌, ◌^◌, min, ℤ, pos, int_le, unsigned_abs, List, [], ◌∷◌, ◌++◌, Bool, ◌&&◌, Result, Ok, Err}
-use Rattle.std.specs.List.{AllByRecursion}
 use Rattle.cov_base.specs.Sets.{set_of}
 use Rattle.cov_tree.specs.declared.expr.Expr.{Expr}
 use Rattle.cov_tree.specs.declared.bins.Step.{Step}
@@ -15,7 +14,7 @@ use Rattle.elab_base.specs.declared.fault.ElabKind.TheVariants as kind
 use Rattle.elab_base.specs.Gives.{Refusal, ◌>>=◌, needs, each}
 use Rattle.elab_base.specs.Steps.{number_in}
 use Rattle.elab_values.specs.declared.domain.Domain.{Domain}
-use Rattle.elab_values.specs.Listed.{IsListed, listed_in, numbers_listed}
+use Rattle.elab_values.specs.Listed.{listed_in, numbers_listed}
 use Rattle.elab_transitions.specs.declared.steps.ListedStep.{ListedStep}
 
 -- A count, or 2^32 - 1 where it is larger. That many cells are far too many: whichever number stands for such a count,
@@ -94,11 +93,3 @@ with_seq domain at steps seqs = do
 -- the sequences of a declaration at a place: the sets of its steps' literals with digits x, z or ? are within their limit
 unfoldable pub seqs_of : Domain → List (List ListedStep) → ℕ → Result (List Seq) Refusal
 seqs_of domain sequences at = each (with_seq domain at) sequences []
-
--- ---- what is known of steps
-
-abbrev pub IsStep : ListedStep → Type 0
-IsStep step = AllByRecursion IsListed step.elements
-
-abbrev pub AreSteps : List ListedStep → Type 0
-AreSteps steps = AllByRecursion IsStep steps

@@ -1,8 +1,6 @@
 //! The bins of one declaration.
 ghost use Rattle.std.specs.Prelude.{◌≡◌, IfOk, map};
-ghost use Rattle.std.specs.List.{AllByRecursion};
 ghost use Rattle.elab_base.specs.Gives.{Gives};
-ghost use Rattle.elab_transitions.specs.Steps.{AreSteps};
 ghost use Rattle.elab_transitions.specs.Bins.{kind_of as kind_meant, default_kind as default_meant, made_bin, list_bin as bin_of_list, bins_made as bins_of_plan, removed_by, trans_made, seqs_binned, steps_binned, trans_bins_of, default_bin_of};
 
 use crate::lists::{list_name, seq_of_list};
@@ -116,7 +114,7 @@ fn scalar_bins(
 ) -> Result<List<Made>, Memory>
     ensures { IfOk result (λ bins. bins ≡ bins_of_plan decl.now declared Plan.One guard seqs) }
 {
-    let name = decl.name.copy(alloc)?;
+    let name = decl.name.share()?;
     let rule = BinRule::Trans(seqs);
     let mut bins = List::new(alloc);
     bins.push(bin_of(name, kind_of(decl.word), rule, guard, decl.at, declared))?;
@@ -205,7 +203,6 @@ fn bin_steps(
     before: Before,
     sequences: &[List<ListedStep>],
 ) -> Result<TransBins, ElabFault>
-    requires { AllByRecursion AreSteps sequences.now }
     ensures { Gives result (steps_binned scope.now domain.now decl.now before sequences.now) }
 {
     let guard = guard_in(alloc, scope, &decl.guard)?;
@@ -248,7 +245,7 @@ pub fn default_bin(
 {
     let guard = guard_in(alloc, scope, &decl.guard)?;
     check_room(before.bins, 1, decl.at)?;
-    let name = decl.name.copy(alloc)?;
+    let name = decl.name.share()?;
     let kind = default_kind(decl.word);
     let rule = BinRule::DefaultSequence;
     Ok(bin_of(name, kind, rule, guard, decl.at, before.declared))

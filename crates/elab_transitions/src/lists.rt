@@ -44,7 +44,7 @@ pub(crate) fn list_name(alloc: Global, name: &Name, list: &[Int]) -> Result<Name
     text.push(b'[')?;
     text.extend_from_slice(values.as_slice())?;
     text.push(b']')?;
-    Ok(Name::from_vec(text))
+    Name::from_vec(text)
 }
 
 /// Whether the value is the only one of the set.

@@ -1,8 +1,7 @@
 //! Sequences of a declaration.
 ghost use Rattle.std.specs.Prelude.{◌≡◌};
-ghost use Rattle.std.specs.List.{AllByRecursion};
 ghost use Rattle.elab_base.specs.Gives.{Gives, Makes};
-ghost use Rattle.elab_transitions.specs.Steps.{item_of, with_item, items_of, with_seq, seqs_of, IsStep, AreSteps};
+ghost use Rattle.elab_transitions.specs.Steps.{item_of, with_item, items_of, with_seq, seqs_of};
 
 use crate::steps::ListedStep;
 use cov_base::ValueSet;
@@ -14,7 +13,6 @@ use trans_seq::{Item, Seq};
 
 #[tactic(auto, unfolding(crate::specs::Steps::item_of))]
 fn item(alloc: Global, domain: &Domain, step: &ListedStep, at: u32) -> Result<Item, ElabFault>
-    requires { IsStep step.now }
     ensures { Gives result (item_of domain.now step.now at) }
 {
     let elems = numbers_listed(alloc, domain, step.elements.as_slice(), at)?;
@@ -33,7 +31,6 @@ fn add_item(
     step: &ListedStep,
     items: &mut List<Item>,
 ) -> Result<(), ElabFault>
-    requires { IsStep step.now }
     ensures { Makes result items.new (with_item domain.now at step.now items.old) }
 {
     let item = item(alloc, domain, step, at)?;
@@ -48,7 +45,6 @@ fn items(
     at: u32,
     steps: &[ListedStep],
 ) -> Result<List<Item>, ElabFault>
-    requires { AreSteps steps.now }
     ensures { Gives result (items_of domain.now at steps.now) }
 {
     let mut items = List::new(alloc);
@@ -66,7 +62,6 @@ fn add_seq(
     steps: &List<ListedStep>,
     seqs: &mut List<Seq>,
 ) -> Result<(), ElabFault>
-    requires { AreSteps steps.now }
     ensures { Makes result seqs.new (with_seq domain.now at steps.now seqs.old) }
 {
     let items = items(alloc, domain, at, steps.as_slice())?;
@@ -83,7 +78,6 @@ pub(crate) fn seqs_in(
     sequences: &[List<ListedStep>],
     at: u32,
 ) -> Result<List<Seq>, ElabFault>
-    requires { AllByRecursion AreSteps sequences.now }
     ensures { Gives result (seqs_of domain.now sequences.now at) }
 {
     let mut seqs = List::new(alloc);

@@ -1,8 +1,7 @@
 //! Steps of sequences.
 ghost use Rattle.std.specs.Prelude.{◌≡◌, IfOk};
-ghost use Rattle.std.specs.List.{AllByRecursion};
 ghost use Rattle.elab_base.specs.Gives.{Gives, Makes};
-ghost use Rattle.elab_transitions.specs.Steps.{capped as capped_count, is_repetition as is_repetition_of, ends_of, repeat_of, step_of, with_step, steps_of, with_sequence, sequences_of, AreSteps};
+ghost use Rattle.elab_transitions.specs.Steps.{capped as capped_count, is_repetition as is_repetition_of, ends_of, repeat_of, step_of, with_step, steps_of, with_sequence, sequences_of};
 
 use const_eval::Scope;
 use cov_base::Int;
@@ -149,8 +148,7 @@ pub(crate) fn listed_sequences(
     wildcard: bool,
     written: &[List<Step>],
 ) -> Result<List<List<ListedStep>>, ElabFault>
-    ensures gives { Gives result (sequences_of scope.now domain.now wildcard written.now) }
-    ensures steps { IfOk result (λ sequences. AllByRecursion AreSteps sequences) }
+    ensures { Gives result (sequences_of scope.now domain.now wildcard written.now) }
 {
     let mut sequences = List::new(alloc);
     for sequence in written {

@@ -15,7 +15,6 @@ use Rattle.const_eval.specs.Scopes.{Levels}
 pub use Rattle.const_eval.specs.Binding.{has_width}
 use Rattle.wildcard_bins.specs.declared.pattern.Pattern.{Pattern}
 use Rattle.wildcard_bins.specs.Patterns.{agreeing}
-use Rattle.design_data.specs.Limits.{HasWidth}
 use Rattle.elab_base.specs.declared.fault.ElabKind.{ElabKind}
 use Rattle.elab_base.specs.declared.fault.ElabKind.TheVariants as kind
 use Rattle.elab_base.specs.Gives.{Refusal, ◌>>=◌, needs, each}
@@ -87,11 +86,6 @@ with_element levels domain wildcard elem elements = do
 
 unfoldable pub listed_in : Levels → Domain → (wildcard : Bool) → List Elem → Result (List Listed) Refusal
 listed_in levels domain wildcard es = each (with_element levels domain wildcard) es []
-
--- a pattern of 1 to 64 bits
-abbrev pub IsListed : Listed → Type 0
-IsListed (Range low high) = Unit {0}
-IsListed (Agreeing pattern) = HasWidth pattern.width
 
 -- ---- their numbers
 

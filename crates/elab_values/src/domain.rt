@@ -63,7 +63,7 @@ fn copy(alloc: Global, constant: &Constant) -> Result<Constant, Memory>
     ensures { IfOk result (λ copy. copy ≡ constant.now) }
 {
     Ok(Constant {
-        name: constant.name.copy(alloc)?,
+        name: constant.name.share()?,
         value: constant.value,
     })
 }

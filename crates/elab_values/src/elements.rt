@@ -1,11 +1,11 @@
 //! Elements of range lists.
-ghost use Rattle.std.specs.Prelude.{◌≡◌, IfOk};
-ghost use Rattle.std.specs.List.{AllByRecursion};
+ghost use Rattle.std.specs.Prelude.{◌≡◌};
 ghost use Rattle.cov_base.specs.Sets.{written};
 ghost use Rattle.elab_base.specs.Gives.{Gives, Makes};
-ghost use Rattle.elab_values.specs.Listed.{IsListed, has_width as tests_width, pattern_of as pattern_meant, element_pattern as pattern_in, wildcard_kind as kind_in, in_elements, element_number, end_of, listed_one, element, with_element, listed_in};
+ghost use Rattle.elab_values.specs.Listed.{pattern_of as pattern_meant, element_pattern as pattern_in, wildcard_kind as kind_in, in_elements, element_number, end_of, listed_one, element, with_element, listed_in};
 
 use crate::domain::Domain;
+use bit_width::Width;
 use const_eval::Scope;
 use cov_base::Int;
 use cov_tree::{Elem, End, Expr, List, Literal};
@@ -22,24 +22,18 @@ pub enum Listed {
     Agreeing { pattern: Pattern },
 }
 
-fn has_width(width: u8) -> bool
-    ensures { result ≡ tests_width width }
-{
-    1 <= width && width <= 64
-}
-
 /// The pattern of a literal with digits x, z or `?`.
 fn pattern_of(lit: &Literal) -> Option<Pattern>
     ensures { result ≡ pattern_meant lit.now }
 {
-    if !has_width(lit.width) {
+    let Some(width) = Width::new(lit.width) else {
         return None;
-    }
+    };
     if lit.free == 0 {
         return None;
     }
     Some(Pattern {
-        width: lit.width,
+        width,
         signed: lit.signed,
         bits: lit.bits,
         free: lit.free,
@@ -152,7 +146,7 @@ fn add_element(
 }
 
 /// The elements of a range list, with their expressions computed.
-#[tactic(auto, using(crate::proofs::Widths::all_listed), unfolding(crate::specs::Listed::listed_in))]
+#[tactic(auto, unfolding(crate::specs::Listed::listed_in))]
 pub fn elements_of(
     alloc: Global,
     scope: &Scope,
@@ -160,8 +154,7 @@ pub fn elements_of(
     wildcard: bool,
     elems: &[Elem],
 ) -> Result<List<Listed>, ElabFault>
-    ensures gives { Gives result (listed_in scope.now domain.now wildcard elems.now) }
-    ensures widths { IfOk result (λ elements. AllByRecursion IsListed elements) }
+    ensures { Gives result (listed_in scope.now domain.now wildcard elems.now) }
 {
     let mut elements = List::new(alloc);
     for elem in elems {

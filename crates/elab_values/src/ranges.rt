@@ -1,10 +1,8 @@
 //! The numbers of range lists.
 ghost use Rattle.std.specs.Prelude.{◌≡◌, IfOk};
-ghost use Rattle.std.specs.List.{AllByRecursion};
 ghost use Rattle.cov_base.specs.Sets.{span, written};
-ghost use Rattle.design_data.specs.Limits.{HasWidth};
 ghost use Rattle.elab_base.specs.Gives.{Gives, Makes, GivesAs};
-ghost use Rattle.elab_values.specs.Listed.{IsListed, pattern_numbers, element_numbers, with_numbers, all_numbers, numbers_listed as numbers_meant, numbers_of};
+ghost use Rattle.elab_values.specs.Listed.{pattern_numbers, element_numbers, with_numbers, all_numbers, numbers_listed as numbers_meant, numbers_of};
 
 use crate::domain::Domain;
 use crate::elements::{Listed, elements_of};
@@ -19,7 +17,6 @@ use wildcard_bins::{Pattern, PatternFault};
 /// The numbers that agree with a pattern.
 #[tactic(auto, using(crate::proofs::Widths::not_too_wide), unfolding(crate::specs::Listed::pattern_numbers))]
 fn pattern_set(alloc: Global, pattern: &Pattern, at: u32) -> Result<ValueSet, ElabFault>
-    requires { HasWidth pattern.now.width }
     ensures { GivesAs written result (pattern_numbers pattern.now at) }
 {
     match pattern.as_set(alloc) {
@@ -42,7 +39,6 @@ fn one_range(alloc: Global, low: Int, high: Int) -> Result<Vec<(Int, Int)>, Memo
 /// The numbers of an element, as ranges.
 #[tactic(auto, unfolding(crate::specs::Listed::element_numbers))]
 fn element_ranges(alloc: Global, listed: &Listed, at: u32) -> Result<Vec<(Int, Int)>, ElabFault>
-    requires { IsListed listed.now }
     ensures { GivesAs (λ ranges. written ranges.items) result (element_numbers listed.now at) }
 {
     match listed {
@@ -61,7 +57,6 @@ fn add_numbers(
     at: u32,
     ranges: &mut Vec<(Int, Int)>,
 ) -> Result<(), ElabFault>
-    requires { IsListed listed.now }
     ensures { Makes result (written ranges.new.items) (with_numbers at listed.now (written ranges.old.items)) }
 {
     let next = element_ranges(alloc, listed, at)?;
@@ -71,7 +66,6 @@ fn add_numbers(
 
 #[tactic(auto, unfolding(crate::specs::Listed::all_numbers))]
 fn all_ranges(alloc: Global, elements: &[Listed], at: u32) -> Result<Vec<(Int, Int)>, ElabFault>
-    requires { AllByRecursion IsListed elements.now }
     ensures { GivesAs (λ ranges. written ranges.items) result (all_numbers elements.now at) }
 {
     let mut ranges = Vec::new(alloc);
@@ -90,7 +84,6 @@ pub fn numbers_listed(
     elements: &[Listed],
     at: u32,
 ) -> Result<Elems, ElabFault>
-    requires { AllByRecursion IsListed elements.now }
     ensures { GivesAs written result (numbers_meant domain.now elements.now at) }
 {
     let ranges = all_ranges(alloc, elements, at)?;

@@ -47,8 +47,8 @@ fn row_of(alloc: Global, point: u64, content: &Record, bytes: &[u8]) -> Result<H
         seed: content.seed,
         time: content.time,
         digest: Sha256::digest(bytes),
-        id: content.id.copy(alloc)?,
-        user: content.user.copy(alloc)?,
+        id: content.id.share()?,
+        user: content.user.share()?,
     })
 }
 
@@ -61,7 +61,7 @@ fn keep(alloc: Global, design: &Design, point: u64, content: &Record) -> Result<
     let counts = tally(alloc, design, content)?;
     Ok(Kept {
         row,
-        bytes: Name::from_vec(bytes),
+        bytes: Name::from_vec(bytes)?,
         counts,
     })
 }

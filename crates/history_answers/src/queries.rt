@@ -124,7 +124,8 @@ pub fn test_counts_answer(
     id: &[u8],
     path: &[u8],
 ) -> Result<Answer, Memory>
-    ensures { IfOk result (λ answer. answer ≡ test_counts_at opening.now entries.now first id.now path.now) }
+    ensures { IfOk result (λ answer. answer
+        ≡ test_counts_at opening.now entries.now first id.now path.now) }
 {
     let design = design_at(opening, entries);
     let tests = kept_tests(alloc, design, entries)?;
@@ -186,8 +187,8 @@ fn copy(alloc: Global, row: &HistoryNode) -> Result<HistoryNode, Memory>
         seed: row.seed,
         time: row.time,
         digest: row.digest,
-        id: row.id.copy(alloc)?,
-        user: row.user.copy(alloc)?,
+        id: row.id.share()?,
+        user: row.user.share()?,
     })
 }
 

@@ -52,7 +52,7 @@ fn copy_if(alloc: Global, paths: &mut Vec<Name>, test: bool, path: &Name) -> Res
     ensures { OnOk result (paths.new.items ≡ paths.old.items ++ cond test (path.now ∷ []) []) }
 {
     if test {
-        paths.push(path.copy(alloc)?)?;
+        paths.push(path.share()?)?;
     }
     Ok(())
 }
@@ -100,7 +100,7 @@ pub(crate) fn found(alloc: Global, design: &Design, out: &[Name]) -> Result<Vec<
 fn with(alloc: Global, path: &Name, mut out: Vec<Name>) -> Result<Vec<Name>, Memory>
     ensures { IfOk result (λ all. all.items ≡ out.items ++ path.now ∷ []) }
 {
-    out.push(path.copy(alloc)?)?;
+    out.push(path.share()?)?;
     Ok(out)
 }
 

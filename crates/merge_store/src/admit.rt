@@ -126,8 +126,10 @@ impl Store {
         since: u64,
         prepared: Prepared,
     ) -> Result<Admitted, (Prepared, AdmitFault)>
-        requires suits { Suits (opening_of self.old) (entries_of self.old) (ask.Admit since prepared.of) }
-        requires under { prepared.under ≡ design_of (opening_of self.old) (take since (entries_of self.old)) }
+        requires suits { Suits (opening_of self.old) (entries_of self.old)
+            (ask.Admit since prepared.of) }
+        requires under { prepared.under ≡ design_of (opening_of self.old)
+            (take since (entries_of self.old)) }
         ensures opening { opening_of self.new ≡ opening_of self.old }
         ensures answer { let e = by caller (event.Admit prepared.of) in
             Makes (entries_of self.old) e

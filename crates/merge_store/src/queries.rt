@@ -190,8 +190,8 @@ impl Store {
             seed: content.seed(),
             time: content.time(),
             digest: content.digest(),
-            id: content.id().copy(self.alloc)?,
-            user: content.user().copy(self.alloc)?,
+            id: content.id().share()?,
+            user: content.user().share()?,
         })
     }
 

@@ -36,7 +36,8 @@ impl ProductBits {
     /// No product of so many.
     pub fn none(alloc: Global, count: u32) -> Result<ProductBits, Memory>
         requires { count ≤ most_products }
-        ensures { IfOk result (λ bits. (sizes : List ℕ) → product_of sizes ≡ count → Marks sizes (λ product. false) bits) }
+        ensures { IfOk result (λ bits. (sizes : List ℕ) → product_of sizes ≡ count → Marks sizes
+            (λ product. false) bits) }
     {
         let words = vec![in alloc; 0u64; (count as usize + 63) / BITS]?;
         Ok(ProductBits { words })

@@ -46,7 +46,8 @@ impl RecordBuilder {
 
     /// One more event, where it is one of the record's signals and instances. It takes memory only as the list grows.
     pub fn push(&mut self, event: Event) -> Result<(), PushFault>
-        ensures { (start : Start) (events : List Event) → HasPushed self.old start events → Pushes start events event self.new result }
+        ensures { (start : Start) (events : List Event) → HasPushed self.old start events →
+            Pushes start events event self.new result }
     {
         let signals = self.start.signals.as_slice();
         if !is_event(signals, self.start.instances.as_slice(), &event) {
@@ -63,7 +64,8 @@ impl RecordBuilder {
     /// The record, where it is within its limits; or the number of all events pushed, and else that of all the record's
     /// bytes, each told as 2^64 - 1 where it is more. It takes no memory.
     pub fn finish(self) -> Result<Record, MakeFault>
-        ensures { (start : Start) (events : List Event) → HasPushed self start events → Finishes start events result }
+        ensures { (start : Start) (events : List Event) → HasPushed self start events →
+            Finishes start events result }
     {
         if self.count > MOST_EVENTS as u64 {
             return Err(MakeFault::TooManyEvents { n: self.count });

@@ -50,7 +50,8 @@ pub fn decode(alloc: Global, bytes: &[u8]) -> Result<Record, RecordFault>
     ensures told { HasRead result (reading bytes.now) }
     ensures read { IfOk result (λ r. Encodes r bytes.now) }
     ensures only { IfOk result (λ r. (other : Record) → Encodes other bytes.now → other ≡ r) }
-    ensures none { IfErr result (λ fault. (fault ≡ RecordFault.Memory → ⊥) → (r : Record) → Encodes r bytes.now → ⊥) }
+    ensures none { IfErr result
+        (λ fault. (fault ≡ RecordFault.Memory → ⊥) → (r : Record) → Encodes r bytes.now → ⊥) }
 {
     match whole_record(alloc, bytes) {
         Ok(fields) => Ok(record_of(fields)),

@@ -16,7 +16,8 @@ pub fn bytes_have_one_record()
 
 /// No record's bytes are the front of another's, so that records may follow one another.
 pub fn records_are_no_fronts()
-    ensures { (r q : Record) (more : List ℕ) → spelling r ++ more ≡ spelling q → (r ≡ q) × (more ≡ []) }
+    ensures { (r q : Record) (more : List ℕ) → spelling r ++ more ≡ spelling q → (r ≡ q) ×
+        (more ≡ []) }
 {}
 
 /// The bytes of each record are read as that record, however many they are.
@@ -37,10 +38,12 @@ pub fn fronts_are_short()
 
 /// Bytes behind a record are Trailing, at the record's length.
 pub fn more_bytes_are_trailing()
-    ensures { (r : Record) (byte : ℕ) (more : List ℕ) → HasFault (spelling r ++ byte ∷ more) (Trailing (length (spelling r))) }
+    ensures { (r : Record) (byte : ℕ) (more : List ℕ) → HasFault (spelling r ++ byte ∷ more)
+        (Trailing (length (spelling r))) }
 {}
 
 /// Bytes that agree up to the end of the field that is at fault have the same fault.
 pub fn faults_are_decided_early()
-    ensures { (bytes : List ℕ) (fault : RecordFault) → HasFault bytes fault → IsNoCut fault → IsDecidedEarly bytes fault }
+    ensures { (bytes : List ℕ) (fault : RecordFault) → HasFault bytes fault → IsNoCut fault →
+        IsDecidedEarly bytes fault }
 {}

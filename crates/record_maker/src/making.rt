@@ -79,7 +79,8 @@ pub fn make_record(
     rounds: u32,
     test: u32,
 ) -> Result<Record, MakeFault>
-    ensures { Makes (start_meant design.now seed rounds test) (events_of design.now seed rounds test) result }
+    ensures { Makes (start_meant design.now seed rounds test)
+        (events_of design.now seed rounds test) result }
 {
     let n = event_count(design, rounds);
     if n > MOST_EVENTS as u64 {

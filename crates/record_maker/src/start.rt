@@ -28,7 +28,7 @@ fn signal_row(alloc: Global, signal: &Signal) -> Result<SignalRow, Memory>
     ensures { IfOk result (λ row. row ≡ row_of_signal signal.now) }
 {
     Ok(SignalRow {
-        name: signal.name.copy(alloc)?,
+        name: signal.name.share()?,
         width: signal.width,
         signed: signal.signed,
     })
@@ -65,7 +65,7 @@ fn group_name(alloc: Global, groups: &[GroupInfo], group: u32) -> Result<Name, M
     ensures { IfOk result (λ name. name ≡ name_of (slice_get groups.now group)) }
 {
     match groups.get(group as usize) {
-        Some(group) => group.name.copy(alloc),
+        Some(group) => group.name.share(),
         None => Name::of(alloc, &[]),
     }
 }
@@ -81,7 +81,7 @@ fn instance_row(
     let group = group_name(alloc, groups, instance.group)?;
     let args = arg_rows(alloc, version, instance.args.as_slice())?;
     Ok(InstRow {
-        name: instance.name.copy(alloc)?,
+        name: instance.name.share()?,
         group,
         args,
     })

@@ -6,7 +6,7 @@ use std::alloc::Global;
 
 /// The name of these bytes.
 pub fn name_of(alloc: Global, bytes: &[u8]) -> Name {
-    Name::from_vec(Vec::from_slice(alloc, bytes).unwrap_or(Vec::new(alloc)))
+    Name::of(alloc, bytes).unwrap_or(Name::empty())
 }
 
 fn signal_row(alloc: Global, signal: &Signal) -> SignalRow {

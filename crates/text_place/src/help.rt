@@ -70,8 +70,10 @@ proved with rattle-kit-13f logic dac8208d650f15bf
 /// The text that is asked for by the only word, which is `--help` or `--version`. The words don't have the program's
 /// name.
 pub fn early_text(words: &[String]) -> Option<&'static str>
-    ensures help { IsOnly words.now help_word → option_map (λ text. text.now) result ≡ Some HELP.now }
-    ensures version { IsOnly words.now version_word → option_map (λ text. text.now) result ≡ Some VERSION.now }
+    ensures help { IsOnly words.now help_word → option_map (λ text. text.now) result
+        ≡ Some HELP.now }
+    ensures version { IsOnly words.now version_word → option_map (λ text. text.now) result
+        ≡ Some VERSION.now }
     ensures only { IsSome result → IsOnly words.now help_word ⊎ IsOnly words.now version_word }
 {
     let [word] = words else {

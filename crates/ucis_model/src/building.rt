@@ -25,7 +25,7 @@ fn add_bin(
 {
     let node = Node {
         kind: NodeKind::Bin(bin.kind),
-        name: bin.name.copy(alloc)?,
+        name: bin.name.share()?,
         parent,
         first_bin: next,
         bins: 1,
@@ -75,7 +75,7 @@ fn item(alloc: Global, parent: u32, next: u32, item: &ItemInfo) -> Result<Node, 
 {
     Ok(Node {
         kind: kind_of(&item.shape),
-        name: item.name.copy(alloc)?,
+        name: item.name.share()?,
         parent,
         first_bin: next,
         bins: item.bins.as_slice().len() as u32,
@@ -160,7 +160,7 @@ fn add_instance(
     let place = nodes.len();
     let node = Node {
         kind: NodeKind::CoverInstance,
-        name: inst.name.copy(alloc)?,
+        name: inst.name.share()?,
         parent,
         first_bin: next,
         bins: bins_of_items(inst.items.as_slice()),
@@ -271,7 +271,7 @@ fn add_group(
     let at = nodes.len();
     let node = Node {
         kind: NodeKind::CoverGroup,
-        name: group.name.copy(alloc)?,
+        name: group.name.share()?,
         parent: 0,
         first_bin: next,
         bins,

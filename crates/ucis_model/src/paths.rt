@@ -41,5 +41,5 @@ pub(crate) fn path_of(alloc: Global, nodes: &[Node], place: usize) -> Result<Nam
     ensures { IfOk result (λ path. path ≡ path_meant nodes.now place) }
 {
     let path = path_to(alloc, nodes, place)?;
-    Ok(Name::from_vec(path))
+    Name::from_vec(path)
 }

@@ -1,6 +1,6 @@
 //! What a dump holds.
 use crate::Steps;
-use cov_tree::{List, Name, Shared};
+use cov_tree::{List, Name};
 
 /// A value change dump: its variables in order of declaration, and its steps in order of time.
 #[derive(Drop)]
@@ -13,7 +13,7 @@ pub struct Dump {
 #[derive(Drop)]
 pub struct DumpVar {
     /// The names of the scopes that it stands in, from the outermost on, joined by dots; a dot where it stands in none.
-    pub scope: Shared<Name>,
+    pub scope: Name,
     /// Its name up to a bracket.
     pub name: Name,
     /// How many bits its code has.

@@ -3,14 +3,14 @@ ghost use Rattle.std.specs.Prelude.{◌≡◌, ◌∷◌, ◌++◌, [], length, 
 ghost use Rattle.vcd_reader.specs.Header.{joined, scope_name, outer};
 
 use cov_ground::Memory;
-use cov_tree::{Name, Shared};
-use std::alloc::{AllocError, Global};
+use cov_tree::Name;
+use std::alloc::Global;
 use std::marker::Model;
 
 /// The names of scopes, each with those around it. Contracts see the innermost first.
 #[derive(Drop)]
 pub(crate) struct Scopes {
-    names: Vec<Shared<Name>>,
+    names: Vec<Name>,
 }
 
 impl Model for Scopes {
@@ -43,7 +43,7 @@ impl Scopes {
         ensures { OnOk result (self.new ≡ joined self.old name.now ∷ self.old) }
     {
         let text = joined_name(alloc, self.names.as_slice(), name)?;
-        self.names.push(Shared::of(alloc, text)?)?;
+        self.names.push(text)?;
         Ok(())
     }
 
@@ -55,25 +55,25 @@ impl Scopes {
     }
 
     /// The name of the innermost scope with those around it; a dot where there is none.
-    pub(crate) fn name(&self, alloc: Global) -> Result<Shared<Name>, Memory>
+    pub(crate) fn name(&self, alloc: Global) -> Result<Name, Memory>
         ensures { IfOk result (λ name. name ≡ scope_name self.now) }
     {
         match self.names.last() {
             Some(name) => name.share(),
-            None => Shared::of(alloc, Name::of(alloc, b".")?),
+            None => Name::of(alloc, b"."),
         }
     }
 }
 
 /// A name behind that of the last scope and a dot.
-fn joined_name(alloc: Global, scopes: &[Shared<Name>], name: &[u8]) -> Result<Name, AllocError>
+fn joined_name(alloc: Global, scopes: &[Name], name: &[u8]) -> Result<Name, Memory>
     ensures { IfOk result (λ text. text ≡ joined (reverse scopes.now) name.now) }
 {
     let mut text = Vec::new(alloc);
     if let Some(scope) = scopes.last() {
-        text.extend_from_slice(scope.get().as_slice())?;
+        text.extend_from_slice(scope.as_slice())?;
         text.extend_from_slice(b".")?;
     }
     text.extend_from_slice(name)?;
-    Ok(Name::from_vec(text))
+    Name::from_vec(text)
 }

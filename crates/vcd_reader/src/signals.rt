@@ -24,14 +24,14 @@ fn add_pair(
     if var.selected {
         return Ok(());
     }
-    if var.scope.get().as_slice() != scope {
+    if var.scope.as_slice() != scope {
         return Ok(());
     }
     let code = Code {
         number: var.code,
         width: var.width,
     };
-    pairs.push((var.name.copy(alloc)?, code))?;
+    pairs.push((var.name.share()?, code))?;
     Ok(())
 }
 

@@ -27,7 +27,7 @@ fn signal_row(alloc: Global, signal: &Signal) -> Result<SignalRow, Memory>
     ensures { IfOk result (λ row. row ≡ signal_row signal.now) }
 {
     Ok(SignalRow {
-        name: signal.name.copy(alloc)?,
+        name: signal.name.share()?,
         width: signal.width,
         signed: signal.signed,
     })
@@ -38,7 +38,7 @@ fn group_name(alloc: Global, groups: &[GroupInfo], group: u32) -> Result<Name, M
     ensures { IfOk result (λ name. name ≡ group_name (slice_get groups.now group)) }
 {
     match groups.get(group as usize) {
-        Some(group) => group.name.copy(alloc),
+        Some(group) => group.name.share(),
         None => Name::of(alloc, &[]),
     }
 }
@@ -48,7 +48,7 @@ fn instance_row(alloc: Global, groups: &[GroupInfo], instance: &InstInfo) -> Res
 {
     let group = group_name(alloc, groups, instance.group)?;
     Ok(InstRow {
-        name: instance.name.copy(alloc)?,
+        name: instance.name.share()?,
         group,
         args: List::new(alloc),
     })
@@ -98,7 +98,7 @@ pub(crate) fn start_of(
     let instances = instance_rows(alloc, design.groups(), design.instances())?;
     Ok(Start {
         version: 1,
-        id: id.copy(alloc)?,
+        id: id.share()?,
         status: 0,
         seed: 0,
         time: last_time(&dump.steps),
