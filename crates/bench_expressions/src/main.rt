@@ -5,6 +5,7 @@
 //! from outside.
 #![tactic(auto)]
 
+use bit_width::Width;
 use const_eval::{Bound, Meaning, Scope, Typ, bind, eval};
 use cov_base::Int;
 use cov_tree::{BinOp, Boxed, Expr, List, Literal, Name, UnOp};
@@ -242,7 +243,7 @@ static SIGNALS: [(u8, u8, bool); 5] = [
 fn declare(alloc: Global, scope: &mut Scope, index: u16, row: (u8, u8, bool)) -> Option<()> {
     let (letter, width, signed) = row;
     let name = Name::of(alloc, &[letter]).ok()?;
-    let typ = Typ { width, signed };
+    let typ = Typ::of(Width::new(width)?, signed);
     scope
         .declare(name, Meaning::Signal { index, typ, low: 0 })
         .ok()?;

@@ -9,7 +9,6 @@ use Rattle.cov_tree.specs.declared.expr.Expr.TheFolds.{fold_out-Expr, map-Expr}
 use Rattle.const_eval.specs.declared.fault.BindFault.{BindFault}
 use Rattle.const_eval.specs.declared.fault.BindFault.TheVariants as fault
 use Rattle.const_eval.specs.Scopes.{Names}
-use Rattle.const_eval.specs.Terms as term
 use Rattle.const_eval.specs.Terms.{Term}
 use Rattle.const_eval.specs.Binding.{Seen, seen, seen_layer, bound_layer, bound_of, place_of, unsized_of, place_layer, unsized_layer, any_unsized, Gives, Fails, concatenated, concatenation, parts_behind, with_part}
 use Rattle.const_eval.specs.Fronts.{IsFront, FrontIs}

@@ -1,5 +1,5 @@
 -- A known value is a number of its expression's type.
-use Rattle.std.proofs.Common.{◌≡◌, refl, sym, subst, ◌∙◌, ℕ, zero, suc, ◌+◌, ◌-◌, ◌*◌, ◌%◌, ◌^◌, ◌<◌, ◌≤◌, max, ℤ, pos, ◌+ℤ◌, ◌-ℤ◌, ◌≤ℤ◌, Bool, true, false, cond, List, Option, Some, None, arith, pow-suc, nat_le}
+use Rattle.std.proofs.Common.{◌≡◌, refl, sym, subst, ℕ, zero, suc, ◌+◌, ◌-◌, ◌*◌, ◌%◌, ◌^◌, ◌<◌, ◌≤◌, ℤ, pos, ◌-ℤ◌, ◌≤ℤ◌, Bool, true, false, cond, List, Option, Some, None, arith, pow-suc, nat_le}
 use Rattle.std.specs.Prelude.{◌&&◌, ◌||◌, if◌then◌else◌}
 use Rattle.std.proofs.lemmas.Int.{ints}
 use Rattle.std.proofs.lemmas.Nat.{pow-add}
@@ -11,11 +11,11 @@ use Rattle.cov_tree.specs.declared.expr.UnOp.{UnOp}
 use Rattle.cov_tree.specs.declared.expr.UnOp.TheVariants as unary
 use Rattle.cov_tree.specs.declared.expr.BinOp.{BinOp}
 use Rattle.cov_tree.specs.declared.expr.BinOp.TheVariants as binary
-use Rattle.const_eval.specs.declared.typs.Typ.{Typ}
+use Rattle.const_eval.specs.Typs.{Typ}
 use Rattle.const_eval.specs.Typs.{one_bit, plain, common, kind_of, typ_by, unary_by}
 use Rattle.const_eval.specs.Terms as term
 use Rattle.const_eval.specs.Terms.{Term, typ_in, typ_of}
-use Rattle.const_eval.specs.Values.{bits_of, read, cut, cut_to, truth, is_zero, single, on_known, on_both, is_false, is_true, both_true, either_true, unless_zero, combined, chosen, value_in, value_of, value, IsNumberOf}
+use Rattle.const_eval.specs.Values.{bits_of, read, cut, cut_to, truth, is_zero, single, on_known, on_both, is_false, is_true, unless_zero, combined, chosen, value_in, value_of, value, IsNumberOf}
 use Rattle.const_eval.proofs.Words.{bits_below}
 
 -- ---- numbers of a type

@@ -2,7 +2,7 @@
 use Rattle.std.proofs.Common.{◌≡◌, ℕ, List, ◌++◌, Option, Some, None, refl, ap, ◌∙◌}
 use Rattle.name_map.proofs.Named as map
 use Rattle.const_eval.specs.declared.meaning.Meaning.{Meaning}
-use Rattle.const_eval.specs.declared.typs.Typ.{Typ}
+use Rattle.const_eval.specs.Typs.{Typ}
 use Rattle.const_eval.specs.Scopes.{Names, Levels, meaning_of, names_with, item_names, first_of}
 
 same_first : (a b : Option Meaning) → map.first_of a b ≡ first_of a b

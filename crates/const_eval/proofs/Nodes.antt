@@ -1,5 +1,5 @@
 -- What holds of an expression as it is kept.
-use Rattle.const_eval.specs.declared.typs.Typ.{Typ}
+use Rattle.const_eval.specs.Typs.{Typ}
 use Rattle.const_eval.specs.declared.bound.Node.{Node, Number, Name, Part, Alone', Joined', Unary', Binary', Cond'}
 use Rattle.const_eval.specs.Nodes.{term_in, HasTyp, IsSound}
 

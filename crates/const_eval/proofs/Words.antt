@@ -130,9 +130,9 @@ bits_left w k (negsuc n) le =
     positive : (n m : ℕ) → 0 < m → suc (suc n * m - 1) ≡ suc n * m
     positive n m lt = grind arith
 
-pub none_left : (w k : ℕ) (signed : Bool) (x : ℤ) → 1 ≤ w → w ≤ 64 → 64 ≤ k → pos 0 ≡ cut w signed (x *ℤ pos (2 ^ k))
+pub none_left : (w k : ℕ) (signed : Bool) (x : ℤ) → w ≤ k → pos 0 ≡ cut w signed (x *ℤ pos (2 ^ k))
 unfolding cut
-none_left w k signed x least most le = sym (ap (read w signed) (bits_left w k x (omega arith)) ∙ read_zero w signed)
+none_left w k signed x le = sym (ap (read w signed) (bits_left w k x le) ∙ read_zero w signed)
 
 -- ---- bits side by side
 

@@ -6,14 +6,14 @@ use Rattle.cov_tree.specs.declared.expr.Expr.TheViews.{out-Expr}
 use Rattle.cov_tree.specs.declared.expr.Expr.TheOpen as expr
 use Rattle.cov_tree.specs.declared.expr.Expr.TheOpen.{Expr-F}
 use Rattle.cov_tree.specs.declared.expr.Expr.TheFolds.{fold-Expr}
-use Rattle.const_eval.specs.declared.typs.Typ.{Typ}
+use Rattle.const_eval.specs.Typs.{Typ}
 use Rattle.const_eval.specs.declared.meaning.Meaning.{Meaning}
 use Rattle.const_eval.specs.declared.meaning.Meaning.TheVariants.{Signal, Const}
 use Rattle.const_eval.specs.declared.fault.BindFault.{BindFault}
 use Rattle.const_eval.specs.declared.fault.BindFault.TheVariants as fault
 use Rattle.const_eval.specs.Scopes.{Names, meaning_of}
 use Rattle.const_eval.specs.Terms as term
-use Rattle.const_eval.specs.Terms.{Term, typ_in, low_in, typ_of}
+use Rattle.const_eval.specs.Terms.{Term, item_index, typ_in, low_in, typ_of}
 use Rattle.const_eval.specs.Values.{value}
 
 infixl 10 ◌>>=◌
@@ -45,7 +45,7 @@ literal lit at = if has_width lit.width then (if nat_eq lit.free 0 then Ok (term
 
 abbrev pub found_as : Option Meaning → (at : ℕ) → Result Meaning BindFault
 found_as None at = Err (fault.UnknownName at)
-found_as (Some meaning) at = if has_width (typ_in meaning).width then Ok meaning else Err (fault.TooWide at)
+found_as (Some meaning) at = Ok meaning
 
 abbrev pub found : Names → (name : List ℕ) → (at : ℕ) → Result Meaning BindFault
 found names name at = found_as (meaning_of names name) at
@@ -54,7 +54,7 @@ found names name at = found_as (meaning_of names name) at
 
 -- the place of the first signal that an expression names, in reading order; `item` counts where that is asked for
 abbrev pub signal_in : (with_item : Bool) → Meaning → (at : ℕ) → Option ℕ
-signal_in with_item (Signal index typ low) at = if nat_eq index 65535 && not with_item then None else Some at
+signal_in with_item (Signal index typ low) at = if nat_eq index item_index && not with_item then None else Some at
 signal_in with_item (Const value typ low) at = None
 
 abbrev pub or_later : Option ℕ → Option ℕ → Option ℕ

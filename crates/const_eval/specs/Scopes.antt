@@ -1,10 +1,11 @@
 -- Names with what they stand for.
 pub use Rattle.name_map.specs.Names.{meaning_of, with_name, with_names}
-use Rattle.std.specs.Prelude.{ℕ, List, [], ◌∷◌, ◌++◌, Option, Some, None, codes}
+use Rattle.std.specs.Prelude.{[], ◌∷◌, ◌++◌, Option, Some, None, codes}
 use Rattle.name_map.specs.Names.{Pairs}
-use Rattle.const_eval.specs.declared.typs.Typ.{Typ}
+use Rattle.const_eval.specs.Typs.{Typ}
 use Rattle.const_eval.specs.declared.meaning.Meaning.{Meaning}
 use Rattle.const_eval.specs.declared.meaning.Meaning.TheVariants.{Signal}
+use Rattle.const_eval.specs.Terms.{item_index}
 
 -- pairs of a name and its meaning, of which the first of a name counts
 abbrev pub Names : Type 0
@@ -18,7 +19,7 @@ pub record Levels : Type 0 where
 
 abbrev pub item_names : Option Typ → Names
 item_names None = []
-item_names (Some typ) = (codes "item", Signal 65535 typ 0) ∷ []
+item_names (Some typ) = (codes "item", Signal item_index typ 0) ∷ []
 
 -- all names, where `item` has this type or is no name of its own; an inner one hides an outer one
 abbrev pub names_with : Option Typ → Levels → Names

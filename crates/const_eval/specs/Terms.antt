@@ -2,7 +2,7 @@
 use Rattle.std.specs.Prelude.{ℕ, ◌+◌, Option, Some}
 use Rattle.cov_tree.specs.declared.expr.UnOp.{UnOp}
 use Rattle.cov_tree.specs.declared.expr.BinOp.{BinOp}
-use Rattle.const_eval.specs.declared.typs.Typ.{Typ}
+use Rattle.const_eval.specs.Typs.{Typ}
 use Rattle.const_eval.specs.declared.meaning.Meaning.{Meaning}
 use Rattle.const_eval.specs.declared.meaning.Meaning.TheVariants.{Signal, Const}
 use Rattle.const_eval.specs.Typs.{one_bit, plain, common, kind_of, typ_by, unary_by}
@@ -18,6 +18,10 @@ pub data Term : Type 0 where
   unary : UnOp → Term → Term
   binary : BinOp → (left right : Term) → Term
   choice : (test first second : Term) → Term
+
+-- the index of the signal that `item` stands for in a `with` (19.5.1.1)
+abbrev pub item_index : ℕ
+item_index = 65535
 
 abbrev pub typ_in : Meaning → Typ
 typ_in (Signal index typ low) = typ

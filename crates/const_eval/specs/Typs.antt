@@ -1,10 +1,14 @@
 -- Widths and signs of expressions (IEEE 1800-2017, 11.6.1 and 11.8.1).
-use Rattle.std.specs.Prelude.{ℕ, ◌≤◌, max, false, ◌&&◌}
+use Rattle.std.specs.Prelude.{ℕ, max, Bool, false, ◌&&◌}
 use Rattle.cov_tree.specs.declared.expr.UnOp.{UnOp}
 use Rattle.cov_tree.specs.declared.expr.UnOp.TheVariants as unary
 use Rattle.cov_tree.specs.declared.expr.BinOp.{BinOp}
 use Rattle.cov_tree.specs.declared.expr.BinOp.TheVariants as binary
-use Rattle.const_eval.specs.declared.typs.Typ.{Typ}
+
+-- The type of an expression: how many bits it has, and whether they are read in two's complement.
+pub record Typ : Type 0 where
+  pub width : ℕ
+  pub signed : Bool
 
 -- the type of a truth value
 abbrev pub one_bit : Typ
@@ -13,10 +17,6 @@ one_bit = record { width = 1; signed = false }
 -- so many bits without a sign
 abbrev pub plain : ℕ → Typ
 plain width = record { width = width; signed = false }
-
--- a width of 1 to 64 bits
-abbrev pub HasWidth : Typ → Type 0
-HasWidth typ = (1 ≤ typ.width) × (typ.width ≤ 64)
 
 -- the greater width, and a sign where both have one
 abbrev pub common : Typ → Typ → Typ

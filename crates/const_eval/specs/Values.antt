@@ -6,12 +6,12 @@ use Rattle.cov_tree.specs.declared.expr.UnOp.{UnOp}
 use Rattle.cov_tree.specs.declared.expr.UnOp.TheVariants as unary
 use Rattle.cov_tree.specs.declared.expr.BinOp.{BinOp}
 use Rattle.cov_tree.specs.declared.expr.BinOp.TheVariants as binary
-use Rattle.const_eval.specs.declared.typs.Typ.{Typ}
+use Rattle.const_eval.specs.Typs.{Typ}
 use Rattle.const_eval.specs.declared.meaning.Meaning.{Meaning}
 use Rattle.const_eval.specs.declared.meaning.Meaning.TheVariants.{Signal, Const}
 use Rattle.const_eval.specs.Typs.{kind_of, left_by, right_by, unary_by}
 use Rattle.const_eval.specs.Terms as term
-use Rattle.const_eval.specs.Terms.{Term, typ_in, typ_of}
+use Rattle.const_eval.specs.Terms.{Term, item_index, typ_in, typ_of}
 
 -- ---- whole numbers and bits
 
@@ -123,9 +123,9 @@ chosen (Some x) first second = if is_zero x then second else first
 
 -- ---- expressions
 
--- the value of a name: of a signal by its place, where 65,535 stands for `item`
+-- the value of a name: of a signal by its place, where `item_index` stands for `item`
 abbrev pub value_in : Meaning → (signals : List (Option ℤ)) → (item : Option ℤ) → Option ℤ
-value_in (Signal index typ low) signals item = if nat_eq index 65535 then item else slice_index_or signals index None
+value_in (Signal index typ low) signals item = if nat_eq index item_index then item else slice_index_or signals index None
 value_in (Const value typ low) signals item = Some value
 
 -- The value of an expression that the type `whole` is handed down to. A name or a number keeps its own bits, which are

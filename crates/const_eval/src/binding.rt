@@ -3,12 +3,12 @@ ghost use Rattle.cov_base.specs.Sets.{IsInt};
 ghost use Rattle.std.specs.Prelude.{◌≡◌, ◌<◌, ◌≤ℤ◌, ◌<ℤ◌, ◌+ℤ◌, ◌-ℤ◌, pos, unsigned_abs, IfOk, Option, Some, None, map};
 ghost use Rattle.std.specs.List.{list_any};
 ghost use Rattle.const_eval.specs.Scopes.{names_of, names_with};
-ghost use Rattle.const_eval.specs.Typs.{HasWidth};
-ghost use Rattle.const_eval.specs.Terms.{Term, typ_in};
+ghost use Rattle.const_eval.specs.Terms.{Term};
 ghost use Rattle.const_eval.specs.Fronts.{IsFront, GivesFront};
-ghost use Rattle.const_eval.specs.Binding.{Gives, has_width as tests_width, literal, found as found_of, constant_of, index_number, is_outside as tests_outside, selected, with_part, parts_behind, any_unsized, concatenated, concatenation, seen, bound_of, place_of, unsized_of};
+ghost use Rattle.const_eval.specs.Binding.{Gives, literal, found as found_of, constant_of, index_number, is_outside as tests_outside, selected, with_part, parts_behind, any_unsized, concatenated, concatenation, seen, bound_of, place_of, unsized_of};
 
 use crate::{BindFault, Bound, Meaning, Scope, Typ, eval, first_signal, typ};
+use bit_width::Width;
 use cov_base::{Int, Memory};
 use cov_tree::{Expr, Literal, Name};
 use std::alloc::Global;
@@ -19,14 +19,16 @@ use std::alloc::Global;
 pub fn bind(alloc: Global, expr: &Expr, scope: &Scope) -> Result<Bound, BindFault>
     ensures { Gives result (bound_of (names_of scope.now) expr.now) }
 {
-    bind_within(alloc, expr, scope, scope.item())
+    let item = scope.item();
+    bind_within(alloc, expr, scope, &item)
 }
 
 /// The same where `item` is a name too, a number of this type, as in a `with` (IEEE 1800-2017, 19.5.1.1).
 pub fn bind_item(alloc: Global, expr: &Expr, scope: &Scope, typ: Typ) -> Result<Bound, BindFault>
     ensures { Gives result (bound_of (names_with (Some typ) scope.now) expr.now) }
 {
-    bind_within(alloc, expr, scope, Some(typ))
+    let item = Some(typ);
+    bind_within(alloc, expr, scope, &item)
 }
 
 /// The same where `item` has this type, or is no name of its own.
@@ -35,9 +37,9 @@ fn bind_within(
     alloc: Global,
     expr: &Expr,
     scope: &Scope,
-    item: Option<Typ>,
+    item: &Option<Typ>,
 ) -> Result<Bound, BindFault>
-    ensures { Gives result (bound_of (names_with item scope.now) expr.now) }
+    ensures { Gives result (bound_of (names_with item.now scope.now) expr.now) }
 {
     match expr {
         Expr::Num { lit, at } => bind_literal(alloc, lit, *at),
@@ -115,44 +117,26 @@ pub fn constant(bound: &Bound, at: u32) -> Result<Int, BindFault>
     }
 }
 
-/// Whether there are 1 to 64 bits.
-fn has_width(width: u8) -> bool
-    ensures { result ≡ tests_width width }
-{
-    1 <= width && width <= 64
-}
-
 /// A literal without free bits.
 fn bind_literal(alloc: Global, lit: &Literal, at: u32) -> Result<Bound, BindFault>
     ensures { Gives result (literal lit.now at) }
 {
-    if !has_width(lit.width) {
+    let Some(width) = Width::new(lit.width) else {
         return Err(BindFault::TooWide { at });
-    }
+    };
     if lit.free != 0 {
         return Err(BindFault::UnknownLiteral { at });
     }
-    let typ = Typ {
-        width: lit.width,
-        signed: lit.signed,
-    };
-    Ok(Bound::number(alloc, lit.bits, typ)?)
+    Ok(Bound::number(alloc, lit.bits, Typ::of(width, lit.signed))?)
 }
 
 /// What a name stands for.
-fn find(scope: &Scope, item: Option<Typ>, name: &Name, at: u32) -> Result<Meaning, BindFault>
-    ensures value { result ≡ found_of (names_with item scope.now) name.now at }
-    ensures width { IfOk result (λ meaning. HasWidth (typ_in meaning)) }
+fn find(scope: &Scope, item: &Option<Typ>, name: &Name, at: u32) -> Result<Meaning, BindFault>
+    ensures { result ≡ found_of (names_with item.now scope.now) name.now at }
 {
-    match scope.meaning_with(item, name.as_slice()) {
+    match scope.meaning_with(*item, name.as_slice()) {
         None => Err(BindFault::UnknownName { at }),
-        Some(meaning) => {
-            if has_width(meaning.typ().width) {
-                Ok(meaning)
-            } else {
-                Err(BindFault::TooWide { at })
-            }
-        }
+        Some(meaning) => Ok(meaning),
     }
 }
 
@@ -162,9 +146,9 @@ fn number_of_index(
     alloc: Global,
     index: &Expr,
     scope: &Scope,
-    item: Option<Typ>,
+    item: &Option<Typ>,
 ) -> Result<Int, BindFault>
-    ensures { Gives result (index_number (seen (names_with item scope.now) index.now)) }
+    ensures { Gives result (index_number (seen (names_with item.now scope.now) index.now)) }
 {
     let bound = bind_within(alloc, index, scope, item)?;
     constant(&bound, place(index))
@@ -191,19 +175,18 @@ fn distance(from: i128, to: i128) -> u8
 
 /// Bits of the value of a name, from one place of its span to another.
 fn select(alloc: Global, meaning: Meaning, high: Int, low: Int, at: u32) -> Result<Bound, BindFault>
-    requires { HasWidth (typ_in meaning) }
     ensures { Gives result (selected meaning high low at) }
 {
     let Some(base) = meaning.low() else {
         return Err(BindFault::BadSelect { at });
     };
-    let width = meaning.typ().width;
+    let width = meaning.typ().width().get();
     let (last, first) = (high.get(), low.get());
     if is_outside(base, width, high) || is_outside(base, width, low) || last < first {
         return Err(BindFault::BadSelect { at });
     }
     let skip = distance(i128::from(base), first);
-    let count = distance(first, last) + 1;
+    let count = Width::of(distance(first, last) + 1);
     Ok(Bound::part(alloc, meaning, skip, count, at)?)
 }
 
@@ -226,7 +209,7 @@ fn extended(alloc: Global, front: Front, part: Bound) -> Result<Front, Memory>
         Front::Empty => Ok(Front::Fits(Bound::alone(alloc, part)?)),
         Front::Wide => Ok(Front::Wide),
         Front::Fits(bound) => {
-            if 64 - typ(&bound).width < typ(&part).width {
+            if 64 - typ(&bound).width().get() < typ(&part).width().get() {
                 return Ok(Front::Wide);
             }
             Ok(Front::Fits(Bound::joined(alloc, bound, part)?))
@@ -240,9 +223,9 @@ fn bind_parts(
     alloc: Global,
     parts: &[Expr],
     scope: &Scope,
-    item: Option<Typ>,
+    item: &Option<Typ>,
 ) -> Result<Front, BindFault>
-    ensures { GivesFront result (parts_behind None (map (seen (names_with item scope.now)) parts.now)) }
+    ensures { GivesFront result (parts_behind None (map (seen (names_with item.now scope.now)) parts.now)) }
 {
     let mut front = Front::Empty;
     for part in parts {
@@ -258,10 +241,10 @@ fn bind_concat(
     alloc: Global,
     parts: &[Expr],
     scope: &Scope,
-    item: Option<Typ>,
+    item: &Option<Typ>,
     at: u32,
 ) -> Result<Bound, BindFault>
-    ensures { let all = map (seen (names_with item scope.now)) parts.now in Gives result (concatenation (parts_behind None all) (any_unsized all) at) }
+    ensures { let all = map (seen (names_with item.now scope.now)) parts.now in Gives result (concatenation (parts_behind None all) (any_unsized all) at) }
 {
     let front = bind_parts(alloc, parts, scope, item)?;
     concatenate(front, has_unsized(parts), at)

@@ -1,12 +1,12 @@
 //! Expressions whose names are replaced by what they stand for.
 ghost use Rattle.std.specs.Prelude.{◌≡◌, ◌+◌, ◌≤◌, IfOk};
-ghost use Rattle.const_eval.specs.Typs.{HasWidth};
 ghost use Rattle.const_eval.specs.Terms as term;
 ghost use Rattle.const_eval.specs.Terms.{typ_in};
 ghost use Rattle.const_eval.specs.Nodes.{IsWithin, IsTyped, term_of};
 
-use crate::typs::{ONE_BIT, common, either_typ, typ_of_binary};
+use crate::typs::{common, either_typ, typ_of_binary};
 use crate::{Meaning, Typ};
+use bit_width::Width;
 use cov_base::Memory;
 use cov_tree::{BinOp, Boxed, UnOp};
 use std::alloc::{AllocError, Global};
@@ -82,7 +82,6 @@ impl Bound {
 
     /// A number of so many bits.
     pub(crate) fn number(alloc: Global, bits: u64, typ: Typ) -> Result<Bound, Memory>
-        requires { HasWidth typ }
         ensures { IfOk result (λ bound. bound ≡ term.number bits typ) }
     {
         Bound::of(alloc, typ, Node::Number { bits })
@@ -90,7 +89,6 @@ impl Bound {
 
     /// The value of a name.
     pub(crate) fn name(alloc: Global, meaning: Meaning, at: u32) -> Result<Bound, Memory>
-        requires { HasWidth (typ_in meaning) }
         ensures { IfOk result (λ bound. bound ≡ term.name meaning at) }
     {
         Bound::of(alloc, meaning.typ(), Node::Name { meaning, at })
@@ -101,17 +99,13 @@ impl Bound {
         alloc: Global,
         meaning: Meaning,
         skip: u8,
-        width: u8,
+        width: Width,
         at: u32,
     ) -> Result<Bound, Memory>
-        requires least { 1 ≤ width }
-        requires within { IsWithin (typ_in meaning) skip width }
+        requires { IsWithin (typ_in meaning) skip width }
         ensures { IfOk result (λ bound. bound ≡ term.part meaning skip width at) }
     {
-        let typ = Typ {
-            width,
-            signed: false,
-        };
+        let typ = Typ::of(width, false);
         Bound::of(alloc, typ, Node::Part { meaning, skip, at })
     }
 
@@ -130,10 +124,7 @@ impl Bound {
         ensures width { IfOk result (λ bound. (term.typ_of bound).width ≤ 64) }
     {
         let typed = part.into_typed();
-        let typ = Typ {
-            width: typed.own_typ().width,
-            signed: false,
-        };
+        let typ = Typ::of(typed.own_typ().width(), false);
         let inner = Box::new(alloc, typed)?;
         Bound::of(alloc, typ, Node::Alone(inner))
     }
@@ -145,10 +136,8 @@ impl Bound {
     {
         let left = front.into_typed();
         let right = part.into_typed();
-        let typ = Typ {
-            width: left.own_typ().width + right.own_typ().width,
-            signed: false,
-        };
+        let width = left.own_typ().width().get() + right.own_typ().width().get();
+        let typ = Typ::of(Width::of(width), false);
         let left = Box::new(alloc, left)?;
         let right = Box::new(alloc, right)?;
         Bound::of(alloc, typ, Node::Joined(left, right))
@@ -159,7 +148,7 @@ impl Bound {
         ensures { IfOk result (λ bound. bound ≡ term.unary op arg) }
     {
         let typed = arg.into_typed();
-        let typ = either_typ(op, typed.own_typ(), ONE_BIT);
+        let typ = either_typ(op, typed.own_typ(), Typ::truth());
         let inner = Box::new(alloc, typed)?;
         Bound::of(alloc, typ, Node::Unary(op, inner))
     }

@@ -1,13 +1,13 @@
 //! Operations on known values (IEEE 1800-2017, 11.4).
 ghost use Rattle.std.specs.Prelude.{◌≡◌, ◌≤◌, ℤ, ℕ, Option, Some, true, false};
 ghost use Rattle.cov_base.specs.Sets.{IsInt};
-ghost use Rattle.const_eval.specs.declared.typs.Typ.{Typ as Whole};
-ghost use Rattle.const_eval.specs.Typs.{HasWidth};
+ghost use Rattle.const_eval.specs.Typs.{Typ as Whole};
 ghost use Rattle.const_eval.specs.Values.{combined, both_true as both_true_of, either_true as either_true_of, single, given, truth as truth_of, is_zero as tests_zero};
 
 use crate::Typ;
 use crate::bits::{cut, low_bits, ones};
 use crate::shifts::{bits_shifted_right, product, shifted_left, shifted_right};
+use bit_width::Width;
 use cov_tree::{BinOp, UnOp};
 
 /// 1 for true, 0 for false.
@@ -93,27 +93,25 @@ pub(crate) fn decide(op: BinOp, left: bool, out: &mut i128) -> bool
     }
 }
 
-/// Puts the value of an operation on two values that may be missing into `out`, which holds the first.
+/// Puts the value of an operation on two values that may be missing into `out`, which holds the first. The right operand
+/// has the type `right_typ`.
 #[inline(always)]
 pub(crate) fn combine(
     op: BinOp,
     whole: Typ,
-    amount: u8,
+    right_typ: Typ,
     left: bool,
     right: bool,
     y: i128,
     out: &mut i128,
 ) -> bool
-    requires whole_width { HasWidth whole }
-    requires amount_least { 1 ≤ amount }
-    requires amount_most { amount ≤ 64 }
     requires operand { IsInt y }
     requires before { IsInt out.old }
-    ensures value { given result out.new ≡ combined op whole amount (given left out.old) (given right y) }
+    ensures value { given result out.new ≡ combined op whole right_typ.width (given left out.old) (given right y) }
     ensures range { IsInt out.new }
 {
     if left && right {
-        return operate(op, whole, amount, y, out);
+        return operate(op, whole, right_typ.width(), y, out);
     }
     match op {
         BinOp::LogAnd => both_true(left, right, y, out),
@@ -128,22 +126,19 @@ pub(crate) fn combine(
 /// Puts the value of an operation on two known values into `out`, which holds the first; the whole has the type `whole`,
 /// and the right operand of a shift has `amount` bits. Answers whether there is one.
 #[inline(always)]
-fn operate(op: BinOp, whole: Typ, amount: u8, y: i128, out: &mut i128) -> bool
-    requires least { 1 ≤ whole.width }
-    requires most { whole.width ≤ 64 }
-    requires amount_least { 1 ≤ amount }
-    requires amount_most { amount ≤ 64 }
+fn operate(op: BinOp, whole: Typ, amount: Width, y: i128, out: &mut i128) -> bool
     requires right { IsInt y }
     requires before { IsInt out.old }
     ensures value { given result out.new ≡ combined op whole amount (Some out.old) (Some y) }
     ensures range { IsInt out.new }
 {
     let x = *out;
-    let Typ { width, signed } = whole;
+    let width = whole.width();
+    let signed = whole.is_signed();
     match op {
         BinOp::Add => put(out, cut(width, signed, x + y)),
         BinOp::Sub => put(out, cut(width, signed, x - y)),
-        BinOp::Mul => put(out, product(whole, x, y)),
+        BinOp::Mul => put(out, product(width, signed, x, y)),
         BinOp::Div => !is_zero(y) && put(out, cut(width, signed, x / y)),
         BinOp::Rem => !is_zero(y) && put(out, cut(width, signed, x % y)),
         BinOp::And => put(
@@ -170,7 +165,7 @@ fn operate(op: BinOp, whole: Typ, amount: u8, y: i128, out: &mut i128) -> bool
                 i128::from(low_bits(width, x) ^ low_bits(width, y)),
             ),
         ),
-        BinOp::Shl => put(out, shifted_left(whole, x, low_bits(amount, y))),
+        BinOp::Shl => put(out, shifted_left(width, signed, x, low_bits(amount, y))),
         BinOp::Shr => put(
             out,
             cut(
@@ -179,7 +174,7 @@ fn operate(op: BinOp, whole: Typ, amount: u8, y: i128, out: &mut i128) -> bool
                 i128::from(bits_shifted_right(low_bits(width, x), low_bits(amount, y))),
             ),
         ),
-        BinOp::Sshl => put(out, shifted_left(whole, x, low_bits(amount, y))),
+        BinOp::Sshl => put(out, shifted_left(width, signed, x, low_bits(amount, y))),
         BinOp::Sshr => put(
             out,
             cut(width, signed, shifted_right(x, low_bits(amount, y))),
@@ -197,19 +192,15 @@ fn operate(op: BinOp, whole: Typ, amount: u8, y: i128, out: &mut i128) -> bool
 
 /// The value of an operator before one operand, which has `own` bits.
 #[inline(always)]
-pub(crate) fn operate_alone(op: UnOp, whole: Typ, own: u8, x: i128) -> i128
-    requires least { 1 ≤ whole.width }
-    requires most { whole.width ≤ 64 }
-    requires own_least { 1 ≤ own }
-    requires own_most { own ≤ 64 }
+pub(crate) fn operate_alone(op: UnOp, whole: Typ, own: Width, x: i128) -> i128
     requires operand { IsInt x }
     ensures value { result ≡ single op whole own x }
     ensures range { IsInt result }
 {
     match op {
         UnOp::Plus => x,
-        UnOp::Neg => cut(whole.width, whole.signed, -x),
-        UnOp::Not => cut(whole.width, whole.signed, -x - 1),
+        UnOp::Neg => cut(whole.width(), whole.is_signed(), -x),
+        UnOp::Not => cut(whole.width(), whole.is_signed(), -x - 1),
         UnOp::LogNot => truth(is_zero(x)),
         UnOp::And => truth(low_bits(own, x) == ones(own)),
         UnOp::Or => truth(low_bits(own, x) != 0),

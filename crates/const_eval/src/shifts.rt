@@ -1,33 +1,29 @@
 //! Products and shifts. A shift may be by more than a word has bits.
-ghost use Rattle.std.specs.Prelude.{◌≡◌, ◌≤◌, ◌/◌, ◌^◌, pos, ◌*ℤ◌};
+ghost use Rattle.std.specs.Prelude.{◌≡◌, ◌/◌, ◌^◌, pos, ◌*ℤ◌};
 ghost use Rattle.std.specs.Int.{int_shr};
 ghost use Rattle.cov_base.specs.Sets.{IsInt};
-ghost use Rattle.const_eval.specs.Values.{cut_to};
+ghost use Rattle.const_eval.specs.Values.{cut as cut_of};
 
-use crate::Typ;
 use crate::bits::cut;
+use bit_width::Width;
 
 /// The product.
 #[inline(always)]
-pub(crate) fn product(whole: Typ, x: i128, y: i128) -> i128
-    requires least { 1 ≤ whole.width }
-    requires most { whole.width ≤ 64 }
-    ensures value { result ≡ cut_to whole (x *ℤ y) }
+pub(crate) fn product(width: Width, signed: bool, x: i128, y: i128) -> i128
+    ensures value { result ≡ cut_of width signed (x *ℤ y) }
     ensures range { IsInt result }
 {
-    cut(whole.width, whole.signed, x.wrapping_mul(y))
+    cut(width, signed, x.wrapping_mul(y))
 }
 
 /// The number times 2 to the amount.
 #[inline(always)]
-pub(crate) fn shifted_left(whole: Typ, x: i128, amount: u64) -> i128
-    requires least { 1 ≤ whole.width }
-    requires most { whole.width ≤ 64 }
-    ensures value { result ≡ cut_to whole (x *ℤ pos (2 ^ amount)) }
+pub(crate) fn shifted_left(width: Width, signed: bool, x: i128, amount: u64) -> i128
+    ensures value { result ≡ cut_of width signed (x *ℤ pos (2 ^ amount)) }
     ensures range { IsInt result }
 {
-    if amount < 64 {
-        product(whole, x, i128::from(1u64 << amount))
+    if amount < u64::from(width.get()) {
+        product(width, signed, x, i128::from(1u64 << amount))
     } else {
         0
     }

@@ -1,7 +1,6 @@
 //! Values of bound expressions.
 ghost use Rattle.std.specs.Prelude.{◌≡◌, ◌≤◌, ◌<◌, ◌+◌, ◌*◌, ◌/◌, ◌%◌, ◌^◌, pos, Some};
 ghost use Rattle.cov_base.specs.Sets.{IsInt};
-ghost use Rattle.const_eval.specs.Typs.{HasWidth};
 ghost use Rattle.const_eval.specs.Terms.{typ_in, typ_of as typ_of_term};
 ghost use Rattle.const_eval.specs.Nodes.{term_of, IsTyped, IsWithin};
 ghost use Rattle.const_eval.specs.Values.{given, value_in, value_of, value, on_known, single, cut as cut_of, bits_of};
@@ -11,6 +10,7 @@ use crate::bound::{Node, Typed};
 use crate::operations::{combine, decide, is_zero, operate_alone, put};
 use crate::typs::{either_typ, operand_typs};
 use crate::{Bound, ITEM, Meaning, Typ};
+use bit_width::Width;
 use cov_base::Int;
 use cov_tree::UnOp;
 
@@ -23,8 +23,7 @@ pub(crate) struct Sample<'a> {
 
 /// The type of the expression.
 pub fn typ(bound: &Bound) -> Typ
-    ensures value { result ≡ typ_of_term bound.now }
-    ensures width { HasWidth result }
+    ensures { result ≡ typ_of_term bound.now }
 {
     bound.typed.get().own_typ()
 }
@@ -52,7 +51,6 @@ impl Typed {
         requires { IsTyped self.now }
         ensures value { result ≡ typ_of_term (term_of self.now) }
         ensures kept { result ≡ self.now.typ }
-        ensures width { HasWidth result }
     {
         self.typ
     }
@@ -60,7 +58,6 @@ impl Typed {
     /// Puts the value into `out`, where the type `whole` is handed down, and answers whether there is one.
     fn value(&self, whole: Typ, sample: &Sample<'_>, out: &mut i128) -> bool
         requires sound { IsTyped self.now }
-        requires whole_width { HasWidth whole }
         requires before { IsInt out.old }
         ensures value { given result out.new ≡ value_of (term_of self.now) sample.now.signals.now sample.now.item whole }
         ensures range { IsInt out.new }
@@ -68,11 +65,11 @@ impl Typed {
         match &self.node {
             Node::Number { bits } => put(
                 out,
-                cut(self.own_typ().width, whole.signed, i128::from(*bits)),
+                cut(self.own_typ().width(), whole.is_signed(), i128::from(*bits)),
             ),
             Node::Name { meaning, .. } => value_in_whole(
-                self.own_typ().width,
-                whole.signed,
+                self.own_typ().width(),
+                whole.is_signed(),
                 meaning,
                 sample,
                 out,
@@ -80,25 +77,25 @@ impl Typed {
             Node::Part { meaning, skip, .. } => part_value(
                 meaning,
                 *skip,
-                self.own_typ().width,
+                self.own_typ().width(),
                 sample,
                 out,
             ),
             Node::Alone(inner) => {
                 let own = inner.own_typ();
-                inner.value(own, sample, out) && keep_bits(own.width, out)
+                inner.value(own, sample, out) && keep_bits(own.width(), out)
             }
             Node::Joined(front, last) => {
                 let (front_typ, last_typ) = (front.own_typ(), last.own_typ());
                 let mut right = 0;
                 front.value(front_typ, sample, out)
                     && last.value(last_typ, sample, &mut right)
-                    && join(front_typ.width, last_typ.width, right, out)
+                    && join(front_typ.width(), last_typ.width(), right, out)
             }
             Node::Unary(op, inner) => {
                 let own = inner.own_typ();
                 inner.value(either_typ(*op, whole, own), sample, out)
-                    && apply(*op, whole, own.width, out)
+                    && apply(*op, whole, own.width(), out)
             }
             Node::Binary(op, left, right) => {
                 let (left_typ, right_typ) = (left.own_typ(), right.own_typ());
@@ -109,7 +106,7 @@ impl Typed {
                 }
                 let mut y = 0;
                 let right_known = right.value(second, sample, &mut y);
-                combine(*op, whole, right_typ.width, left_known, right_known, y, out)
+                combine(*op, whole, right_typ, left_known, right_known, y, out)
             }
             Node::Cond(test, first, second) => {
                 if !test.value(test.own_typ(), sample, out) {
@@ -162,14 +159,12 @@ fn value_of_name(meaning: &Meaning, sample: &Sample<'_>, out: &mut i128) -> bool
 /// Puts the value of a name into `out`, its bits read by the sign of the whole.
 #[inline(always)]
 fn value_in_whole(
-    width: u8,
+    width: Width,
     signed: bool,
     meaning: &Meaning,
     sample: &Sample<'_>,
     out: &mut i128,
 ) -> bool
-    requires least { 1 ≤ width }
-    requires most { width ≤ 64 }
     requires before { IsInt out.old }
     ensures value { given result out.new ≡ on_known (cut_of width signed) (value_in meaning.now sample.now.signals.now sample.now.item) }
     ensures range { IsInt out.new }
@@ -183,11 +178,8 @@ fn value_in_whole(
 
 /// The bits from bit `skip` on of a number of so many bits.
 #[inline(always)]
-fn bits_from(own: u8, skip: u8, width: u8, number: i128) -> i128
-    requires least { 1 ≤ own }
-    requires most { own ≤ 64 }
-    requires part_least { 1 ≤ width }
-    requires part_most { skip + width ≤ own }
+fn bits_from(own: Width, skip: u8, width: Width, number: i128) -> i128
+    requires { skip + width ≤ own }
     ensures value { result ≡ pos (bits_of own number / 2 ^ skip % 2 ^ width) }
     ensures range { IsInt result }
 {
@@ -197,22 +189,18 @@ fn bits_from(own: u8, skip: u8, width: u8, number: i128) -> i128
 
 /// Bits before other bits.
 #[inline(always)]
-fn beside(front: u8, last: u8, left: u64, right: u64) -> u64
-    requires last_least { 1 ≤ last }
-    requires front_least { 1 ≤ front }
+fn beside(front: Width, last: Width, left: u64, right: u64) -> u64
     requires most { front + last ≤ 64 }
     requires left_below { left < 2 ^ front }
     requires right_below { right < 2 ^ last }
     ensures { result ≡ left * 2 ^ last + right }
 {
-    (left << last) + right
+    (left << last.get()) + right
 }
 
 /// The bits of `front` before those of `last`.
 #[inline(always)]
-fn joined(front: u8, last: u8, x: i128, y: i128) -> i128
-    requires front_least { 1 ≤ front }
-    requires last_least { 1 ≤ last }
+fn joined(front: Width, last: Width, x: i128, y: i128) -> i128
     requires most { front + last ≤ 64 }
     ensures value { result ≡ pos (bits_of front x * 2 ^ last + bits_of last y) }
     ensures range { IsInt result }
@@ -222,10 +210,7 @@ fn joined(front: u8, last: u8, x: i128, y: i128) -> i128
 
 /// Puts the value of an operator before the operand in `out` there.
 #[inline(always)]
-fn apply(op: UnOp, whole: Typ, own: u8, out: &mut i128) -> bool
-    requires whole_width { HasWidth whole }
-    requires own_least { 1 ≤ own }
-    requires own_most { own ≤ 64 }
+fn apply(op: UnOp, whole: Typ, own: Width, out: &mut i128) -> bool
     requires before { IsInt out.old }
     ensures value { given result out.new ≡ Some (single op whole own out.old) }
     ensures range { IsInt out.new }
@@ -236,9 +221,7 @@ fn apply(op: UnOp, whole: Typ, own: u8, out: &mut i128) -> bool
 
 /// Puts the bits of the number in `out` there.
 #[inline(always)]
-fn keep_bits(width: u8, out: &mut i128) -> bool
-    requires least { 1 ≤ width }
-    requires most { width ≤ 64 }
+fn keep_bits(width: Width, out: &mut i128) -> bool
     ensures value { given result out.new ≡ Some (pos (bits_of width out.old)) }
     ensures range { IsInt out.new }
 {
@@ -248,9 +231,7 @@ fn keep_bits(width: u8, out: &mut i128) -> bool
 
 /// Puts the bits of the number in `out` there, with those of `y` behind them.
 #[inline(always)]
-fn join(front: u8, last: u8, y: i128, out: &mut i128) -> bool
-    requires front_least { 1 ≤ front }
-    requires last_least { 1 ≤ last }
+fn join(front: Width, last: Width, y: i128, out: &mut i128) -> bool
     requires most { front + last ≤ 64 }
     ensures value { given result out.new ≡ Some (pos (bits_of front out.old * 2 ^ last + bits_of last y)) }
     ensures range { IsInt out.new }
@@ -261,14 +242,19 @@ fn join(front: u8, last: u8, y: i128, out: &mut i128) -> bool
 
 /// Puts bits of the value of a name into `out`.
 #[inline(always)]
-fn part_value(meaning: &Meaning, skip: u8, width: u8, sample: &Sample<'_>, out: &mut i128) -> bool
-    requires least { 1 ≤ width }
+fn part_value(
+    meaning: &Meaning,
+    skip: u8,
+    width: Width,
+    sample: &Sample<'_>,
+    out: &mut i128,
+) -> bool
     requires within { IsWithin (typ_in meaning.now) skip width }
     requires before { IsInt out.old }
     ensures value { given result out.new ≡ on_known (λ x. pos (bits_of (typ_in meaning.now).width x / 2 ^ skip % 2 ^ width)) (value_in meaning.now sample.now.signals.now sample.now.item) }
     ensures range { IsInt out.new }
 {
-    let own = meaning.typ().width;
+    let own = meaning.typ().width();
     if !value_of_name(meaning, sample, out) {
         return false;
     }

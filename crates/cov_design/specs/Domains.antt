@@ -6,7 +6,7 @@ use Rattle.cov_tree.specs.declared.expr.Expr.{Expr}
 use Rattle.cov_tree.specs.declared.expr.Expr.TheViews.{out-Expr}
 use Rattle.cov_tree.specs.declared.expr.Expr.TheOpen as expr
 use Rattle.cov_tree.specs.declared.expr.Expr.TheOpen.{Expr-F}
-use Rattle.const_eval.specs.declared.typs.Typ.{Typ}
+use Rattle.const_eval.specs.Typs.{Typ}
 use Rattle.elab_base.specs.declared.names.What.{What}
 use Rattle.elab_decls.specs.declared.outside.Outside.{Outside}
 use Rattle.elab_decls.specs.declared.outside.Enumeration.{Enumeration}

@@ -1,7 +1,6 @@
 //! The numbers of points.
 ghost use Rattle.std.specs.Prelude.{◌≡◌, map, slice_get, option_copied, IfOk};
 ghost use Rattle.name_map.specs.Names.{meaning_of};
-ghost use Rattle.const_eval.specs.Typs.{HasWidth};
 ghost use Rattle.cov_design.specs.Domains.{first_what, what_named, constants_in, domain_of_enumeration, domain_by, domain_of_point};
 
 use const_eval::Typ;
@@ -52,7 +51,6 @@ fn constants_of(alloc: Global, enumeration: &Enumeration) -> Result<Vec<Constant
 }
 
 fn enumerated(alloc: Global, typ: Typ, enumeration: Option<&Enumeration>) -> Result<Domain, Memory>
-    requires { HasWidth typ }
     ensures { IfOk result (λ domain. domain ≡ domain_of_enumeration typ (option_copied enumeration.entry)) }
 {
     match enumeration {
@@ -70,7 +68,6 @@ fn domain_at(
     typ: Typ,
     place: Option<u32>,
 ) -> Result<Domain, Memory>
-    requires { HasWidth typ }
     ensures { IfOk result (λ domain. domain ≡ domain_by outside.now typ place) }
 {
     match place {
@@ -92,7 +89,6 @@ pub(crate) fn point_domain(
     expr: &Expr,
     typ: Typ,
 ) -> Result<Domain, Memory>
-    requires { HasWidth typ }
     ensures { IfOk result (λ domain. domain ≡ domain_of_point outside.now formals.now expr.now typ) }
 {
     match expr {

@@ -3,7 +3,6 @@ ghost use Rattle.std.specs.Prelude.{◌≡◌, ◌<◌, [], OnOk, IfOk, Some, ma
 ghost use Rattle.name_map.specs.Names.{with_names};
 ghost use Rattle.design_data.specs.declared.infos.ItemShape.TheVariants.{Point};
 ghost use Rattle.cov_ground.specs.Limits.{most_items};
-ghost use Rattle.const_eval.specs.Typs.{HasWidth};
 ghost use Rattle.const_eval.specs.Terms.{typ_of as typ_of_term};
 ghost use Rattle.const_eval.specs.Binding.{has_width as tests_width};
 ghost use Rattle.elab_base.specs.declared.fault.ElabKind.TheVariants as kinds;
@@ -78,7 +77,7 @@ pub(crate) fn name_of(alloc: Global, point: &PointDecl, k: usize) -> Result<Name
 fn check_width(expr: &Bound, at: u32) -> Result<(), ElabFault>
     ensures { Gives result (needs (tests_width (typ_of_term expr.now).width) kinds.TooWide at) }
 {
-    if !has_width(typ(expr).width) {
+    if !has_width(typ(expr).width().get()) {
         return Err(ElabKind::TooWide.at(at));
     }
     Ok(())
@@ -191,7 +190,6 @@ fn settings(inside: &Inside, head: &Head) -> Settings
 }
 
 /// The numbers of a point.
-#[tactic(auto, using(crate::proofs::Heads::domain_width))]
 fn domain_in(
     alloc: Global,
     outside: &Outside,
@@ -199,11 +197,15 @@ fn domain_in(
     head: &Head,
     point: &PointDecl,
 ) -> Result<Domain, Memory>
-    ensures is { IfOk result (λ domain. domain ≡ domain_of_point outside.now inside.now.names point.now.expr (typ_of_term head.now.expr)) }
-    ensures width { IfOk result (λ domain. HasWidth domain.typ) }
+    ensures { IfOk result (λ domain. domain ≡ domain_of_point outside.now inside.now.names point.now.expr (typ_of_term head.now.expr)) }
 {
-    let domain = point_domain(alloc, outside, &inside.names, &point.expr, typ(&head.expr))?;
-    Ok(domain)
+    point_domain(
+        alloc,
+        outside,
+        &inside.names,
+        &point.expr,
+        typ(&head.expr),
+    )
 }
 
 /// The bins of a point with these numbers.
@@ -216,8 +218,7 @@ fn bins_in(
     head: &Head,
     point: &PointDecl,
 ) -> Result<PointBins, ElabFault>
-    requires width { HasWidth domain.now.typ }
-    requires range { AreInRange head.now.options }
+    requires { AreInRange head.now.options }
     ensures { Gives result (bins_of_point outside.now.scope domain.now head.now.name (settings_of inside.now head.now) point.now.bins point.now.at) }
 {
     let settings = settings(inside, head);
@@ -245,7 +246,6 @@ fn add_bins(
     items: &mut Items,
 ) -> Result<(), ElabFault>
     requires room { items.old.counts.items < most_items }
-    requires width { HasWidth domain.typ }
     requires range { AreInRange head.options }
     ensures { Makes result items.new (bins_headed outside.now inside.now domain head point.now items.old) }
 {

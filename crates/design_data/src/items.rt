@@ -93,7 +93,7 @@ fn is_cross(
 fn is_point(expr: &Bound, item: &ItemInfo) -> bool
     ensures { IsTrue result ↔ (HasWidth (typ_of expr.now).width × ArePointRules item.now item.now.bins) }
 {
-    if !is_width(typ(expr).width) {
+    if !is_width(typ(expr).width().get()) {
         return false;
     }
     are_point_rules(item, item.bins.as_slice())

@@ -6,7 +6,7 @@ use Rattle.cov_ground.specs.Limits.{most_signals, most_arguments, longest_design
 use Rattle.cov_tree.specs.declared.expr.Expr.{Expr}
 use Rattle.cov_tree.specs.declared.groups.Formal.{Formal}
 use Rattle.cov_tree.specs.declared.declarations.TypeText.{TypeText}
-use Rattle.const_eval.specs.declared.typs.Typ.{Typ}
+use Rattle.const_eval.specs.Typs.{Typ}
 use Rattle.design_data.specs.declared.infos.Signal.{Signal}
 use Rattle.design_data.specs.Limits.{HasWidth}
 use Rattle.elab_base.specs.declared.fault.ElabKind.TheVariants as kind

@@ -6,7 +6,7 @@ use Rattle.cov_ground.specs.Limits.{longest_design}
 use Rattle.name_map.specs.Names.{with_name}
 use Rattle.cov_tree.specs.declared.declarations.TypeText.{TypeText}
 use Rattle.cov_tree.specs.declared.expr.Expr.{Expr}
-use Rattle.const_eval.specs.declared.typs.Typ.{Typ}
+use Rattle.const_eval.specs.Typs.{Typ}
 use Rattle.const_eval.specs.declared.meaning.Meaning.TheVariants.{Const}
 use Rattle.const_eval.specs.Scopes.{Levels}
 use Rattle.elab_base.specs.declared.fault.ElabKind.TheVariants as kind

@@ -9,7 +9,7 @@ use Rattle.cov_tree.specs.declared.expr.Expr.TheViews.{out-Expr}
 use Rattle.cov_tree.specs.declared.expr.Expr.TheOpen as expr
 use Rattle.cov_tree.specs.declared.expr.Expr.TheOpen.{Expr-F}
 use Rattle.cov_tree.specs.declared.groups.Formal.{Formal}
-use Rattle.const_eval.specs.declared.typs.Typ.{Typ}
+use Rattle.const_eval.specs.Typs.{Typ}
 use Rattle.const_eval.specs.declared.meaning.Meaning.{Meaning}
 use Rattle.const_eval.specs.declared.meaning.Meaning.TheVariants.{Signal, Const}
 use Rattle.const_eval.specs.Scopes.{names_of}

@@ -5,7 +5,7 @@ use Rattle.name_map.specs.Names.{meaning_of}
 use Rattle.cov_tree.specs.Widths.{bits_of}
 use Rattle.cov_tree.specs.declared.declarations.TypeText.{TypeText}
 use Rattle.cov_tree.specs.declared.declarations.TypeText.TheVariants as texts
-use Rattle.const_eval.specs.declared.typs.Typ.{Typ}
+use Rattle.const_eval.specs.Typs.{Typ}
 use Rattle.const_eval.specs.Binding.{has_width}
 use Rattle.elab_base.specs.declared.fault.ElabKind.TheVariants as kind
 use Rattle.elab_base.specs.declared.names.What.{What}

@@ -1,7 +1,6 @@
 //! The constants of an enumeration.
 ghost use Rattle.std.specs.Prelude.{◌≡◌, pos, ◌+ℤ◌, [], ◌∷◌, ◌++◌, IfOk, OnOk, Some, None, if◌then◌else◌};
 ghost use Rattle.bin_spec.specs.Types.{lowest, highest};
-ghost use Rattle.const_eval.specs.Typs.{HasWidth};
 ghost use Rattle.elab_base.specs.Gives.{Gives, Makes};
 ghost use Rattle.elab_decls.specs.Shapes.{is_number};
 ghost use Rattle.elab_decls.specs.Enumerations.{value_in, valued, known_constant, constant, constants_walked, MakesWith};
@@ -39,11 +38,10 @@ fn value(alloc: Global, scope: &Scope, next: i128, expr: &Option<Expr>) -> Resul
 
 /// The least number of a type.
 fn lowest_of(typ: Typ) -> Int
-    requires { HasWidth typ }
     ensures { result ≡ lowest typ.width typ.signed }
 {
-    if typ.signed {
-        Int::of(-(1i128 << (typ.width - 1)))
+    if typ.is_signed() {
+        Int::of(-(1i128 << (typ.width().get() - 1)))
     } else {
         Int::of(0)
     }
@@ -51,19 +49,17 @@ fn lowest_of(typ: Typ) -> Int
 
 /// The greatest number of a type.
 fn highest_of(typ: Typ) -> Int
-    requires { HasWidth typ }
     ensures { result ≡ highest typ.width typ.signed }
 {
-    if typ.signed {
-        Int::of((1i128 << (typ.width - 1)) - 1)
+    if typ.is_signed() {
+        Int::of((1i128 << (typ.width().get() - 1)) - 1)
     } else {
-        Int::of((1i128 << typ.width) - 1)
+        Int::of((1i128 << typ.width().get()) - 1)
     }
 }
 
 /// The number, where it is one of the type.
 fn number_of(typ: Typ, value: i128) -> Option<Int>
-    requires { HasWidth typ }
     ensures { result ≡ (if is_number typ value then Some value else None) }
 {
     let low = lowest_of(typ).get();
@@ -78,7 +74,6 @@ fn number_of(typ: Typ, value: i128) -> Option<Int>
 /// The value as a new one of the base.
 #[tactic(auto, unfolding(elab_base::specs::Gives::needs, crate::specs::Enumerations::valued))]
 fn add_value(typ: Typ, value: i128, at: u32, values: &mut Numbers) -> Result<Int, ElabFault>
-    requires { HasWidth typ }
     ensures gives { Gives result (valued typ values.old value at) }
     ensures added { IfOk result (λ v. values.new ≡ values.old ++ v ∷ []) }
 {
@@ -135,7 +130,6 @@ fn add_constant(
     outside: &mut Outside,
     all: &mut Constants,
 ) -> Result<(), ElabFault>
-    requires { HasWidth typ }
     ensures { Makes result (outside.new, all.new) (constant typ at named.now (outside.old, all.old)) }
 {
     check_unused(&outside.names, &named.0, at)?;
@@ -155,7 +149,6 @@ pub(crate) fn walk_constants(
     names: &[(Name, Option<Expr>)],
     outside: &mut Outside,
 ) -> Result<Constants, ElabFault>
-    requires { HasWidth typ }
     ensures { MakesWith result outside.new (constants_walked typ at names.now outside.old) }
 {
     let mut all = Constants {

@@ -1,13 +1,13 @@
 //! Enumerations.
 ghost use Rattle.std.specs.Prelude.{◌≡◌, ◌<◌, length, OnOk, IfOk};
 ghost use Rattle.cov_ground.specs.Limits.{longest_design};
-ghost use Rattle.const_eval.specs.Typs.{HasWidth};
 ghost use Rattle.elab_base.specs.Gives.{Gives, Makes};
 ghost use Rattle.elab_decls.specs.Enumerations.{base_shape, type_named, with_enumeration, enumeration};
 
 use crate::constants::{Constants, walk_constants};
 use crate::shapes::{plain, read_shape};
 use crate::{Enumeration, Outside, Shape};
+use bit_width::Width;
 use cov_ground::Memory;
 use cov_ground::limits::LONGEST_DESIGN;
 use cov_tree::{Expr, Name, TypeText};
@@ -25,11 +25,10 @@ fn read_base(
     base: &Option<TypeText>,
     at: u32,
 ) -> Result<Shape, ElabFault>
-    ensures gives { Gives result (base_shape outside.now base.now at) }
-    ensures width { IfOk result (λ shape. HasWidth shape.typ) }
+    ensures { Gives result (base_shape outside.now base.now at) }
 {
     match base {
-        None => Ok(plain(INT_BITS, true)),
+        None => Ok(plain(Width::of(INT_BITS), true)),
         Some(typ) => read_shape(alloc, outside, typ, at),
     }
 }

@@ -2,7 +2,6 @@
 ghost use Rattle.std.specs.Prelude.{◌≡◌, slice_get, option_copied, is_some, OnOk, Some};
 ghost use Rattle.std.specs.List.{list_all};
 ghost use Rattle.const_eval.specs.declared.meaning.Meaning.TheVariants.{Const};
-ghost use Rattle.const_eval.specs.Typs.{HasWidth};
 ghost use Rattle.const_eval.specs.Values.{cut_to as cut_to_typ};
 ghost use Rattle.elab_base.specs.Gives.{Gives, Makes, each_at};
 ghost use Rattle.elab_decls.specs.Formals.{formal_meant, argument_or, given_meant, with_formal, formal as formal_of, args_fit, formals_walked, samples_walked, formals_of};
@@ -31,7 +30,6 @@ pub struct Formals {
 
 /// A number cut to the type of a formal.
 fn constant(shape: Shape, number: Int) -> Meaning
-    requires { HasWidth shape.typ }
     ensures { result ≡ Const (cut_to_typ shape.typ number) shape.typ (Some shape.low) }
 {
     Meaning::Const {
@@ -50,7 +48,6 @@ fn formal_meaning(
     shape: Shape,
     expr: &Expr,
 ) -> Result<Meaning, ElabFault>
-    requires { HasWidth shape.typ }
     ensures { Gives result (formal_meant outside.now by_ref shape expr.now) }
 {
     if by_ref {
@@ -80,7 +77,6 @@ fn given_meaning(
     given: Option<&Expr>,
     at: u32,
 ) -> Result<Meaning, ElabFault>
-    requires { HasWidth shape.typ }
     ensures { Gives result (given_meant outside.now by_ref shape (option_copied given.entry) at) }
 {
     match given {

@@ -10,6 +10,7 @@ ghost use Rattle.elab_decls.specs.Laws.{AreDistinct};
 /// The formals and the sample arguments of an instance have distinct names.
 #[tactic(auto, using(crate::proofs::Lawful::formals_distinct))]
 pub fn formals_are_distinct()
-    ensures { (outside : Outside) (formals samples : List Formal) (args : List Expr) (at : ℕ) (all : Formals)
-        → formals_of outside formals samples args at ≡ Ok all → AreDistinct all.names }
+    ensures { (outside : Outside) (formals samples : List Formal) (args : List Expr) (at : ℕ)
+        (all : Formals) → formals_of outside formals samples args at ≡ Ok all
+        → AreDistinct all.names }
 {}

@@ -36,7 +36,8 @@ impl Numbers {
     pub fn insert(&mut self, number: i128) -> Result<bool, Memory>
         ensures is_new { IfOk result (λ is_new. is_new ≡ not (list_any (int_eq number) self.old)) }
         ensures added { OnOk result
-            (self.new ≡ (if list_any (int_eq number) self.old then self.old else self.old ++ number ∷ [])) }
+            (self.new ≡ (if list_any (int_eq number) self.old then self.old
+            else self.old ++ number ∷ [])) }
     {
         Ok(self.set.insert(number)?)
     }

@@ -39,8 +39,8 @@ fn is_enumerated_alike(enumeration: Option<u32>, other: Option<u32>) -> bool
 fn is_alike(shape: Shape, typ: Typ, enumeration: Option<u32>) -> bool
     ensures { result ≡ is_alike_meant shape typ enumeration }
 {
-    typ.width == shape.typ.width
-        && is_signed_alike(typ.signed, shape.typ.signed)
+    typ.width() == shape.typ.width()
+        && is_signed_alike(typ.is_signed(), shape.typ.is_signed())
         && is_enumerated_alike(enumeration, shape.enumeration)
 }
 

@@ -48,8 +48,8 @@ fn keep_argument(alloc: Global, name: &Name, shape: Shape, all: &mut Formals) ->
     )?;
     all.args.push(Signal {
         name: name.share()?,
-        width: shape.typ.width,
-        signed: shape.typ.signed,
+        width: shape.typ.width().get(),
+        signed: shape.typ.is_signed(),
     })?;
     Ok(())
 }

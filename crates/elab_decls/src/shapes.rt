@@ -1,15 +1,16 @@
 //! Types.
-ghost use Rattle.std.specs.Prelude.{◌≡◌, IfOk, true, option_copied};
+ghost use Rattle.std.specs.Prelude.{◌≡◌, true, option_copied};
+ghost use Rattle.cov_tree.specs.Widths.{bits_of};
 ghost use Rattle.name_map.specs.Names.{meaning_of};
-ghost use Rattle.const_eval.specs.Typs.{HasWidth};
 ghost use Rattle.const_eval.specs.Binding.{has_width as tests_width};
 ghost use Rattle.elab_base.specs.Gives.{Gives};
 ghost use Rattle.elab_decls.specs.Shapes.{is_span, span_shape, plain_shape, enumerated, named_shape, shape_of};
 
 use crate::{Enumeration, Outside, Shape};
+use bit_width::Width;
 use const_eval::Typ;
 use cov_ground::limits::MOST_BITS;
-use cov_tree::{Name, TypeText};
+use cov_tree::{FixedWidth, Name, TypeText};
 use elab_base::{ElabFault, ElabKind, What, number_in};
 use std::alloc::Global;
 
@@ -25,21 +26,18 @@ fn span(signed: bool, high: i128, low: i128) -> Shape
     ensures { result ≡ span_shape signed high low }
 {
     Shape {
-        typ: Typ {
-            width: (high - low) as u8 + 1,
-            signed,
-        },
+        typ: Typ::of(Width::of((high - low) as u8 + 1), signed),
         low: low as u8,
         enumeration: None,
     }
 }
 
 /// A type of so many bits without a span.
-pub(crate) fn plain(width: u8, signed: bool) -> Shape
+pub(crate) fn plain(width: Width, signed: bool) -> Shape
     ensures { result ≡ plain_shape width signed }
 {
     Shape {
-        typ: Typ { width, signed },
+        typ: Typ::of(width, signed),
         low: 0,
         enumeration: None,
     }
@@ -59,7 +57,7 @@ fn shape_at(place: u32, found: Option<&Enumeration>, at: u32) -> Result<Shape, E
     match found {
         None => Err(ElabKind::UnknownType.at(at)),
         Some(enumeration) => {
-            if !has_width(enumeration.typ.width) {
+            if !has_width(enumeration.typ.width().get()) {
                 return Err(ElabKind::TooWide.at(at));
             }
             Ok(Shape {
@@ -83,6 +81,14 @@ fn shape_named(outside: &Outside, what: Option<What>, at: u32) -> Result<Shape, 
     }
 }
 
+/// The width of a type that has a name of the language's own.
+#[tactic(auto, using(crate::proofs::Widths::fixed_width))]
+fn width_of(width: FixedWidth) -> Width
+    ensures { result ≡ bits_of width }
+{
+    Width::of(width.bits())
+}
+
 /// What the name of a type stands for.
 fn what_is(outside: &Outside, name: &Name) -> Option<What>
     ensures { result ≡ meaning_of outside.now.names name.now }
@@ -90,8 +96,15 @@ fn what_is(outside: &Outside, name: &Name) -> Option<What>
     outside.names.get(name.as_slice()).copied()
 }
 
+/// A type as it is written in a declaration at `at` (IEEE 1800-2017, 6.11): its width, its sign, the low end of its span,
+/// and the enumeration that it is.
 #[tactic(auto, unfolding(crate::specs::Shapes::shape_of, elab_base::specs::Gives::needs))]
-fn shape_as(alloc: Global, outside: &Outside, typ: &TypeText, at: u32) -> Result<Shape, ElabFault>
+pub fn read_shape(
+    alloc: Global,
+    outside: &Outside,
+    typ: &TypeText,
+    at: u32,
+) -> Result<Shape, ElabFault>
     ensures { Gives result (shape_of outside.now typ.now at) }
 {
     match typ {
@@ -99,7 +112,7 @@ fn shape_as(alloc: Global, outside: &Outside, typ: &TypeText, at: u32) -> Result
             signed,
             span: None,
             ..
-        } => Ok(plain(1, *signed)),
+        } => Ok(plain(Width::of(1), *signed)),
         TypeText::Vector {
             signed,
             span: Some(ends),
@@ -112,25 +125,9 @@ fn shape_as(alloc: Global, outside: &Outside, typ: &TypeText, at: u32) -> Result
             }
             Ok(span(*signed, high, low))
         }
-        TypeText::Fixed { width, signed } => Ok(plain(width.bits(), *signed)),
+        TypeText::Fixed { width, signed } => Ok(plain(width_of(*width), *signed)),
         TypeText::Named { name, at: place } => {
             shape_named(outside, what_is(outside, name), *place)
         }
     }
-}
-
-/// A type as it is written in a declaration at `at` (IEEE 1800-2017, 6.11): its width, its sign, the low end of its span,
-/// and the enumeration that it is.
-#[tactic(auto, using(crate::proofs::Widths::shape_width))]
-pub fn read_shape(
-    alloc: Global,
-    outside: &Outside,
-    typ: &TypeText,
-    at: u32,
-) -> Result<Shape, ElabFault>
-    ensures gives { Gives result (shape_of outside.now typ.now at) }
-    ensures width { IfOk result (λ shape. HasWidth shape.typ) }
-{
-    let shape = shape_as(alloc, outside, typ, at)?;
-    Ok(shape)
 }

@@ -51,8 +51,8 @@ fn keep_signal(
     )?;
     outside.signals.push(Signal {
         name: name.share()?,
-        width: shape.typ.width,
-        signed: shape.typ.signed,
+        width: shape.typ.width().get(),
+        signed: shape.typ.is_signed(),
     })?;
     Ok(())
 }

@@ -12,7 +12,7 @@ use Rattle.cov_tree.specs.declared.bins.Right.{Right}
 use Rattle.cov_tree.specs.declared.bins.Right.TheVariants as rights
 use Rattle.cov_tree.specs.declared.bins.Size.{Size}
 use Rattle.cov_tree.specs.declared.bins.Size.TheVariants as sizes
-use Rattle.const_eval.specs.declared.typs.Typ.{Typ}
+use Rattle.const_eval.specs.Typs.{Typ}
 use Rattle.const_eval.specs.Terms.{Term}
 use Rattle.const_eval.specs.Scopes.{Levels}
 use Rattle.trans_seq.specs.declared.seq.Seq.{Seq}

@@ -58,7 +58,7 @@ use Rattle.elab_points.specs.Rest.{rest_bin, all_bins, unlisted, entries_counted
 use Rattle.elab_points.specs.Automatic.{auto_head, auto_bin, constant_bin, automatic_by, automatic, declares_coverage, automatic_added, automatic_binned, with_automatic}
 use Rattle.elab_points.specs.Laws.{bins_declared_in, RemovalKeepsListed}
 use Rattle.auto_bins.specs.Automatic.{automatic_ranges}
-use Rattle.const_eval.specs.declared.typs.Typ.{Typ}
+use Rattle.const_eval.specs.Typs.{Typ}
 use Rattle.elab_values.specs.declared.domain.Constant.{Constant}
 use Rattle.design_data.specs.declared.infos.BinInfo.{BinInfo}
 

@@ -9,8 +9,7 @@ use Rattle.auto_bins.specs.Automatic.{automatic_ranges}
 use Rattle.cov_tree.specs.declared.bins.Word.{Word}
 use Rattle.cov_tree.specs.declared.bins.Word.TheVariants as words
 use Rattle.cov_tree.specs.declared.bins.BinsDecl.{BinsDecl}
-use Rattle.const_eval.specs.declared.typs.Typ.{Typ}
-use Rattle.const_eval.specs.Typs.{HasWidth}
+use Rattle.const_eval.specs.Typs.{Typ}
 use Rattle.design_data.specs.declared.infos.BinKind.TheVariants.{CvgBin}
 use Rattle.elab_base.specs.declared.fault.ElabKind.TheVariants as kind
 use Rattle.elab_base.specs.Gives.{Refusal, ◌>>=◌, needs}
@@ -23,9 +22,8 @@ use Rattle.elab_points.specs.declared.declared.Walked.{Walked}
 use Rattle.elab_points.specs.declared.made.Head.{Head}
 use Rattle.elab_points.specs.Made.{indexed, value_bin}
 
--- a point's type has 1 to 64 bits, and it may have 1 to 65,536 automatic bins
-pub record CanHaveBins (domain : Domain) (settings : Settings) : Type 0 where
-  pub typ : HasWidth domain.typ
+-- a point may have 1 to 65,536 automatic bins
+pub record CanHaveBins (settings : Settings) : Type 0 where
   pub some : 1 ≤ settings.auto_bin_max
   pub most : settings.auto_bin_max ≤ most_bins
 

@@ -5,7 +5,7 @@ use Rattle.cov_ground.specs.Limits.{most_values}
 use Rattle.cov_tree.specs.declared.expr.Expr.{Expr}
 use Rattle.cov_tree.specs.declared.bins.Right.{Right}
 use Rattle.cov_tree.specs.declared.bins.Right.TheVariants as rights
-use Rattle.const_eval.specs.declared.typs.Typ.{Typ}
+use Rattle.const_eval.specs.Typs.{Typ}
 use Rattle.const_eval.specs.Terms.{Term}
 use Rattle.const_eval.specs.Scopes.{Levels, names_with}
 use Rattle.const_eval.specs.Binding.{bound_of, first_signal}

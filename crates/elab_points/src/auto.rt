@@ -108,7 +108,7 @@ fn automatic_bins(
     settings: Settings,
     at: u32,
 ) -> Result<Vec<Made>, Memory>
-    requires { CanHaveBins domain.now settings }
+    requires { CanHaveBins settings }
     ensures { IfOk result (λ bins. bins.items ≡ automatic domain.now settings at) }
 {
     let head = auto_head(alloc, at)?;
@@ -116,8 +116,8 @@ fn automatic_bins(
         Some(constants) => constant_bins(alloc, &head, constants.as_slice()),
         None => {
             let typ = Typ2 {
-                width: Width::of(domain.typ.width),
-                signed: domain.typ.signed,
+                width: domain.typ.width(),
+                signed: domain.typ.is_signed(),
             };
             let ranges = auto_ranges(alloc, typ, settings.auto_bin_max)?;
             range_bins(alloc, &head, ranges.as_slice())
@@ -150,7 +150,7 @@ fn bin_automatic(
     at: u32,
     walked: &mut Walked,
 ) -> Result<(), ElabFault>
-    requires { CanHaveBins domain.now settings }
+    requires { CanHaveBins settings }
     ensures { Makes result walked.new (automatic_binned domain.now settings at walked.old) }
 {
     let bins = automatic_bins(alloc, domain, settings, at)?;
@@ -186,7 +186,7 @@ pub(crate) fn add_undeclared(
     at: u32,
     walked: &mut Walked,
 ) -> Result<(), ElabFault>
-    requires { CanHaveBins domain.now settings }
+    requires { CanHaveBins settings }
     ensures { Makes result walked.new (with_automatic domain.now settings decls.now at walked.old) }
 {
     if has_coverage(decls) {

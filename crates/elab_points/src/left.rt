@@ -200,7 +200,7 @@ pub fn point_bins(
     decls: &[BinsDecl],
     at: u32,
 ) -> Result<PointBins, ElabFault>
-    requires { CanHaveBins domain.now settings }
+    requires { CanHaveBins settings }
     ensures { Gives result (bins_of_point scope.now domain.now name.now settings decls.now at) }
 {
     let manner = manner_of(domain, settings, decls);

@@ -3,7 +3,7 @@
 use Rattle.std.specs.Prelude.{ℤ, pos, int_le, ◌-◌, List, [], ◌∷◌, length, map, slice_get, Option, Some, None, if◌then◌else◌}
 use Rattle.cov_base.specs.Sets.{written, set_of}
 use Rattle.bin_spec.specs.Types.{lowest, highest}
-use Rattle.const_eval.specs.declared.typs.Typ.{Typ}
+use Rattle.const_eval.specs.Typs.{Typ}
 use Rattle.elab_values.specs.declared.domain.Constant.{Constant}
 use Rattle.elab_values.specs.declared.domain.Domain.{Domain}
 

@@ -1,6 +1,5 @@
 //! The numbers of a coverpoint.
 ghost use Rattle.std.specs.Prelude.{◌≡◌, IfOk, slice_get, map};
-ghost use Rattle.const_eval.specs.Typs.{HasWidth};
 ghost use Rattle.elab_values.specs.Domains.{domain_of_typ, by_value, value_or, constant_range, domain_of_sorted as domain_sorted, domain_of_constants as domain_meant};
 
 use const_eval::Typ;
@@ -33,11 +32,10 @@ pub struct Domain {
 
 /// The numbers of a type: those of a coverpoint whose expression isn't the name of something enumerated.
 pub fn domain_of(alloc: Global, typ: Typ) -> Result<Domain, Memory>
-    requires { HasWidth typ }
     ensures { IfOk result (λ domain. domain ≡ domain_of_typ typ) }
 {
-    let low = lowest_of(typ.width, typ.signed);
-    let high = highest_of(typ.width, typ.signed);
+    let low = lowest_of(typ.width().get(), typ.is_signed());
+    let high = highest_of(typ.width().get(), typ.is_signed());
     let numbers = ValueSet::from_ranges(alloc, &[(low, high)])?;
     Ok(Domain {
         typ,

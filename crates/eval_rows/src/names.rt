@@ -1,4 +1,5 @@
 //! The names of the rows: signals, an enumeration's constant k, a formal f and `item`.
+use bit_width::Width;
 use const_eval::{Meaning, Scope, Typ};
 use cov_base::Int;
 use cov_tree::{List, Name};
@@ -100,10 +101,7 @@ fn add_name(
     index: u16,
     signal: &Signal,
 ) -> Option<()> {
-    let typ = Typ {
-        width: signal.width,
-        signed: signal.signed,
-    };
+    let typ = Typ::of(Width::new(signal.width)?, signal.signed);
     let meaning = Meaning::Signal {
         index,
         typ,
@@ -128,20 +126,14 @@ fn signal_names(alloc: Global) -> Option<List<(Name, Meaning)>> {
 /// Adds the constant k, which is 2, among the outer names, and the formal f, which is 44, among the inner ones.
 fn add_constants(alloc: Global, scope: &mut Scope) -> Option<()> {
     let value = Int::new(2)?;
-    let typ = Typ {
-        width: 32,
-        signed: true,
-    };
+    let typ = Typ::of(Width::of(32), true);
     let low = None;
     let name = Name::of(alloc, b"k").ok()?;
     scope
         .declare(name, Meaning::Const { value, typ, low })
         .ok()?;
     let value = Int::new(44)?;
-    let typ = Typ {
-        width: 6,
-        signed: false,
-    };
+    let typ = Typ::of(Width::of(6), false);
     let low = Some(2);
     let name = Name::of(alloc, b"f").ok()?;
     scope
@@ -153,10 +145,7 @@ fn add_constants(alloc: Global, scope: &mut Scope) -> Option<()> {
 /// All names; `item` has three bits and a sign.
 pub fn scope(alloc: Global) -> Option<Scope> {
     let mut scope = Scope::of(alloc, signal_names(alloc)?).ok()?;
-    scope.set_item(Some(Typ {
-        width: 3,
-        signed: true,
-    }));
+    scope.set_item(Some(Typ::of(Width::of(3), true)));
     add_constants(alloc, &mut scope)?;
     Some(scope)
 }

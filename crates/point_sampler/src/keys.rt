@@ -15,7 +15,7 @@ pub(crate) fn least_of(item: &ItemInfo) -> Int
     match &item.shape {
         ItemShape::Point(expr) => {
             let typ = typ(expr);
-            lowest_of(typ.width, typ.signed)
+            lowest_of(typ.width().get(), typ.is_signed())
         }
         ItemShape::Cross(_) => Int::of(0),
     }

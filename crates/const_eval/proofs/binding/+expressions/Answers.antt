@@ -12,11 +12,11 @@ pub bind_within-returns-in-Concat : goal.bind_within-returns-in-Concat
 bind_within-returns-in-Concat t c =
     let parts = c.in-Concat.parts in
     let out : out-Expr c.args.expr.now ≡ expr.Concat parts c.in-Concat.at = cc (outs-Concat parts c.in-Concat.at, out-roll-Expr (expr.Concat parts c.in-Concat.at)) in
-    concat_gives (names_with c.args.item c.args.scope.now) c.args.expr.now parts c.as_slice.result.now c.in-Concat.at c.bind_concat.result out c.as_slice.ensures c.bind_concat.ensures
+    concat_gives (names_with c.args.item.now c.args.scope.now) c.args.expr.now parts c.as_slice.result.now c.in-Concat.at c.bind_concat.result out c.as_slice.ensures c.bind_concat.ensures
 
 pub bind_concat-returns : goal.bind_concat-returns
 bind_concat-returns t c =
-    let names = names_with c.args.item c.args.scope.now in
+    let names = names_with c.args.item.now c.args.scope.now in
     let parts = c.args.parts.now in
     let all = parts_behind None (map (seen names) parts) in
     subst (λ (b : Bool). Gives c.concatenate.result (concatenation all b c.args.at)) (c.has_unsized.ensures ∙ sym (any_is names parts)) (whole_gives c.in_ok-front.front all c.has_unsized.result c.args.at c.concatenate.result c.in_ok-front.ensures c.concatenate.ensures)

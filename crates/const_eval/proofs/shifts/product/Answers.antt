@@ -7,6 +7,5 @@ use Rattle.const_eval.proofs.shifts.product.Goals as goal
 
 pub returns-clause-value : goal.returns-clause-value
 returns-clause-value c =
-    let w = c.args.whole in
     let fits : FitsSigned w128 c.cut.result = record { sfits = c.cut.type_inv } in
-    to_z-of_z w128 c.cut.result fits ∙ c.cut.ensures.value ∙ ap (cut w.width w.signed) (wrapping_mul_is w128 c.args.x c.args.y c.ranges.x c.ranges.y) ∙ cut_wrapped w.width w.signed _ c.requires.most
+    to_z-of_z w128 c.cut.result fits ∙ c.cut.ensures.value ∙ ap (cut c.args.width c.args.signed) (wrapping_mul_is w128 c.args.x c.args.y c.ranges.x c.ranges.y) ∙ cut_wrapped c.args.width c.args.signed _ c.cut.ensures.width.1
