@@ -17,6 +17,7 @@ pub trait Door {
 
     /// The next link. It may wait for one.
     fn accept(&mut self) -> Result<Self::Wire, Failed>
-        ensures handed { handed self.new ≡ (if is_ok result then one_more (handed self.old) else handed self.old) }
+        ensures handed { handed self.new
+            ≡ (if is_ok result then one_more (handed self.old) else handed self.old) }
         ensures cause { HasCause (faults self.old) (faults self.new) result };
 }

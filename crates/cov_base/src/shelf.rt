@@ -35,5 +35,6 @@ pub trait Shelf {
         ensures same { files self.new ≡ files self.old }
         ensures later { faults self.old ≤ faults self.new }
         ensures bound { IfOk result (λ bytes. length bytes.items ≤ most) }
-        ensures loads { Loads (files self.old) (faults self.old) (faults self.new) name.now most result };
+        ensures loads { Loads (files self.old) (faults self.old) (faults self.new)
+            name.now most result };
 }

@@ -58,3 +58,30 @@ most_cells = 120
 -- bits of a type
 abbrev pub most_bits : ℕ
 most_bits = 64
+
+-- bytes of a name
+abbrev pub longest_name : ℕ
+longest_name = 1024
+
+-- tests of a store, the bytes of their records, the entries of their tallies, and entries of a history
+abbrev pub most_tests : ℕ
+most_tests = 4096
+
+abbrev pub most_bytes : ℕ
+most_bytes = 268435456
+
+abbrev pub most_entries : ℕ
+most_entries = 16777216
+
+abbrev pub most_history : ℕ
+most_history = 1048576
+
+-- rows of bins in an answer, rows of tests in one, and bytes of a record or of a path in one
+abbrev pub most_rows : ℕ
+most_rows = 65536
+
+abbrev pub most_test_rows : ℕ
+most_test_rows = 1024
+
+abbrev pub longest_chunk : ℕ
+longest_chunk = 1048576

@@ -47,3 +47,27 @@ pub const MOST_CELLS: u64 = 120;
 
 /// Bits of a type.
 pub const MOST_BITS: u8 = 64;
+
+/// Bytes of a name.
+pub const LONGEST_NAME: u16 = 1_024;
+
+/// Tests of a store.
+pub const MOST_TESTS: u64 = 4_096;
+
+/// Bytes of the records of a store.
+pub const MOST_BYTES: u64 = 268_435_456;
+
+/// Entries of the tallies of a store.
+pub const MOST_ENTRIES: u64 = 16_777_216;
+
+/// Entries of a history, with the paths that are out.
+pub const MOST_HISTORY: u64 = 1_048_576;
+
+/// Rows of bins in an answer.
+pub const MOST_ROWS: usize = 65_536;
+
+/// Rows of tests in an answer.
+pub const MOST_TEST_ROWS: usize = 1_024;
+
+/// Bytes of a record or of a path in an answer.
+pub const LONGEST_CHUNK: usize = 1_048_576;

@@ -2,6 +2,7 @@
 use Rattle.std.specs.Prelude.{◌≡◌, ◌⊎◌, ℕ, ◌*◌, ◌≤◌, List, [], ◌∷◌, ◌++◌, length, map, take, drop, filter, slice_get, Option, Some, None, Bool, true, false, ◌&&◌, if◌then◌else◌, nat_lt, nat_le, bytes_eq}
 use Rattle.std.specs.List.{list_any}
 use Rattle.sha2.specs.Sha256.{sha256}
+use Rattle.cov_ground.specs.Limits.{most_rows, most_test_rows, longest_chunk}
 use Rattle.design_data.specs.declared.design.Design.{Design}
 use Rattle.record_codec.specs.declared.record.Record.{Record}
 use Rattle.record_codec.specs.Spelling.{spelling}
@@ -35,7 +36,7 @@ count_row nodes count excluded n = record { bin = (node_at nodes n).first_bin; k
 
 -- how many bins these are, and at most 65,536 of their rows from the first-th on
 abbrev pub rows : List Node → (count : ℕ → ℕ) → (excluded : ℕ → Bool) → (first : ℕ) → (bins : List ℕ) → Answer
-rows nodes count excluded first bins = answers.Rows (length bins) (map (count_row nodes count excluded) (take 65536 (drop first bins)))
+rows nodes count excluded first bins = answers.Rows (length bins) (map (count_row nodes count excluded) (take most_rows (drop first bins)))
 
 abbrev pub cover_row : List Node → (count : ℕ → ℕ) → (excluded : ℕ → Bool) → ℕ → CoverRow
 cover_row nodes count excluded n = record {
@@ -98,7 +99,7 @@ abbrev pub coverage_at : (opening : Design) → List Entry → (path : List ℕ)
 coverage_at opening h path = at_node (find_in (nodes_at opening h) path) (λ n. answers.CoverageIs (cover_row (nodes_at opening h) (count_of opening h) (excluded_at opening h) n))
 
 abbrev pub tests_at : List Entry → (first : ℕ) → Answer
-tests_at h first = answers.TestRows (length (tests_of h)) (map test_row (take 1024 (drop first (tests_of h))))
+tests_at h first = answers.TestRows (length (tests_of h)) (map test_row (take most_test_rows (drop first (tests_of h))))
 
 -- the live bins of the design, each with how many hits of it are wanted
 abbrev pub wanted_at : (opening : Design) → List Entry → List (ℕ × ℕ)
@@ -113,7 +114,7 @@ name_at opening h bin = at_node (node_of_bin (nodes_at opening h) bin) (λ n. an
 -- at most 1,048,576 bytes of a test's record, from the offset on
 abbrev pub chunk : Option Test → (offset : ℕ) → Answer
 chunk None offset = answers.NoSuchTest
-chunk (Some t) offset = answers.Chunk (length (spelling t.content)) (take 1048576 (drop offset (spelling t.content)))
+chunk (Some t) offset = answers.Chunk (length (spelling t.content)) (take longest_chunk (drop offset (spelling t.content)))
 
 abbrev pub fetch_at : List Entry → (place offset : ℕ) → Answer
 fetch_at h place offset = chunk (slice_get (tests_of h) place) offset

@@ -8,7 +8,7 @@ ghost use Rattle.merge_store.specs.Stores.{opening_of, entries_of};
 ghost use Rattle.cov_report.specs.Lines.{overall_line, goal_word as goal_meant, bins_and_goal, cover_line, item_line, item_word as word_meant};
 ghost use Rattle.cov_report.specs.Report.{is_printed as is_printed_meant, line_of_item, lines_of_instance, lines_of_type, coverage_text, rows_at};
 
-use crate::parts::{append, append_number};
+use appending::{append, append_number};
 use cov_base::Memory;
 use cov_tree::Name;
 use design_data::InstInfo;

@@ -6,7 +6,7 @@ ghost use Rattle.merge_store.specs.Now.{nodes_now, count_now};
 ghost use Rattle.cov_report.specs.Lines.{illegal_line};
 ghost use Rattle.cov_report.specs.Report.{line_of_illegal, illegal_text};
 
-use crate::parts::{append, append_number};
+use appending::{append, append_number};
 use cov_base::Memory;
 use design_data::BinKind;
 use merge_store::Store;

@@ -5,7 +5,6 @@
 
 mod coverage;
 mod illegal;
-mod parts;
 mod ranking;
 mod report;
 mod tests;

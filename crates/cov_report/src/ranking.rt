@@ -5,7 +5,7 @@ ghost use Rattle.merge_store.specs.Stores.{opening_of, entries_of};
 ghost use Rattle.rank_report.specs.Lines.{rank_text};
 ghost use Rattle.cov_report.specs.Report.{ranked_at};
 
-use crate::parts::append;
+use appending::append;
 use cov_base::Memory;
 use cov_tree::{List, Name};
 use merge_store::Store;

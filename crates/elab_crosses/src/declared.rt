@@ -82,7 +82,8 @@ fn add_bin(
 ) -> Result<(), ElabFault>
     requires { length cross.names.now ≤ most_points }
     ensures { Makes result walked.new
-        (bin_declared scope.now (crossed cross.entry.names.now cross.entry.axes.now cross.entry.items.now cross.entry.decls.now) decl.now walked.old) }
+        (bin_declared scope.now (crossed cross.entry.names.now cross.entry.axes.now
+            cross.entry.items.now cross.entry.decls.now) decl.now walked.old) }
 {
     check_unused(&walked.names, &decl.name, decl.at)?;
     let select = selection(alloc, scope, cross, &decl.sel)?;
@@ -102,7 +103,8 @@ pub(crate) fn walk_bins(
 ) -> Result<Walked, ElabFault>
     requires { length cross.names.now ≤ most_points }
     ensures { Gives result
-        (bins_walked scope.now (crossed cross.entry.names.now cross.entry.axes.now cross.entry.items.now cross.entry.decls.now) decls.now) }
+        (bins_walked scope.now (crossed cross.entry.names.now cross.entry.axes.now
+            cross.entry.items.now cross.entry.decls.now) decls.now) }
 {
     let mut walked = Walked {
         names: NameMap::new(alloc),

@@ -288,7 +288,8 @@ fn select_leaf(
 ) -> Result<Select, ElabFault>
     requires { length cross.names.now ≤ most_points }
     ensures { Gives result
-        (leaf scope.now (crossed cross.entry.names.now cross.entry.axes.now cross.entry.items.now cross.entry.decls.now) point.now bin.now elems.now at) }
+        (leaf scope.now (crossed cross.entry.names.now cross.entry.axes.now
+            cross.entry.items.now cross.entry.decls.now) point.now bin.now elems.now at) }
 {
     let axis = known_axis(place(cross.names, point), at)?;
     let item = at_index(cross.items, cross.axes, axis);
@@ -306,7 +307,8 @@ pub fn selection(
 ) -> Result<Select, ElabFault>
     requires { length cross.names.now ≤ most_points }
     ensures { Gives result
-        (selection_of scope.now (crossed cross.entry.names.now cross.entry.axes.now cross.entry.items.now cross.entry.decls.now) sel.now) }
+        (selection_of scope.now (crossed cross.entry.names.now cross.entry.axes.now
+            cross.entry.items.now cross.entry.decls.now) sel.now) }
 {
     match sel {
         Sel::BinsOf {

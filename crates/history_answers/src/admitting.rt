@@ -93,10 +93,10 @@ impl PlainStore {
     /// counted for it again, so long histories can be made. Where memory is wanted, nothing is added.
     pub fn admit(&mut self, alloc: Global, caller: u32, content: Record) -> Result<bool, Memory>
         ensures opening { opening_of self.new ≡ opening_of self.old }
-        ensures admitted { IfOk result (λ admitted. admitted
-            ≡ may_follow (opening_of self.old) (entries_of self.old) (by caller (event.Admit content))) }
-        ensures entries { IfOk result (λ admitted. entries_of self.new
-            ≡ entries_of self.old ++ (if admitted then by caller (event.Admit content) ∷ [] else [])) }
+        ensures admitted { IfOk result (λ admitted. admitted ≡ may_follow
+            (opening_of self.old) (entries_of self.old) (by caller (event.Admit content))) }
+        ensures entries { IfOk result (λ admitted. entries_of self.new ≡ entries_of self.old
+            ++ (if admitted then by caller (event.Admit content) ∷ [] else [])) }
         ensures err { OnErr result (entries_of self.new ≡ entries_of self.old) }
     {
         let before = self.known(alloc)?;

@@ -8,23 +8,12 @@ ghost use Rattle.history_answers.specs.Amounts.{amount_in, first_passed, told_by
 use crate::keeping::{Kept, kept_tests};
 use crate::replay::{design_at, out_at};
 use cov_ground::Memory;
+use cov_ground::limits::{MOST_BYTES, MOST_ENTRIES, MOST_HISTORY, MOST_TESTS};
 use cov_history::{Entry, Event};
 use design_data::Design;
 use record_codec::encode;
 use std::alloc::Global;
 use ucis_model::{Answer, Which};
-
-/// Tests, at most.
-const MOST_TESTS: u64 = 4_096;
-
-/// Kept bytes, at most.
-const MOST_BYTES: u64 = 268_435_456;
-
-/// Kept entries of tallies, at most.
-const MOST_ENTRIES: u64 = 16_777_216;
-
-/// Entries of the history with the paths that are out, at most.
-const MOST_HISTORY: u64 = 1_048_576;
 
 /// What a history amounts to.
 #[derive(Clone, Copy)]

@@ -133,8 +133,8 @@ pub fn admit_answer(
 ) -> Result<Answer, Memory>
     requires few { length entries.now < 2 ^ 32 }
     requires legal { is_legal opening.now entries.now ≡ true }
-    ensures { IfOk result (λ answer. (caller : ℕ) → answer
-        ≡ admit_at opening.now entries.now since (by caller (event.Admit content.now)) content.now) }
+    ensures { IfOk result (λ answer. (caller : ℕ) → answer ≡ admit_at opening.now entries.now
+        since (by caller (event.Admit content.now)) content.now) }
 {
     let bytes = encode(alloc, content)?;
     let tests = kept_tests(alloc, design_at(opening, entries), entries)?;

@@ -14,17 +14,12 @@ use crate::keeping::{Kept, kept_tests, of_id};
 use crate::replay::{design_at, out_at};
 use crate::rows::{page, rows};
 use cov_ground::Memory;
+use cov_ground::limits::{LONGEST_CHUNK, MOST_TEST_ROWS};
 use cov_history::Entry;
 use cov_tree::{List, Name};
 use design_data::Design;
 use std::alloc::Global;
 use ucis_model::{Answer, HistoryNode, Tree, tree};
-
-/// Tests in an answer, at most.
-const MOST_TESTS: usize = 1_024;
-
-/// Bytes in an answer, at most.
-const MOST_CHUNK: usize = 1_048_576;
 
 /// The answer to a Hello with a point.
 pub fn hello_answer(opening: &Design, entries: &[Entry], point: u64) -> Answer
@@ -217,7 +212,7 @@ pub fn tests_answer(
 {
     let tests = kept_tests(alloc, design_at(opening, entries), entries)?;
     let all = tests.as_slice();
-    let part = page(all, first as usize, MOST_TESTS);
+    let part = page(all, first as usize, MOST_TEST_ROWS);
     let rows = test_rows(alloc, part)?;
     Ok(Answer::TestRows {
         total: all.len() as u32,
@@ -259,7 +254,7 @@ pub fn fetch_answer(
         return Ok(Answer::NoSuchTest);
     };
     let bytes = test.bytes.as_slice();
-    let part = Name::of(alloc, page(bytes, offset as usize, MOST_CHUNK))?;
+    let part = Name::of(alloc, page(bytes, offset as usize, LONGEST_CHUNK))?;
     Ok(Answer::Chunk {
         len: bytes.len() as u64,
         bytes: part,

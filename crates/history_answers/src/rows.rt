@@ -6,12 +6,10 @@ ghost use Rattle.cov_history.specs.Answers.{count_row as row_meant, rows as rows
 use crate::bins::{count, kind_at, said};
 use crate::excluded::is_excluded;
 use cov_ground::Memory;
+use cov_ground::limits::MOST_ROWS;
 use cov_tree::{List, Name};
 use std::alloc::Global;
 use ucis_model::{Answer, CountRow, Tree};
-
-/// Rows in an answer, at most.
-const MOST_ROWS: usize = 65_536;
 
 /// At most so many of the elements, from the first-th on.
 pub(crate) fn page<T>(list: &[T], first: usize, most: usize) -> &[T]

@@ -2,19 +2,8 @@
 ghost use Rattle.std.specs.Prelude.{◌≡◌};
 ghost use Rattle.merge_store.specs.Amounts.{first_passed, amount_in};
 
+use cov_ground::limits::{MOST_BYTES, MOST_ENTRIES, MOST_HISTORY, MOST_TESTS};
 use ucis_model::Which;
-
-/// Tests, at most.
-const MOST_TESTS: u64 = 4_096;
-
-/// Kept bytes, at most.
-const MOST_BYTES: u64 = 268_435_456;
-
-/// Kept entries of tallies, at most.
-const MOST_ENTRIES: u64 = 16_777_216;
-
-/// Entries of the history with the paths that are out, at most.
-pub(crate) const MOST_HISTORY: u64 = 1_048_576;
 
 /// What a history amounts to.
 #[derive(Clone, Copy)]

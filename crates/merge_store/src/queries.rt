@@ -18,6 +18,7 @@ use crate::branches::part_of;
 use crate::held::Kept;
 use crate::{QueryFault, Store};
 use cov_base::Memory;
+use cov_ground::limits::{LONGEST_CHUNK, MOST_ROWS, MOST_TEST_ROWS};
 use cov_tree::{List, Name};
 use design_data::BinKind;
 use rank_report::rank;
@@ -26,15 +27,6 @@ use std::sync::Arc;
 use std::thread::Threads;
 use tally::{Ranked, Tally};
 use ucis_model::{Answer, CountRow, HistoryKind, HistoryNode, NodeKind};
-
-/// Rows in an answer, at most.
-const MOST_ROWS: usize = 65_536;
-
-/// Tests in an answer, at most.
-const MOST_TESTS: usize = 1_024;
-
-/// Bytes in an answer, at most.
-const MOST_CHUNK: usize = 1_048_576;
 
 impl Store {
     /// One row more, of a bin.
@@ -164,7 +156,8 @@ impl Store {
         id: &[u8],
         path: &[u8],
     ) -> Result<(u32, List<CountRow>), QueryFault>
-        ensures { Reads (test_counts_at (opening_of self.now) (entries_of self.now) first id.now path.now)
+        ensures { Reads
+            (test_counts_at (opening_of self.now) (entries_of self.now) first id.now path.now)
             (rows_read result) }
     {
         let Some(test) = self.kept(id) else {
@@ -221,7 +214,7 @@ impl Store {
         ensures { Reads (tests_at (entries_of self.now) first) (tests_read result) }
     {
         let from = first as usize;
-        match self.tests_between(from, from + MOST_TESTS) {
+        match self.tests_between(from, from + MOST_TEST_ROWS) {
             Ok(rows) => Ok((self.test_count() as u32, List::of(rows))),
             Err(Memory) => Err(QueryFault::Memory),
         }
@@ -297,7 +290,7 @@ impl Store {
             return Err(QueryFault::NoSuchTest);
         };
         let bytes = test.rec.bytes();
-        match Name::of(self.alloc, part_of(bytes, offset as usize, MOST_CHUNK)) {
+        match Name::of(self.alloc, part_of(bytes, offset as usize, LONGEST_CHUNK)) {
             Ok(part) => Ok((bytes.len() as u64, part)),
             Err(_) => Err(QueryFault::Memory),
         }

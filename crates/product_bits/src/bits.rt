@@ -113,7 +113,8 @@ impl ProductBits {
     pub fn unite(&mut self, other: &ProductBits)
         requires { length other.now ≡ length self.old }
         ensures len { length self.new ≡ length self.old }
-        ensures marks { (sizes : List ℕ) (one two : List ℕ → Bool) → Marks sizes one self.old → Marks sizes two other.now
+        ensures marks { (sizes : List ℕ) (one two : List ℕ → Bool)
+            → Marks sizes one self.old → Marks sizes two other.now
             → Marks sizes (λ product. one product || two product) self.new }
     {
         unite(self.words.as_mut_slice(), other.words.as_slice());
@@ -123,7 +124,8 @@ impl ProductBits {
     pub fn meet(&mut self, other: &ProductBits)
         requires { length other.now ≡ length self.old }
         ensures len { length self.new ≡ length self.old }
-        ensures marks { (sizes : List ℕ) (one two : List ℕ → Bool) → Marks sizes one self.old → Marks sizes two other.now
+        ensures marks { (sizes : List ℕ) (one two : List ℕ → Bool)
+            → Marks sizes one self.old → Marks sizes two other.now
             → Marks sizes (λ product. one product && two product) self.new }
     {
         meet(self.words.as_mut_slice(), other.words.as_slice());
@@ -142,8 +144,9 @@ impl ProductBits {
     pub fn shares(&self, other: &ProductBits, count: u32) -> bool
         requires len { length self.now ≡ word_count count }
         requires other_len { length other.now ≡ word_count count }
-        ensures { (sizes : List ℕ) (one two : List ℕ → Bool) → product_of sizes ≡ count → Marks sizes one self.now
-            → Marks sizes two other.now → result ≡ list_any (λ product. one product && two product) (products_of sizes) }
+        ensures { (sizes : List ℕ) (one two : List ℕ → Bool) → product_of sizes ≡ count
+            → Marks sizes one self.now → Marks sizes two other.now
+            → result ≡ list_any (λ product. one product && two product) (products_of sizes) }
     {
         let count = count as usize;
         first_shared(self.words.as_slice(), other.words.as_slice(), 0, count) < count

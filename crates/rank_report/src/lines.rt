@@ -1,11 +1,11 @@
 //! The printed ranking.
-ghost use Rattle.std.specs.Prelude.{◌≡◌, ◌<◌, ◌++◌, length, decimal, IfOk, OnOk};
+ghost use Rattle.std.specs.Prelude.{◌≡◌, ◌<◌, ◌++◌, length, IfOk, OnOk};
 ghost use Rattle.std.specs.List.{All};
 ghost use Rattle.rank_report.specs.Lines.{rank_line, rank_text};
 
+use appending::{append, append_number};
 use cov_ground::Memory;
 use cov_tree::Name;
-use itoa::Buffer;
 use std::alloc::Global;
 use tally::Ranked;
 
@@ -20,20 +20,6 @@ pub fn rank_lines(alloc: Global, ranked: &[Ranked], ids: &[Name]) -> Result<Vec<
         append_row(&mut text, i as u64 + 1, row.gain, id.as_slice())?;
     }
     Ok(text)
-}
-
-fn append(text: &mut Vec<u8>, bytes: &[u8]) -> Result<(), Memory>
-    ensures { OnOk result (text.new.items ≡ text.old.items ++ bytes.now) }
-{
-    text.extend_from_slice(bytes)?;
-    Ok(())
-}
-
-fn append_number(text: &mut Vec<u8>, number: u64) -> Result<(), Memory>
-    ensures { OnOk result (text.new.items ≡ text.old.items ++ decimal number) }
-{
-    let mut buffer = Buffer::new();
-    append(text, buffer.format(number).as_bytes())
 }
 
 fn append_row(text: &mut Vec<u8>, k: u64, gain: u64, id: &[u8]) -> Result<(), Memory>

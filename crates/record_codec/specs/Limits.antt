@@ -2,7 +2,7 @@
 use Rattle.std.specs.Prelude.{ℕ, ◌<◌, ◌≤◌, ◌^◌, ◌==◌, List, [], ◌∷◌, length, slice_get, Option, IfSome, IsSomeAnd, if◌then◌else◌}
 use Rattle.std.specs.List.{AllByRecursion}
 use Rattle.std.proofs.Props.{props}
-use Rattle.cov_ground.specs.Limits.{longest_record, most_events, most_signals, most_instances, most_arguments, most_bits}
+use Rattle.cov_ground.specs.Limits.{longest_record, longest_name, most_events, most_signals, most_instances, most_arguments, most_bits}
 use Rattle.record_codec.specs.declared.record.Fields.{Fields}
 use Rattle.record_codec.specs.declared.record.SignalRow.{SignalRow}
 use Rattle.record_codec.specs.declared.record.ArgRow.{ArgRow}
@@ -23,7 +23,7 @@ pub record IsArgRow (row : ArgRow) : Type 0 where
   pub width : row.width ≤ most_bits
 
 pub record IsSignalRow (row : SignalRow) : Type 0 where
-  pub name : IsText 1 1024 33 row.name
+  pub name : IsText 1 longest_name 33 row.name
   pub some : 1 ≤ row.width
   pub width : row.width ≤ most_bits
 
@@ -32,8 +32,8 @@ abbrev pub most_args : ℕ → ℕ
 most_args version = if version == 1 then 0 else most_arguments
 
 pub record IsInstRow (version : ℕ) (row : InstRow) : Type 0 where
-  pub name : IsText 1 1024 33 row.name
-  pub group : IsText 1 1024 33 row.group
+  pub name : IsText 1 longest_name 33 row.name
+  pub group : IsText 1 longest_name 33 row.group
   pub arg_count : length row.args ≤ most_args version
   pub args : AllByRecursion IsArgRow row.args
 

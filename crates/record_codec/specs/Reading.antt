@@ -29,7 +29,7 @@ use Rattle.record_codec.specs.declared.record.InstRow.{InstRow}
 use Rattle.record_codec.specs.declared.record.Event.{Event}
 use Rattle.record_codec.specs.declared.record.Event.TheVariants.{Set, Sample}
 use Rattle.record_codec.specs.Spelling.{fields_of}
-use Rattle.cov_ground.specs.Limits.{most_events, most_signals, most_instances, most_arguments, most_bits}
+use Rattle.cov_ground.specs.Limits.{longest_name, most_events, most_signals, most_instances, most_arguments, most_bits}
 
 -- numbers that fit in a byte
 abbrev pub AreBytes : List ℕ → Type 0
@@ -125,7 +125,7 @@ arg_at bytes = do
 
 unfoldable pub signal_at : Reader SignalRow
 signal_at bytes = do
-  name ← text_at 1 1024 33 bytes
+  name ← text_at 1 longest_name 33 bytes
   form ← arg_at name.1
   Ok (record { name = name.0; width = form.0.width; signed = form.0.signed }, form.1)
 
@@ -145,8 +145,8 @@ args_at version bytes = if version == 1 then Ok ([], bytes) else listed_args_at 
 
 unfoldable pub instance_at : ℕ → Reader InstRow
 instance_at version bytes = do
-  name ← text_at 1 1024 33 bytes
-  group ← text_at 1 1024 33 name.1
+  name ← text_at 1 longest_name 33 bytes
+  group ← text_at 1 longest_name 33 name.1
   args ← args_at version group.1
   Ok (record { name = name.0; group = group.0; args = args.0 }, args.1)
 

@@ -10,20 +10,13 @@ ghost use Rattle.record_codec.specs.Spelling.{spelling, fields_of};
 ghost use Rattle.record_codec.specs.Reading.{reading};
 
 use crate::{ArgRow, Event, Fields, InstRow, Record, SignalRow, Start};
+use appending::append;
 use cov_base::Memory;
 use cov_tree::Name;
 use std::alloc::Global;
 
 /// The letters CVRC.
 const LETTERS: [u8; 4] = [0x43, 0x56, 0x52, 0x43];
-
-#[inline]
-fn append(out: &mut Vec<u8>, bytes: &[u8]) -> Result<(), Memory>
-    ensures { OnOk result (out.new.items ≡ out.old.items ++ bytes.now) }
-{
-    out.extend_from_slice(bytes)?;
-    Ok(())
-}
 
 fn append_text(out: &mut Vec<u8>, name: &Name) -> Result<(), Memory>
     requires { length name.now < 2 ^ 16 }

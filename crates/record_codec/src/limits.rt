@@ -9,6 +9,7 @@ use crate::events::most_of;
 use crate::fields::first_bad;
 use crate::{ArgRow, Event, InstRow, SignalRow, Start};
 use cov_ground::limits::{
+    LONGEST_NAME,
     LONGEST_RECORD, MOST_ARGUMENTS, MOST_BITS, MOST_EVENTS, MOST_INSTANCES, MOST_SIGNALS,
 };
 
@@ -52,7 +53,7 @@ fn are_arg_rows(rows: &[ArgRow]) -> bool
 fn is_signal_row(row: &SignalRow) -> bool
     ensures { IsTrue result ↔ IsSignalRow row.now }
 {
-    if !is_text(1, 1024, 33, row.name.as_slice()) {
+    if !is_text(1, LONGEST_NAME as usize, 33, row.name.as_slice()) {
         return false;
     }
     is_width(row.width)
@@ -79,10 +80,10 @@ fn most_args(version: u16) -> usize
 fn is_inst_row(version: u16, row: &InstRow) -> bool
     ensures { IsTrue result ↔ IsInstRow version row.now }
 {
-    if !is_text(1, 1024, 33, row.name.as_slice()) {
+    if !is_text(1, LONGEST_NAME as usize, 33, row.name.as_slice()) {
         return false;
     }
-    if !is_text(1, 1024, 33, row.group.as_slice()) {
+    if !is_text(1, LONGEST_NAME as usize, 33, row.group.as_slice()) {
         return false;
     }
     let args = row.args.as_slice();

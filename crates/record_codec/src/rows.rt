@@ -6,7 +6,7 @@ use crate::fault::Fault;
 use crate::fields::{text_within, u8_within, u16_within};
 use crate::tables::{Rows, counted};
 use crate::{ArgRow, InstRow, SignalRow};
-use cov_ground::limits::{MOST_ARGUMENTS, MOST_BITS, MOST_INSTANCES, MOST_SIGNALS};
+use cov_ground::limits::{LONGEST_NAME, MOST_ARGUMENTS, MOST_BITS, MOST_INSTANCES, MOST_SIGNALS};
 use cov_tree::List;
 use std::alloc::Global;
 
@@ -72,7 +72,7 @@ fn arg_row(bytes: &[u8]) -> Result<(ArgRow, &[u8]), Fault>
 fn signal_row(alloc: Global, bytes: &[u8]) -> Result<(SignalRow, &[u8]), Fault>
     ensures { Gives (λ x. (x.0, x.1.now)) result (signal_at bytes.now) }
 {
-    let (name, rest) = text_within(alloc, 1, 1024, 33, bytes)?;
+    let (name, rest) = text_within(alloc, 1, LONGEST_NAME, 33, bytes)?;
     let (form, rest) = arg_row(rest)?;
     let row = SignalRow {
         name,
@@ -105,8 +105,8 @@ fn args(alloc: Global, version: u16, bytes: &[u8]) -> Result<(List<ArgRow>, &[u8
 fn instance_row(alloc: Global, version: u16, bytes: &[u8]) -> Result<(InstRow, &[u8]), Fault>
     ensures { Gives (λ x. (x.0, x.1.now)) result (instance_at version bytes.now) }
 {
-    let (name, rest) = text_within(alloc, 1, 1024, 33, bytes)?;
-    let (group, rest) = text_within(alloc, 1, 1024, 33, rest)?;
+    let (name, rest) = text_within(alloc, 1, LONGEST_NAME, 33, bytes)?;
+    let (group, rest) = text_within(alloc, 1, LONGEST_NAME, 33, rest)?;
     let (args, rest) = args(alloc, version, rest)?;
     Ok((InstRow { name, group, args }, rest))
 }

@@ -4,10 +4,10 @@ ghost use Rattle.std.specs.List.{list_any};
 ghost use Rattle.sampler.specs.Shape.{signal_row as row_of_signal, arg_row as row_of_arg, arg_rows as rows_of_args, name_of, instance_row as row_of_instance};
 ghost use Rattle.record_maker.specs.Generator.{has_args, version_of as version_meant, start_of as start_meant};
 
+use appending::append_number;
 use cov_ground::Memory;
 use cov_tree::{List, Name};
 use design_data::{Design, GroupInfo, InstInfo, Signal};
-use itoa::Buffer;
 use record_codec::{ArgRow, InstRow, SignalRow, Start};
 use std::alloc::Global;
 
@@ -126,8 +126,7 @@ fn test_id(alloc: Global, test: u32) -> Result<Name, Memory>
     ensures { IfOk result (λ id. id ≡ codes "t" ++ decimal test) }
 {
     let mut id = Vec::from_slice(alloc, b"t")?;
-    let mut buffer = Buffer::new();
-    id.extend_from_slice(buffer.format(test as u64).as_bytes())?;
+    append_number(&mut id, test as u64)?;
     Name::of(alloc, id.as_slice())
 }
 

@@ -1,6 +1,7 @@
 -- Which answers a frame can hold. Public contracts cite none of it.
 use Rattle.std.specs.Prelude.{ℕ, ◌≤◌, List, length}
 use Rattle.std.specs.List.{AllByRecursion}
+use Rattle.cov_ground.specs.Limits.{most_rows, most_test_rows, longest_chunk}
 use Rattle.ucis_model.specs.declared.answers.HistoryNode.{HistoryNode}
 use Rattle.ucis_model.specs.declared.answers.Answer.{Answer}
 use Rattle.ucis_model.specs.declared.answers.Answer.TheVariants as answer
@@ -16,10 +17,10 @@ AreShortTests rows = AllByRecursion IsShortTest rows
 
 -- not too many rows or bytes, each with a spelling
 abbrev pub IsHeld : Answer → Type 0
-IsHeld (answer.Rows total rows) = length rows ≤ 65536
-IsHeld (answer.TestRows total rows) = (length rows ≤ 1024) × AreShortTests rows
-IsHeld (answer.RankRows rows) = length rows ≤ 65536
-IsHeld (answer.PathIs path) = (length path ≤ 1048576) × IsPath path
-IsHeld (answer.Chunk len bytes) = length bytes ≤ 1048576
+IsHeld (answer.Rows total rows) = length rows ≤ most_rows
+IsHeld (answer.TestRows total rows) = (length rows ≤ most_test_rows) × AreShortTests rows
+IsHeld (answer.RankRows rows) = length rows ≤ most_rows
+IsHeld (answer.PathIs path) = (length path ≤ longest_chunk) × IsPath path
+IsHeld (answer.Chunk len bytes) = length bytes ≤ longest_chunk
 IsHeld (answer.IdTaken digest) = length digest ≤ 32
 IsHeld other = Unit {0}

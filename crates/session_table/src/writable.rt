@@ -1,20 +1,13 @@
 //! Answers that a frame can hold.
 ghost use Rattle.std.specs.Prelude.{◌≡◌, ◌≤◌, length, true, false};
 ghost use Rattle.cov_proto.specs.declared.replies.Body.TheVariants.{Store};
+ghost use Rattle.cov_ground.specs.Limits.{most_test_rows, longest_chunk};
 ghost use Rattle.cov_proto.specs.Limits.{AreFrom, IsText, IsPath};
 ghost use Rattle.session_table.specs.Says.{IsWritable, IsKept, is_long};
 ghost use Rattle.session_table.specs.Writable.{IsShortTest, AreShortTests, IsHeld};
 
+use cov_ground::limits::{LONGEST_CHUNK, MOST_ROWS, MOST_TEST_ROWS};
 use ucis_model::{Answer, HistoryKind, HistoryNode};
-
-/// The most rows of a reply.
-const MOST_ROWS: usize = 65_536;
-
-/// The most tests of a reply.
-const MOST_TESTS: usize = 1024;
-
-/// The most bytes of a path or of a part of a record.
-const MOST_BYTES: usize = 1_048_576;
 
 fn are_from(low: u8, bytes: &[u8]) -> bool
     ensures { result ≡ true → AreFrom low bytes.now }
@@ -78,18 +71,18 @@ fn are_tests(rows: &[HistoryNode]) -> bool
 }
 
 fn are_few_tests(rows: &[HistoryNode]) -> bool
-    ensures { result ≡ true → (length rows.now ≤ 1024) × AreShortTests rows.now }
+    ensures { result ≡ true → (length rows.now ≤ most_test_rows) × AreShortTests rows.now }
 {
-    if rows.len() > MOST_TESTS {
+    if rows.len() > MOST_TEST_ROWS {
         return false;
     }
     are_tests(rows)
 }
 
 fn is_short_path(path: &[u8]) -> bool
-    ensures { result ≡ true → (length path.now ≤ 1048576) × IsPath path.now }
+    ensures { result ≡ true → (length path.now ≤ longest_chunk) × IsPath path.now }
 {
-    if path.len() > MOST_BYTES {
+    if path.len() > LONGEST_CHUNK {
         return false;
     }
     are_from(32, path)
@@ -105,7 +98,7 @@ fn is_held(answer: &Answer) -> bool
         Answer::TestRows { rows, .. } => are_few_tests(rows.as_slice()),
         Answer::RankRows(rows) => rows.as_slice().len() <= MOST_ROWS,
         Answer::PathIs(path) => is_short_path(path.as_slice()),
-        Answer::Chunk { bytes, .. } => bytes.as_slice().len() <= MOST_BYTES,
+        Answer::Chunk { bytes, .. } => bytes.as_slice().len() <= LONGEST_CHUNK,
         Answer::IdTaken { digest } => digest_size(digest) == 32,
         Answer::Welcome { .. } => true,
         Answer::New => true,

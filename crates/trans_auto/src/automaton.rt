@@ -37,8 +37,8 @@ impl Automaton {
         ensures made { IfOk result (λ a. a ≡ (own.now, removed.now)) }
         ensures fits { IsOk result
             → (cells_of own.now ≤ most_cells) × (cells_of removed.now ≤ most_cells) }
-        ensures otherwise_memory { (cells_of own.now ≤ most_cells) × (cells_of removed.now ≤ most_cells)
-            → IsOkUnless result AutoFault.Memory }
+        ensures otherwise_memory { (cells_of own.now ≤ most_cells)
+            × (cells_of removed.now ≤ most_cells) → IsOkUnless result AutoFault.Memory }
         ensures own_first { most_cells < cells_of own.now
             → result ≡ Err (AutoFault.TooLong (min (cells_of own.now) u64.MAX)) }
         ensures removed_then { cells_of own.now ≤ most_cells → most_cells < cells_of removed.now

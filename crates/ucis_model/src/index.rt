@@ -31,7 +31,8 @@ impl Model for Tree {
     ghost view = { λ tree. tree.nodes.items };
 
     ghost invariant = { λ tree. HasSmallerParents tree.nodes.items × (length tree.nodes.items < 2 ^ 32)
-        × ((path : List ℕ) → meaning_of tree.places path ≡ meaning_of (places_of tree.nodes.items) path) };
+        × ((path : List ℕ) → meaning_of tree.places path
+            ≡ meaning_of (places_of tree.nodes.items) path) };
 }
 
 /// The path of each node, with its place.

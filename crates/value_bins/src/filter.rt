@@ -53,8 +53,8 @@ pub fn filter_with<F: Fn(Int) -> bool>(
     keep: &F,
 ) -> Result<Elems, FilterFault>
     requires { (v : ℤ) → IsInt v → F.pre keep.now v }
-    ensures asked { IfOk result
-        (λ kept. Keeps (λ v b. IsInt v × F.post keep.now v b) (written elems.now) [] (written kept)) }
+    ensures asked { IfOk result (λ kept.
+        Keeps (λ v b. IsInt v × F.post keep.now v b) (written elems.now) [] (written kept)) }
     // where the filter is a test, what is kept is what passes it
     ensures kept { IfOk result (λ kept. (test : ℤ → Bool)
         → ((v : ℤ) (b : Bool) → IsInt v → F.post keep.now v b → b ≡ test v)
