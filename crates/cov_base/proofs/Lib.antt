@@ -11,3 +11,4 @@ pub mod Search
 pub mod Skips
 pub mod Sorts
 pub mod Steps
+pub mod Stores

@@ -1,4 +1,5 @@
 pub mod Intervals
+pub mod Kept
 pub mod Loads
 pub mod Memory
 pub mod Plan

@@ -4,22 +4,23 @@ ghost use Rattle.cov_spec.specs.Ranges.{InRanges};
 ghost use Rattle.cov_base.specs.Sets.{written, set_of, is_in, without, IsNormalForm};
 
 mod counts;
+mod kept;
 mod merge;
 mod order;
 mod search;
 
 use crate::Memory;
 use crate::int::Int;
-use counts::{Counts, count};
+use kept::Kept;
 use std::alloc::Global;
 use std::marker::Model;
+use std::sync::Arc;
 
 /// A set of numbers: the list of its intervals, ascending, each with its low and its high end, no two of which
-/// overlap or touch. Two sets of the same numbers are the same list.
+/// overlap or touch. Two sets of the same numbers are the same list. A set and its copies stand once in memory.
 #[derive(Drop)]
 pub struct ValueSet {
-    intervals: Vec<(Int, Int)>,
-    counts: Counts,
+    kept: Option<Arc<Kept>>,
 }
 
 impl Model for ValueSet {
@@ -27,11 +28,11 @@ impl Model for ValueSet {
 
     ghost Value = { List (ℤ × ℤ) };
 
-    ghost use Rattle.cov_base.specs.Stored.{IsStored};
+    ghost use Rattle.cov_base.specs.Kept.{ranges_in, IsKeptIn};
 
-    ghost view = { λ set. set.intervals.items };
+    ghost view = { λ set. ranges_in set.kept };
 
-    ghost invariant = { λ set. IsStored set.intervals.items set.counts.starts.items set.counts.total };
+    ghost invariant = { λ set. IsKeptIn set.kept };
 }
 
 impl PartialEq for ValueSet {
@@ -45,7 +46,7 @@ impl PartialEq for ValueSet {
     ghost laws = { partial_equiv_from_equiv (lists_equiv (and_equiv (on_equiv (λ (r : ℤ × ℤ). r.0) int_eq_equiv) (on_equiv (λ (r : ℤ × ℤ). r.1) int_eq_equiv))) };
 
     fn eq(&self, other: &ValueSet) -> bool {
-        self.intervals.as_slice() == other.intervals.as_slice()
+        self.intervals() == other.intervals()
     }
 }
 
@@ -57,27 +58,21 @@ impl Eq for ValueSet {
     ghost laws = { lists_equiv (and_equiv (on_equiv (λ (r : ℤ × ℤ). r.0) int_eq_equiv) (on_equiv (λ (r : ℤ × ℤ). r.1) int_eq_equiv)) };
 }
 
-/// A set of intervals in normal form, with their counts.
-fn counted(alloc: Global, intervals: Vec<(Int, Int)>) -> Result<ValueSet, Memory>
+/// A set of intervals in normal form.
+fn kept_set(alloc: Global, intervals: Vec<(Int, Int)>) -> Result<ValueSet, Memory>
     requires { IsNormalForm intervals.items }
     ensures { IfOk result (λ set. set ≡ intervals.items) }
 {
-    let counts = count(alloc, intervals.as_slice())?;
-    Ok(ValueSet { intervals, counts })
+    let kept = kept::shared(alloc, intervals)?;
+    Ok(ValueSet { kept })
 }
 
 impl ValueSet {
     /// The empty set. It takes no memory.
-    pub fn new(alloc: Global) -> ValueSet
+    pub fn new(_alloc: Global) -> ValueSet
         ensures { result ≡ [] }
     {
-        ValueSet {
-            intervals: Vec::new(alloc),
-            counts: Counts {
-                starts: Vec::new(alloc),
-                total: 0,
-            },
-        }
+        ValueSet { kept: None }
     }
 
     /// The numbers of all ranges, each given by its low and its high end, in any order. A range with its ends the
@@ -90,7 +85,7 @@ impl ValueSet {
         let sorted = order::ordered(alloc, ranges)?;
         let mut intervals = Vec::new(alloc);
         merge::join_all(&mut intervals, sorted.as_slice())?;
-        counted(alloc, intervals)
+        kept_set(alloc, intervals)
     }
 
     /// Whether the number is in the set. It takes a binary search with no branch that depends on the numbers.
@@ -98,7 +93,7 @@ impl ValueSet {
         ensures value { result ≡ is_in (written self.now) v }
         ensures in_ranges { IsTrue result ↔ InRanges v self.now }
     {
-        search::has(self.intervals.as_slice(), v)
+        search::has(kept::ranges(&self.kept), v)
     }
 
     /// How many numbers are in the set: at most 2^64 + 2^63.
@@ -106,7 +101,7 @@ impl ValueSet {
         ensures value { result ≡ length (written self.now) }
         ensures bound { result ≤ 3 * 2 ^ 63 }
     {
-        self.counts.total
+        kept::total(&self.kept)
     }
 
     /// The number at place k, in ascending order, the first one being at 0; None from the count on. It takes a
@@ -114,7 +109,7 @@ impl ValueSet {
     pub fn nth(&self, k: u128) -> Option<Int>
         ensures { result ≡ slice_get (written self.now) k }
     {
-        counts::nth(self.intervals.as_slice(), &self.counts, k)
+        kept::nth(&self.kept, k)
     }
 
     /// The intervals, ascending, each with its low and its high end.
@@ -125,7 +120,7 @@ impl ValueSet {
         ensures unique { (other : List (ℤ × ℤ)) → IsNormalForm other →
             ((v : ℤ) → is_in (written other) v ≡ is_in (written self.now) v) → other ≡ self.now }
     {
-        self.intervals.as_slice()
+        kept::ranges(&self.kept)
     }
 
     /// The numbers of both sets.
@@ -137,10 +132,10 @@ impl ValueSet {
     {
         let intervals = merge::union_of(
             alloc,
-            self.intervals.as_slice(),
-            other.intervals.as_slice(),
+            kept::ranges(&self.kept),
+            kept::ranges(&other.kept),
         )?;
-        counted(alloc, intervals)
+        kept_set(alloc, intervals)
     }
 
     /// The numbers of this set that are not in the other.
@@ -151,24 +146,18 @@ impl ValueSet {
             (λ set. (v : ℤ) → is_in (written set) v ≡
             (is_in (written self.now) v && not (is_in (written other.now) v))) }
     {
-        let intervals = merge::without(
-            alloc,
-            self.intervals.as_slice(),
-            other.intervals.as_slice(),
-        )?;
-        counted(alloc, intervals)
+        let intervals = merge::without(alloc, kept::ranges(&self.kept), kept::ranges(&other.kept))?;
+        kept_set(alloc, intervals)
     }
 
-    /// The same set once more.
-    pub fn copy(&self, alloc: Global) -> Result<ValueSet, Memory>
+    /// The same set once more. It copies nothing.
+    pub fn copy(&self, _alloc: Global) -> Result<ValueSet, Memory>
         ensures { IfOk result (λ set. set ≡ self.now) }
     {
-        let intervals = Vec::from_slice(alloc, self.intervals.as_slice())?;
-        let starts = Vec::from_slice(alloc, self.counts.starts.as_slice())?;
-        let total = self.counts.total;
-        Ok(ValueSet {
-            intervals,
-            counts: Counts { starts, total },
-        })
+        let kept = match &self.kept {
+            Some(kept) => Some(kept.clone()?),
+            None => None,
+        };
+        Ok(ValueSet { kept })
     }
 }

@@ -43,15 +43,14 @@ pub(super) fn place_of(starts: &[u128], k: u128) -> usize
     starts.partition_point(|start| *start <= k) - 1
 }
 
-/// The number at place k.
-pub(super) fn nth(intervals: &[(Int, Int)], counts: &Counts, k: u128) -> Option<Int>
-    requires { IsStored intervals.now counts.now.starts.items counts.now.total }
+/// The number at place k of intervals, of which it is known how many numbers stand before each, and how many in all.
+pub(super) fn nth(intervals: &[(Int, Int)], starts: &[u128], total: u128, k: u128) -> Option<Int>
+    requires { IsStored intervals.now starts.now total }
     ensures { result ≡ slice_get (written intervals.now) k }
 {
-    if k >= counts.total {
+    if k >= total {
         return None;
     }
-    let starts = counts.starts.as_slice();
     let place = place_of(starts, k);
     Some(intervals[place].0.plus(k - starts[place]))
 }
