@@ -1,3 +1,4 @@
+pub mod Arrows
 pub mod TooMany
 pub mod OnlyLists
 pub mod Words

@@ -3,12 +3,13 @@ ghost use Rattle.std.specs.Prelude.{◌≡◌, IfOk, map};
 ghost use Rattle.elab_base.specs.Gives.{Gives};
 ghost use Rattle.elab_transitions.specs.Bins.{kind_of as kind_meant, default_kind as default_meant, made_bin, list_bin as bin_of_list, bins_made as bins_of_plan, removed_by, trans_made, seqs_binned, steps_binned, trans_bins_of, default_bin_of};
 
-use crate::lists::{list_name, seq_of_list};
+use crate::lists::shown_list;
 use crate::plans::{Before, Plan, check_room, fit, is_array, is_bounded, is_removing};
 use crate::seqs::seqs_in;
+use crate::shown::{Values, no_values};
 use crate::steps::{ListedStep, listed_sequences};
 use const_eval::{Bound, Scope};
-use cov_base::{Int, Memory, ValueSet};
+use cov_base::{Int, Memory};
 use cov_tree::{BinsDecl, List, Name, Step, Word};
 use design_data::{BinInfo, BinKind, BinRule};
 use elab_base::{ElabFault, ElabKind, copy_guard, guard_in};
@@ -75,31 +76,32 @@ fn list_bin(
     declared: u32,
     guard: &Option<Bound>,
     list: &[Int],
-    before: &mut Vec<ValueSet>,
+    values: &mut Values,
 ) -> Result<Made, Memory>
     ensures { IfOk result (λ made. made ≡ bin_of_list decl.now declared guard.now list.now) }
 {
-    let name = list_name(alloc, &decl.name, list)?;
+    let (name, seq) = shown_list(alloc, &decl.name, list, values)?;
     let mut seqs = List::new(alloc);
-    seqs.push(seq_of_list(alloc, list, before)?)?;
+    seqs.push(seq)?;
     let guard = copy_guard(alloc, guard)?;
     let rule = BinRule::Trans(seqs);
     Ok(bin_of(name, kind_of(decl.word), rule, guard, decl.at, declared))
 }
 
+/// The bins of the lists. A list is let go as soon as its bin is made, which takes its memory.
 fn list_bins(
     alloc: Global,
     decl: &BinsDecl,
     declared: u32,
     guard: &Option<Bound>,
-    lists: &[List<Int>],
+    lists: List<List<Int>>,
 ) -> Result<List<Made>, Memory>
-    ensures { IfOk result (λ bins. bins ≡ map (bin_of_list decl.now declared guard.now) lists.now) }
+    ensures { IfOk result (λ bins. bins ≡ map (bin_of_list decl.now declared guard.now) lists) }
 {
     let mut bins = List::new(alloc);
-    let mut before = Vec::new(alloc);
-    for list in lists {
-        bins.push(list_bin(alloc, decl, declared, guard, list.as_slice(), &mut before)?)?;
+    let mut values = no_values(alloc);
+    for list in lists.into_vec() {
+        bins.push(list_bin(alloc, decl, declared, guard, list.as_slice(), &mut values)?)?;
     }
     Ok(bins)
 }
@@ -134,7 +136,7 @@ fn bins_made(
 {
     match plan {
         Plan::One => scalar_bins(alloc, decl, declared, guard, seqs),
-        Plan::Each { lists } => list_bins(alloc, decl, declared, &guard, lists.as_slice()),
+        Plan::Each { lists } => list_bins(alloc, decl, declared, &guard, lists),
     }
 }
 

@@ -94,14 +94,14 @@ fn only_value(item: &Item) -> Option<Int>
 fn only_list(alloc: Global, items: &[Item]) -> Result<Option<List<Int>>, Memory>
     ensures { IfOk result (λ list. list ≡ word_of_items items.now) }
 {
-    let mut list = List::new(alloc);
+    let mut list = Vec::with_capacity(alloc, items.len())?;
     for item in items {
         let Some(value) = only_value(item) else {
             return Ok(None);
         };
         list.push(value)?;
     }
-    Ok(Some(list))
+    Ok(Some(List::of(list)))
 }
 
 fn copied(alloc: Global, seqs: &[Seq], copies: &mut Vec<Seq>) -> Result<(), Memory>

@@ -10,6 +10,7 @@ mod left;
 mod lists;
 mod plans;
 mod seqs;
+mod shown;
 mod steps;
 
 pub use bins::{TransBins, default_bin, trans_bins};
