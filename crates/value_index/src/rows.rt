@@ -5,11 +5,14 @@ use cov_ground::Memory;
 use std::alloc::Global;
 use std::marker::Model;
 
+/// The most numbers that the flat list has: places in it take half a word.
+const MOST_NUMBERS: usize = 0xffff_ffff;
+
 /// Where a row stands in the flat list.
 #[derive(Clone, Copy)]
 pub struct Place {
-    from: usize,
-    to: usize,
+    from: u32,
+    to: u32,
 }
 
 /// Rows of bins, one after the other in one flat list.
@@ -41,14 +44,20 @@ impl Rows {
         }
     }
 
-    /// Puts a row behind the others.
+    /// Puts a row behind the others. There is no room where all rows have 2^32 numbers and more together.
     pub fn push(&mut self, row: &[u32]) -> Result<(), Memory>
         ensures after { OnOk result (self.new ≡ self.old ++ row.now ∷ []) }
     {
         let from = self.flat.len();
         self.flat.extend_from_slice(row)?;
         let to = self.flat.len();
-        self.places.push(Place { from, to })?;
+        if to > MOST_NUMBERS {
+            return Err(Memory);
+        }
+        self.places.push(Place {
+            from: from as u32,
+            to: to as u32,
+        })?;
         Ok(())
     }
 
@@ -58,7 +67,7 @@ impl Rows {
         ensures { result.now ≡ slice_index_or self.now k [] }
     {
         let place = self.places[k];
-        &self.flat[place.from..place.to]
+        &self.flat[place.from as usize..place.to as usize]
     }
 }
 
