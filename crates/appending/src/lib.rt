@@ -2,6 +2,7 @@
 //!
 //! Bytes and numbers at the end of a text.
 #![tactic(auto)]
+
 ghost use Rattle.std.specs.Prelude.{◌≡◌, ◌++◌, decimal, OnOk};
 
 use cov_ground::Memory;

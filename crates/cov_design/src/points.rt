@@ -199,13 +199,7 @@ fn domain_in(
 ) -> Result<Domain, Memory>
     ensures { IfOk result (λ domain. domain ≡ domain_of_point outside.now inside.now.names point.now.expr (typ_of_term head.now.expr)) }
 {
-    point_domain(
-        alloc,
-        outside,
-        &inside.names,
-        &point.expr,
-        typ(&head.expr),
-    )
+    point_domain(alloc, outside, &inside.names, &point.expr, typ(&head.expr))
 }
 
 /// The bins of a point with these numbers.

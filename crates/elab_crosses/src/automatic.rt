@@ -206,7 +206,7 @@ pub fn cross_bins(
     requires products { product_of sizes.now ≤ most_products }
     ensures { Gives result
         (bins_of_cross scope.now (crossed cross.entry.names.now cross.entry.axes.now
-            cross.entry.items.now cross.entry.decls.now) sizes.now decls.now at) }
+        cross.entry.items.now cross.entry.decls.now) sizes.now decls.now at) }
 {
     let walked = walk_bins(alloc, scope, cross, decls)?;
     let Walked { names: _, bins } = walked;

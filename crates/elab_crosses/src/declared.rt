@@ -83,7 +83,7 @@ fn add_bin(
     requires { length cross.names.now ≤ most_points }
     ensures { Makes result walked.new
         (bin_declared scope.now (crossed cross.entry.names.now cross.entry.axes.now
-            cross.entry.items.now cross.entry.decls.now) decl.now walked.old) }
+        cross.entry.items.now cross.entry.decls.now) decl.now walked.old) }
 {
     check_unused(&walked.names, &decl.name, decl.at)?;
     let select = selection(alloc, scope, cross, &decl.sel)?;
@@ -104,7 +104,7 @@ pub(crate) fn walk_bins(
     requires { length cross.names.now ≤ most_points }
     ensures { Gives result
         (bins_walked scope.now (crossed cross.entry.names.now cross.entry.axes.now
-            cross.entry.items.now cross.entry.decls.now) decls.now) }
+        cross.entry.items.now cross.entry.decls.now) decls.now) }
 {
     let mut walked = Walked {
         names: NameMap::new(alloc),

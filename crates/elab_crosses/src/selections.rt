@@ -289,7 +289,7 @@ fn select_leaf(
     requires { length cross.names.now ≤ most_points }
     ensures { Gives result
         (leaf scope.now (crossed cross.entry.names.now cross.entry.axes.now
-            cross.entry.items.now cross.entry.decls.now) point.now bin.now elems.now at) }
+        cross.entry.items.now cross.entry.decls.now) point.now bin.now elems.now at) }
 {
     let axis = known_axis(place(cross.names, point), at)?;
     let item = at_index(cross.items, cross.axes, axis);
@@ -308,7 +308,7 @@ pub fn selection(
     requires { length cross.names.now ≤ most_points }
     ensures { Gives result
         (selection_of scope.now (crossed cross.entry.names.now cross.entry.axes.now
-            cross.entry.items.now cross.entry.decls.now) sel.now) }
+        cross.entry.items.now cross.entry.decls.now) sel.now) }
 {
     match sel {
         Sel::BinsOf {

@@ -9,8 +9,8 @@ use crate::events::most_of;
 use crate::fields::first_bad;
 use crate::{ArgRow, Event, InstRow, SignalRow, Start};
 use cov_ground::limits::{
-    LONGEST_NAME,
-    LONGEST_RECORD, MOST_ARGUMENTS, MOST_BITS, MOST_EVENTS, MOST_INSTANCES, MOST_SIGNALS,
+    LONGEST_NAME, LONGEST_RECORD, MOST_ARGUMENTS, MOST_BITS, MOST_EVENTS, MOST_INSTANCES,
+    MOST_SIGNALS,
 };
 
 /// Whether the text has at least so many bytes and at most so many, each from `low` on and below 127.

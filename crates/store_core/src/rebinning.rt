@@ -58,7 +58,7 @@ impl Model for Rebinned {
 
     ghost invariant = { λ r. Compiles r.text (Ok (arc_value r.design))
         × (map arc_value r.tallies.items
-            ≡ tallies_of (arc_value r.design) (map arc_value r.records))
+        ≡ tallies_of (arc_value r.design) (map arc_value r.records))
         × (r.counts.items ≡ all_hits (arc_value r.design) (map arc_value r.records))
         × (r.entries ≡ sum_by (bins_hit (arc_value r.design)) (map arc_value r.records)) };
 }

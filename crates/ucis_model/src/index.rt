@@ -32,7 +32,7 @@ impl Model for Tree {
 
     ghost invariant = { λ tree. HasSmallerParents tree.nodes.items × (length tree.nodes.items < 2 ^ 32)
         × ((path : List ℕ) → meaning_of tree.places path
-            ≡ meaning_of (places_of tree.nodes.items) path) };
+        ≡ meaning_of (places_of tree.nodes.items) path) };
 }
 
 /// The path of each node, with its place.
