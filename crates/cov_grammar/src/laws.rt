@@ -13,7 +13,8 @@ pub fn tokens_have_one_tree()
 
 /// What is derived with some room is derived with more.
 pub fn more_room_keeps_the_tree()
-    ensures { (text : List ℕ) (tokens : List Marked) (decls : List Decl) (less more : Room) → less.levels ≤ more.levels → less.operators ≤ more.operators →
+    ensures { (text : List ℕ) (tokens : List Marked) (decls : List Decl) (less more : Room) →
+        less.levels ≤ more.levels → less.operators ≤ more.operators →
         DerivesWithin less text tokens decls → DerivesWithin more text tokens decls }
 {}
 

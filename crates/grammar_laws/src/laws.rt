@@ -1,5 +1,19 @@
 //! What holds of first tokens that begin a design. Each function does nothing: it stands for the law that it ensures.
-ghost use Rattle.std.specs.Prelude.{◌≡◌, ℕ, ◌+◌, ◌<◌, ◌≤◌, List, true, length, take, slice_get, Some, IsSome, ◌⊎◌};
+ghost use Rattle.std.specs.Prelude.{
+  ◌≡◌,
+  ℕ,
+  ◌+◌,
+  ◌<◌,
+  ◌≤◌,
+  List,
+  true,
+  length,
+  take,
+  slice_get,
+  Some,
+  IsSome,
+  ◌⊎◌,
+};
 ghost use Rattle.cov_tree.specs.declared.expr.Expr.{Expr};
 ghost use Rattle.cov_tree.specs.declared.bins.Step.{Step};
 ghost use Rattle.cov_tree.specs.declared.bins.BinsDecl.{BinsDecl};
@@ -18,41 +32,78 @@ ghost use Rattle.cov_grammar.specs.declared.place.Standing.{Standing};
 ghost use Rattle.cov_grammar.specs.declared.place.Standing.TheVariants.{StepEnd};
 ghost use Rattle.cov_grammar.specs.Kinds.{has};
 ghost use Rattle.cov_grammar.specs.Operators.{unary_kinds, unary_of, level_kinds, binary_of};
-ghost use Rattle.cov_grammar.specs.Bins.{bins_words, bins_word_of, times_of, repetition, step, bins};
-ghost use Rattle.cov_grammar.specs.Designs.{fixed_words, width_of, edge_kind, Written, formal, argument};
+ghost use Rattle.cov_grammar.specs.Bins.{
+  bins_words,
+  bins_word_of,
+  times_of,
+  repetition,
+  step,
+  bins,
+};
+ghost use Rattle.cov_grammar.specs.Designs.{
+  fixed_words,
+  width_of,
+  edge_kind,
+  Written,
+  formal,
+  argument,
+};
 ghost use Rattle.cov_grammar.specs.Groups.{item};
 ghost use Rattle.cov_grammar.specs.Expressions.{literal_or, part_expr, index_in, inner_at};
 ghost use Rattle.cov_grammar.specs.Marking.{marked};
 ghost use Rattle.cov_grammar.specs.Fault.{IsViableWithin, IsSyntaxFault};
 ghost use Rattle.grammar_laws.specs.Continuations.{AreAlike, LieIn, GoesOn};
-ghost use Rattle.grammar_laws.specs.Tokens.{word_of, AreSpelledAlike, EndsAlone, GoOnAlike, StandIn, LeadsOn};
-ghost use Rattle.grammar_laws.specs.Tables.{unary_at, binary_at, times_at, bins_word_at, width_at, edge_at, repetition_kinds, edge_kinds};
+ghost use Rattle.grammar_laws.specs.Tokens.{
+  word_of,
+  AreSpelledAlike,
+  EndsAlone,
+  GoOnAlike,
+  StandIn,
+  LeadsOn,
+};
+ghost use Rattle.grammar_laws.specs.Tables.{
+  unary_at,
+  binary_at,
+  times_at,
+  bins_word_at,
+  width_at,
+  edge_at,
+  repetition_kinds,
+  edge_kinds,
+};
 
 /// First tokens are viable, within some limits, exactly where more tokens can stand behind them that make them a design
 /// within these limits.
 pub fn viable_tokens_go_on()
     ensures more { (text : List ℕ) (tokens : List Marked) (room : Room) (count : ℕ) →
-        LieIn text (take count tokens) → IsViableWithin room text tokens count → GoesOn room text tokens count }
-    ensures back { (text : List ℕ) (tokens : List Marked) (room : Room) (count : ℕ) → count ≤ length tokens →
-        LieIn text (take count tokens) → GoesOn room text tokens count → IsViableWithin room text tokens count }
+        LieIn text (take count tokens) → IsViableWithin room text tokens count →
+        GoesOn room text tokens count }
+    ensures back { (text : List ℕ) (tokens : List Marked) (room : Room) (count : ℕ) →
+        count ≤ length tokens →
+        LieIn text (take count tokens) → GoesOn room text tokens count →
+        IsViableWithin room text tokens count }
 {}
 
 /// Whether first tokens are viable is fixed by their kinds and spellings.
 pub fn kinds_and_spellings_decide()
     ensures { (first second : List ℕ) (before after : List Marked) (room : Room) (count : ℕ) →
-        AreAlike count first before second after → IsViableWithin room first before count → IsViableWithin room second after count }
+        AreAlike count first before second after → IsViableWithin room first before count →
+        IsViableWithin room second after count }
 {}
 
 /// Where the first tokens of a text are viable, as they are marked there, more text and tokens can stand behind them with
 /// which they are a design, as they are marked in the longer text; where the last of them is no `[` behind a name, only
 /// there; and fewer of those that lead on are viable, whatever they end in.
 pub fn text_leads_on()
-    ensures more { (text : List ℕ) (tokens : List Token) (room : Room) (count : ℕ) → StandIn count text tokens →
+    ensures more { (text : List ℕ) (tokens : List Token) (room : Room) (count : ℕ) →
+        StandIn count text tokens →
         IsViableWithin room text (marked text tokens) count → LeadsOn room text tokens count }
-    ensures back { (text : List ℕ) (tokens : List Token) (room : Room) (count : ℕ) → count ≤ length tokens →
+    ensures back { (text : List ℕ) (tokens : List Token) (room : Room) (count : ℕ) →
+        count ≤ length tokens →
         StandIn count text tokens → EndsAlone count text tokens → LeadsOn room text tokens count →
         IsViableWithin room text (marked text tokens) count }
-    ensures fewer { (text : List ℕ) (tokens : List Token) (room : Room) (fewer count : ℕ) → fewer < count →
+    ensures fewer { (text : List ℕ) (tokens : List Token) (room : Room) (fewer count : ℕ) →
+        fewer < count →
         count ≤ length tokens → StandIn count text tokens → LeadsOn room text tokens count →
         IsViableWithin room text (marked text tokens) fewer }
 {}
@@ -61,16 +112,24 @@ pub fn text_leads_on()
 /// there no tokens go on, in any room, from the tokens as they are marked, and, where it is no `[` behind a name, none at
 /// all; and with the token there and the next none at all.
 pub fn syntax_fault_is_first()
-    ensures before { (text : List ℕ) (tokens : List Token) (room : Room) (place : ℕ) → Lexes text tokens →
-        IsSyntaxFault room text (marked text tokens) place → (count : ℕ) → count ≤ place → LeadsOn room text tokens count }
-    ensures marked { (text : List ℕ) (tokens : List Token) (room : Room) (place : ℕ) → Lexes text tokens →
-        IsSyntaxFault room text (marked text tokens) place → (other : Room) (count : ℕ) → place < count →
+    ensures before { (text : List ℕ) (tokens : List Token) (room : Room) (place : ℕ) →
+        Lexes text tokens →
+        IsSyntaxFault room text (marked text tokens) place → (count : ℕ) → count ≤ place →
+        LeadsOn room text tokens count }
+    ensures marked { (text : List ℕ) (tokens : List Token) (room : Room) (place : ℕ) →
+        Lexes text tokens →
+        IsSyntaxFault room text (marked text tokens) place → (other : Room) (count : ℕ) →
+        place < count →
         count ≤ length tokens → GoesOn other text (marked text tokens) count → ⊥ }
-    ensures token { (text : List ℕ) (tokens : List Token) (room : Room) (place : ℕ) → Lexes text tokens →
-        IsSyntaxFault room text (marked text tokens) place → (other : Room) → place + 1 ≤ length tokens →
+    ensures token { (text : List ℕ) (tokens : List Token) (room : Room) (place : ℕ) →
+        Lexes text tokens →
+        IsSyntaxFault room text (marked text tokens) place → (other : Room) →
+        place + 1 ≤ length tokens →
         EndsAlone (place + 1) text tokens → LeadsOn other text tokens (place + 1) → ⊥ }
-    ensures next { (text : List ℕ) (tokens : List Token) (room : Room) (place : ℕ) → Lexes text tokens →
-        IsSyntaxFault room text (marked text tokens) place → (other : Room) (count : ℕ) → place + 1 < count →
+    ensures next { (text : List ℕ) (tokens : List Token) (room : Room) (place : ℕ) →
+        Lexes text tokens →
+        IsSyntaxFault room text (marked text tokens) place → (other : Room) (count : ℕ) →
+        place + 1 < count →
         count ≤ length tokens → LeadsOn other text tokens count → ⊥ }
 {}
 
@@ -79,10 +138,13 @@ pub fn syntax_fault_is_first()
 pub fn first_tokens_decide()
     ensures alone { (first second : List ℕ) (before after : List Token) (room : Room) (count : ℕ) →
         AreSpelledAlike count first before second after → EndsAlone count first before →
-        IsViableWithin room first (marked first before) count → IsViableWithin room second (marked second after) count }
+        IsViableWithin room first (marked first before) count →
+        IsViableWithin room second (marked second after) count }
     ensures next { (first second : List ℕ) (before after : List Token) (room : Room) (count : ℕ) →
-        AreSpelledAlike count first before second after → GoOnAlike count first before second after →
-        IsViableWithin room first (marked first before) count → IsViableWithin room second (marked second after) count }
+        AreSpelledAlike count first before second after →
+        GoOnAlike count first before second after →
+        IsViableWithin room first (marked first before) count →
+        IsViableWithin room second (marked second after) count }
 {}
 
 /// The kinds of the lists that rules read by (operators, repetitions, the words of bins, of types of one width, and of
@@ -104,7 +166,8 @@ pub fn kinds_have_meanings()
 
 /// Each literal among the tokens of a text has a meaning, and no other is made up for it.
 pub fn literals_have_meanings()
-    ensures { (text : List ℕ) (tokens : List Token) → Lexes text tokens → (place : ℕ) (token : Token) →
+    ensures { (text : List ℕ) (tokens : List Token) → Lexes text tokens →
+        (place : ℕ) (token : Token) →
         slice_get tokens place ≡ Some token → (token.kind ≡ Decimal) ⊎ (token.kind ≡ Based) →
         literal_of (word_of text token) ≡ Some (literal_or (literal_of (word_of text token))) }
 {}
@@ -112,32 +175,46 @@ pub fn literals_have_meanings()
 /// The rules whose trees say where they begin (`here`) have a token there: the byte behind the last token, where `offset`
 /// has nothing to say, is told of no tree.
 pub fn trees_begin_at_tokens()
-    ensures expr { (text : List ℕ) (tokens : List Marked) (room : Room) (place behind : Place) (standing : Standing) (tree : Expr) →
-        (part_expr text tokens standing room).derives place tree behind → IsSome (slice_get tokens place.at) }
-    ensures step { (text : List ℕ) (tokens : List Marked) (room : Room) (place behind : Place) (tree : Step) →
+    ensures expr { (text : List ℕ) (tokens : List Marked) (room : Room) (place behind : Place)
+        (standing : Standing) (tree : Expr) →
+        (part_expr text tokens standing room).derives place tree behind →
+        IsSome (slice_get tokens place.at) }
+    ensures step { (text : List ℕ) (tokens : List Marked) (room : Room) (place behind : Place)
+        (tree : Step) →
         (step text tokens room).derives place tree behind → IsSome (slice_get tokens place.at) }
-    ensures bins { (text : List ℕ) (tokens : List Marked) (room : Room) (place behind : Place) (tree : BinsDecl) →
+    ensures bins { (text : List ℕ) (tokens : List Marked) (room : Room) (place behind : Place)
+        (tree : BinsDecl) →
         (bins text tokens room).derives place tree behind → IsSome (slice_get tokens place.at) }
-    ensures item { (text : List ℕ) (tokens : List Marked) (room : Room) (place behind : Place) (tree : Member) →
+    ensures item { (text : List ℕ) (tokens : List Marked) (room : Room) (place behind : Place)
+        (tree : Member) →
         (item text tokens room).derives place tree behind → IsSome (slice_get tokens place.at) }
-    ensures formal { (text : List ℕ) (tokens : List Marked) (room : Room) (place behind : Place) (tree : Written) →
+    ensures formal { (text : List ℕ) (tokens : List Marked) (room : Room) (place behind : Place)
+        (tree : Written) →
         (formal text tokens room).derives place tree behind → IsSome (slice_get tokens place.at) }
-    ensures argument { (text : List ℕ) (tokens : List Marked) (room : Room) (place behind : Place) (tree : Formal) →
+    ensures argument { (text : List ℕ) (tokens : List Marked) (room : Room)
+        (place behind : Place) (tree : Formal) →
         (argument text tokens room).derives place tree behind → IsSome (slice_get tokens place.at) }
 {}
 
 /// Why the mark of a `[` counts: behind the last operand of a step one that opens an index begins no repetition, and every
 /// other one begins a repetition, in any room, and no index. Where no level is left no index begins.
 pub fn marks_tell_repetitions()
-    ensures index { (text : List ℕ) (tokens : List Marked) (room : Room) (place : Place) (token : Marked) →
+    ensures index { (text : List ℕ) (tokens : List Marked) (room : Room) (place : Place)
+        (token : Marked) →
         slice_get tokens place.at ≡ Some token → token.kind ≡ OpenIndex →
         (count : ℕ) → (repetition text tokens room).begins place count → count ≡ place.at }
-    ensures other { (text : List ℕ) (tokens : List Marked) (room : Room) (place : Place) (token : Marked) →
-        slice_get tokens place.at ≡ Some token → token.kind ≡ OpenSquare → (repetition text tokens room).begins place (place.at + 1) }
-    ensures no_index { (text : List ℕ) (tokens : List Marked) (room : Room) (place : Place) (token : Marked) →
+    ensures other { (text : List ℕ) (tokens : List Marked) (room : Room) (place : Place)
+        (token : Marked) →
+        slice_get tokens place.at ≡ Some token → token.kind ≡ OpenSquare →
+        (repetition text tokens room).begins place (place.at + 1) }
+    ensures no_index { (text : List ℕ) (tokens : List Marked) (room : Room) (place : Place)
+        (token : Marked) →
         slice_get tokens place.at ≡ Some token → token.kind ≡ OpenSquare → (count : ℕ) →
-        (index_in text tokens StepEnd (inner_at text tokens room.operators StepEnd room.levels)).begins place count →
+        (index_in text tokens StepEnd (inner_at text tokens room.operators StepEnd
+        room.levels)).begins place count →
         count ≡ place.at }
-    ensures no_level { (text : List ℕ) (tokens : List Marked) (limit : ℕ) (place : Place) (count : ℕ) →
-        (index_in text tokens StepEnd (inner_at text tokens limit StepEnd 0)).begins place count → count ≡ place.at }
+    ensures no_level { (text : List ℕ) (tokens : List Marked) (limit : ℕ) (place : Place)
+        (count : ℕ) →
+        (index_in text tokens StepEnd (inner_at text tokens limit StepEnd 0)).begins place count
+        → count ≡ place.at }
 {}
