@@ -1,6 +1,5 @@
 //! The constants of an enumeration.
 ghost use Rattle.std.specs.Prelude.{◌≡◌, pos, ◌+ℤ◌, [], ◌∷◌, ◌++◌, IfOk, OnOk, Some, None, if◌then◌else◌};
-ghost use Rattle.bin_spec.specs.Types.{lowest, highest};
 ghost use Rattle.elab_base.specs.Gives.{Gives, Makes};
 ghost use Rattle.elab_decls.specs.Shapes.{is_number};
 ghost use Rattle.elab_decls.specs.Enumerations.{value_in, valued, known_constant, constant, constants_walked, MakesWith};
@@ -8,7 +7,7 @@ ghost use Rattle.elab_decls.specs.Enumerations.{value_in, valued, known_constant
 use crate::Outside;
 use crate::numbers::Numbers;
 use const_eval::{Meaning, Scope, Typ};
-use cov_base::Int;
+use cov_base::{Int, highest_of, lowest_of};
 use cov_ground::Memory;
 use cov_tree::{Expr, List, Name};
 use elab_base::{ElabFault, ElabKind, What, add_name, check_unused, number_in};
@@ -36,34 +35,12 @@ fn value(alloc: Global, scope: &Scope, next: i128, expr: &Option<Expr>) -> Resul
     }
 }
 
-/// The least number of a type.
-fn lowest_of(typ: Typ) -> Int
-    ensures { result ≡ lowest typ.width typ.signed }
-{
-    if typ.is_signed() {
-        Int::of(-(1i128 << (typ.width().get() - 1)))
-    } else {
-        Int::of(0)
-    }
-}
-
-/// The greatest number of a type.
-fn highest_of(typ: Typ) -> Int
-    ensures { result ≡ highest typ.width typ.signed }
-{
-    if typ.is_signed() {
-        Int::of((1i128 << (typ.width().get() - 1)) - 1)
-    } else {
-        Int::of((1i128 << typ.width().get()) - 1)
-    }
-}
-
 /// The number, where it is one of the type.
 fn number_of(typ: Typ, value: i128) -> Option<Int>
     ensures { result ≡ (if is_number typ value then Some value else None) }
 {
-    let low = lowest_of(typ).get();
-    let high = highest_of(typ).get();
+    let low = lowest_of(typ.width().get(), typ.is_signed()).get();
+    let high = highest_of(typ.width().get(), typ.is_signed()).get();
     if low <= value && value <= high {
         Some(Int::of(value))
     } else {
