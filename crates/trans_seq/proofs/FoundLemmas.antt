@@ -103,6 +103,14 @@ fails_behind before xs ys Memory h = h
 pub fails_later : (old new : Found) (xs ys : List Word) (f : ExpandFault) → Takes old new xs → FailsAfter (lists_of new) ys f → FailsAfter (lists_of old) (xs ++ ys) f
 fails_later old new xs ys f t h = fails_behind (lists_of old) xs ys f (subst (λ l. FailsAfter l ys f) (lists_after old new xs t) h)
 
+pub left_more : (done rest left whole : List Word) (list : Word) → rest ≡ list ∷ left → done ++ rest ≡ whole → (done ++ list ∷ []) ++ left ≡ whole
+left_more done rest left whole list next parts = append_assoc done (list ∷ []) left ∙ ap (λ l. done ++ l) (sym next) ∙ parts
+
+pub fails_left : (old now : Found) (done rest left whole : List Word) (list : Word) (f : ExpandFault) → rest ≡ list ∷ left → done ++ rest ≡ whole → Takes old now done → FailsAfter (lists_of now) (list ∷ []) f → FailsAfter (lists_of old) whole f
+fails_left old now done rest left whole list f next parts t h =
+    subst (λ l. FailsAfter (lists_of old) l f) (left_more done rest left whole list next parts)
+    (fails_first (lists_of old) (done ++ list ∷ []) left f (fails_later old now done (list ∷ []) f t h))
+
 -- ---- groups taken one after the other
 
 pub extends_none : (old : Found) → Holds old → old.fresh.items ≡ [] → Extends old old []

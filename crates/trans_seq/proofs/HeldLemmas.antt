@@ -1,6 +1,6 @@
 -- Lists with one number of each of several sets, and those that are found already.
-use Rattle.std.proofs.Common.{◌≡◌, ℕ, ◌+◌, ◌<◌, ◌≤◌, ◌⊎◌, List, [], ◌∷◌, ◌++◌, length, take, drop, get_or, map, filter, refl, ap, sym, ◌∙◌, subst, inl, inr, arith, append_assoc, append-nil, length-append, Result, Ok, Err, OnOk, Bool, true, false, cond, zero, suc}
-use Rattle.std.specs.Prelude.{ℤ, ◌-◌, not, ◌||◌, Some, Option, replicate}
+use Rattle.std.proofs.Common.{◌≡◌, ℕ, ◌+◌, ◌<◌, ◌≤◌, List, [], ◌∷◌, ◌++◌, length, drop, get_or, map, filter, refl, ap, sym, ◌∙◌, subst, inl, inr, arith, append_assoc, append-nil, length-append, Result, Ok, Err, OnOk, Bool, true, false, cond, zero, suc}
+use Rattle.std.specs.Prelude.{ℤ, ◌-◌, ◌==◌, not, ◌||◌, Some, Option, replicate}
 use Rattle.std.specs.Ordering.{int_eq}
 use Rattle.std.specs.List.{flat_map, list_any}
 use Rattle.std.proofs.lemmas.Bool.{false≢true, true≢false, or_cases, or_left, or_right}
@@ -15,7 +15,7 @@ use Rattle.trans_seq.specs.declared.fault.ExpandFault.{ExpandFault}
 use Rattle.trans_seq.specs.declared.fault.ExpandFault.TheVariants.{Unbounded, TooLong, TooManyBins, Memory}
 use Rattle.trans_seq.specs.Lists.{is_among, news, all_of, listed, by_lengths, choices, joined, lengths, from_on, is_endless, RefusesToExpand}
 use Rattle.trans_seq.specs.Cells.{cells_of_items}
-use Rattle.cov_ground.specs.Limits.{most_bins, most_cells}
+use Rattle.cov_ground.specs.Limits.{most_cells}
 use Rattle.trans_seq.specs.Found.{lists_of, Takes, FailsAfter}
 use Rattle.trans_seq.specs.Held.{words, begun, begun_by, once, AreSpread, HasAll, AreHeld}
 use Rattle.trans_seq.proofs.News.{Word, among_left, among_right, among_cases, among_news, news-append, news-map}
@@ -42,6 +42,13 @@ begun-each first (v ∷ vs) items =
 
 pub begun-item : (first : Word) (item : Item) (items : List Item) → begun_by first (written item.set) items ≡ begun first (item ∷ items)
 begun-item first item items = begun-each first (written item.set) items
+
+pub begun-none : (first : Word) (set : List (ℤ × ℤ)) (items : List Item) → set ≡ [] → begun_by first (written set) items ≡ []
+begun-none first set items none = ap (λ vs. begun_by first vs items) (ap written none ∙ none_written)
+
+pub no_ranges : (set : List (ℤ × ℤ)) → (length set == 0) ≡ true → set ≡ []
+no_ranges [] h = refl
+no_ranges (range ∷ ranges) h = let e : (length (range ∷ ranges) == 0) ≡ false = grind arith in absurd (false≢true (sym e ∙ h))
 
 -- ---- having all of them
 

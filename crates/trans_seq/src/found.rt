@@ -35,22 +35,19 @@ pub(crate) fn none_found(alloc: Global) -> Found
     }
 }
 
-/// The numbers of the two parts, as a key.
-fn key_of(alloc: Global, first: &[Int], rest: &[Int]) -> Result<Vec<i128>, Memory>
-    ensures { IfOk result (λ key. key.items ≡ first.now ++ rest.now) }
+/// The numbers of a list, as a key.
+fn key_of(alloc: Global, list: &[Int]) -> Result<Vec<i128>, Memory>
+    ensures { IfOk result (λ key. key.items ≡ list.now) }
 {
-    let mut key = Vec::with_capacity(alloc, first.len().saturating_add(rest.len()))?;
-    for value in first {
-        key.push(value.get())?;
-    }
-    for value in rest {
+    let mut key = Vec::with_capacity(alloc, list.len())?;
+    for value in list {
         key.push(value.get())?;
     }
     Ok(key)
 }
 
 /// The values of the two parts.
-fn list_of(alloc: Global, first: &[Int], rest: &[Int]) -> Result<List<Int>, Memory>
+pub(crate) fn list_of(alloc: Global, first: &[Int], rest: &[Int]) -> Result<List<Int>, Memory>
     ensures { IfOk result (λ list. list ≡ first.now ++ rest.now) }
 {
     let mut values = Vec::with_capacity(alloc, first.len().saturating_add(rest.len()))?;
@@ -62,15 +59,14 @@ fn list_of(alloc: Global, first: &[Int], rest: &[Int]) -> Result<List<Int>, Memo
 /// Takes a list into the open group, where it is new.
 pub(crate) fn take_list(
     alloc: Global,
-    first: &[Int],
-    rest: &[Int],
+    list: List<Int>,
     found: &mut Found,
 ) -> Result<(), ExpandFault>
     requires { Holds found.old }
-    ensures ok { OnOk result (Takes found.old found.new ((first.now ++ rest.now) ∷ [])) }
-    ensures err { IfErr result (FailsAfter (lists_of found.old) ((first.now ++ rest.now) ∷ [])) }
+    ensures ok { OnOk result (Takes found.old found.new (list ∷ [])) }
+    ensures err { IfErr result (FailsAfter (lists_of found.old) (list ∷ [])) }
 {
-    if !found.seen.insert(key_of(alloc, first, rest)?)? {
+    if !found.seen.insert(key_of(alloc, list.as_slice())?)? {
         return Ok(());
     }
     if found.count == MOST_BINS {
@@ -78,7 +74,7 @@ pub(crate) fn take_list(
             count: MOST_BINS as u64 + 1,
         });
     }
-    found.fresh.push(list_of(alloc, first, rest)?)?;
+    found.fresh.push(list)?;
     found.count += 1;
     Ok(())
 }
@@ -95,7 +91,24 @@ pub(crate) fn take_group(
     ensures err { IfErr result (FailsAfter (lists_of found.old) (map (λ rest. first.now ++ rest) group.now)) }
 {
     for rest in group {
-        take_list(alloc, first, rest.as_slice(), found)?;
+        let list = list_of(alloc, first, rest.as_slice())?;
+        take_list(alloc, list, found)?;
+    }
+    Ok(())
+}
+
+/// Takes these lists.
+pub(crate) fn take_all(
+    alloc: Global,
+    lists: Vec<List<Int>>,
+    found: &mut Found,
+) -> Result<(), ExpandFault>
+    requires { Holds found.old }
+    ensures ok { OnOk result (Takes found.old found.new lists.items) }
+    ensures err { IfErr result (FailsAfter (lists_of found.old) lists.items) }
+{
+    for list in lists {
+        take_list(alloc, list, found)?;
     }
     Ok(())
 }

@@ -9,7 +9,7 @@ ghost use Rattle.trans_seq.specs.Windows.{HasWord, SomeHasWord};
 ghost use Rattle.trans_seq.specs.Lists.{lengths, by_lengths, from_on, all_of, listed, is_endless, has_endless as seq_has_endless, IsShort, IsFirstLong, HasEndless, Expands, RefusesToExpand, ExpandsAll, RefusesToExpandAll, lists_by_all, listed_by_all};
 
 use crate::fault::ExpandFault;
-use crate::found::{Found, none_found, take_group, take_length};
+use crate::found::{Found, none_found, take_all, take_length};
 use crate::held::{Known, none_known};
 use crate::met::{Met, is_held, none_met};
 use crate::seq::{Item, Repeat, Seq, same_values};
@@ -325,6 +325,6 @@ fn take_expanded(alloc: Global, seq: &Seq, found: &mut Found) -> Result<(), Expa
     ensures err { IfErr result (FailsAfter (lists_of found.old) (listed seq.now.items)) }
 {
     let lists = expand(alloc, seq)?;
-    take_group(alloc, &[], lists.as_slice(), found)?;
+    take_all(alloc, lists, found)?;
     Ok(())
 }

@@ -1,12 +1,12 @@
 //! Sequences whose lists have one length: their lists are taken number by number, and what is known to be found is
 //! passed over.
-ghost use Rattle.std.specs.Prelude.{◌≡◌, [], ◌++◌, ℕ, replicate, IfOk, IfErr, OnOk, IfSome};
+ghost use Rattle.std.specs.Prelude.{◌≡◌, [], ◌++◌, ℕ, replicate, IsTrue, IfOk, IfErr, OnOk, IfSome};
 ghost use Rattle.cov_base.specs.Sets.{written, without};
 ghost use Rattle.trans_seq.specs.Found.{Holds, Takes, FailsAfter, lists_of};
 ghost use Rattle.trans_seq.specs.Held.{begun, begun_by, once as item_once, AreSpread, AreHeld};
 
 use crate::fault::ExpandFault;
-use crate::found::{Found, take_list};
+use crate::found::{Found, list_of, take_list};
 use crate::held::{Known, known_numbers, remember};
 use crate::listing::ends;
 use crate::seq::{Item, Repeat};
@@ -54,6 +54,14 @@ fn unknown_numbers(alloc: Global, set: &ValueSet, known: &ValueSet) -> Result<Va
     set.minus(alloc, known)
 }
 
+/// Whether a set has no number.
+#[tactic(auto, using(crate::proofs::HeldLemmas::no_ranges))]
+fn is_none(set: &ValueSet) -> bool
+    ensures { IsTrue result → set.now ≡ [] }
+{
+    set.intervals().is_empty()
+}
+
 /// Whether a set has so many numbers that what is found of it is kept: that costs about as much as a few of its lists.
 fn is_large(set: &ValueSet) -> bool {
     set.count() > FEW_NUMBERS
@@ -93,7 +101,8 @@ fn take_first(alloc: Global, first: &[Int], found: &mut Found) -> Result<(), Exp
     ensures ok { OnOk result (Takes found.old found.new (begun first.now [])) }
     ensures err { IfErr result (FailsAfter (lists_of found.old) (begun first.now [])) }
 {
-    take_list(alloc, first, &[], found)
+    let list = list_of(alloc, first, &[])?;
+    take_list(alloc, list, found)
 }
 
 /// Takes the lists that begin with the first numbers, go on with one of the set, and end with one of each item's set. Those
@@ -116,6 +125,9 @@ fn take_unknown(
 {
     let before = known_numbers(alloc, first.as_slice(), rest, known)?;
     let left = unknown_numbers(alloc, set, &before)?;
+    if is_none(&left) {
+        return Ok(());
+    }
     take_numbers(alloc, &left, rest, first, known, found)?;
     remember(alloc, first.as_slice(), set, &before, rest, known)?;
     Ok(())

@@ -1,4 +1,4 @@
-use Rattle.std.proofs.Common.{rules, ◌<◌, [], ◌∷◌, ◌++◌, length, map, subst, arith}
+use Rattle.std.proofs.Common.{rules, ◌<◌, [], ◌∷◌, ◌++◌, length, map, subst, ap, ◌∙◌, arith}
 use Rattle.trans_seq.specs.Found.{Takes, FailsAfter, lists_of}
 use Rattle.trans_seq.proofs.News.{Word}
 use Rattle.trans_seq.proofs.FoundLemmas.{takes_next, fails_next}
@@ -12,7 +12,7 @@ returns-in_err-take_list-clause-err c =
     let rest = c.rest-item.result in
     let within : i < length group = omega arith in
     let failed : FailsAfter (lists_of c.loop-rest.found) (f rest ∷ []) c.in_err-take_list.field-0.0 =
-    subst (λ w. FailsAfter (lists_of c.loop-rest.found) (f w ∷ []) c.in_err-take_list.field-0.0) c.as_slice.ensures c.in_err-take_list.ensures.err in
+    subst (λ w. FailsAfter (lists_of c.loop-rest.found) (w ∷ []) c.in_err-take_list.field-0.0) (c.in_ok-list.ensures ∙ ap f c.as_slice.ensures) c.in_err-take_list.ensures.err in
     let all : FailsAfter (lists_of c.args.found.now) (map f group) c.in_err-take_list.field-0.0 =
     fails_next f c.args.found.now c.loop-rest.found group i rest within c.rest-item.is c.loop-rest.invariant c.in_err-take_list.field-0.0 failed in
     search (rules, all)
@@ -25,5 +25,5 @@ loop-rest-preserved c =
     let rest = c.rest-item.result in
     let within : i < length group = omega arith in
     let took : Takes c.loop-rest.found c.take_list.new.found (f rest ∷ []) =
-    subst (λ w. Takes c.loop-rest.found c.take_list.new.found (f w ∷ [])) c.as_slice.ensures c.in_ok-take_list.ensures.ok in
+    subst (λ w. Takes c.loop-rest.found c.take_list.new.found (w ∷ [])) (c.in_ok-list.ensures ∙ ap f c.as_slice.ensures) c.in_ok-take_list.ensures.ok in
     takes_next f c.args.found.now c.loop-rest.found group i rest within c.rest-item.is c.loop-rest.invariant c.take_list.new.found took

@@ -13,15 +13,16 @@ from_not b false e t = λ i. false
 pub returns-clause-ok : goal.returns-clause-ok
 returns-clause-ok c =
     let old = c.args.found.now in
-    let w = c.args.first.now ++ c.args.rest.now in
+    let w = c.args.list in
+    let keyed = c.in_ok-key_of.ensures ∙ c.as_slice.ensures in
     let key = c.in_ok-key_of.field-0 in
     let before = lists_of old in
-    let new : is_among before w ≡ false = subst (λ u. is_among before u ≡ false) c.in_ok-key_of.ensures (sym (c.requires.seen key) ∙ from_not _ _ c.in_ok-insert.ensures.added c.if-not-branch.false) in
-    let pushed : c.push.new.self.items ≡ old.fresh.items ++ w ∷ [] = c.in_ok-push.ensures.items ∙ ap (λ u. old.fresh.items ++ u ∷ []) c.in_ok-list_of.ensures in
+    let new : is_among before w ≡ false = subst (λ u. is_among before u ≡ false) keyed (sym (c.requires.seen key) ∙ from_not _ _ c.in_ok-insert.ensures.added c.if-not-branch.false) in
+    let pushed : c.push.new.self.items ≡ old.fresh.items ++ w ∷ [] = c.in_ok-push.ensures.items in
     let after : all_of old.groups.items ++ c.push.new.self.items ≡ before ++ w ∷ [] = ap (λ f. all_of old.groups.items ++ f) pushed ∙ sym (append_assoc (all_of old.groups.items) old.fresh.items (w ∷ [])) in
     record {
       holds = record {
-        seen = λ q. seen_after before _ _ key w c.requires.seen (λ q. c.in_ok-insert.ensures.updates.0 q) c.in_ok-key_of.ensures q ∙ ap (λ l. is_among l q.items) (sym after);
+        seen = λ q. seen_after before _ _ key w c.requires.seen (λ q. c.in_ok-insert.ensures.updates.0 q) keyed q ∙ ap (λ l. is_among l q.items) (sym after);
         count = ap (λ n. n + 1) c.requires.count ∙ sym (ap length after ∙ length-append before (w ∷ []));
         few = omega arith;
       };

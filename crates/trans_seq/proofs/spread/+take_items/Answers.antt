@@ -10,7 +10,7 @@ use Rattle.trans_seq.specs.Held.{begun, begun_by, HasAll, AreHeld}
 use Rattle.trans_seq.proofs.News.{Word}
 use Rattle.trans_seq.proofs.FoundLemmas.{takes_none, takes_part, fails_part, value_at, none_at, popped}
 use Rattle.trans_seq.proofs.ListingLemmas.{others, split, if_err}
-use Rattle.trans_seq.proofs.HeldLemmas.{begun-item, passed-known, takes-same, fails-same, takes-has, takes-keeps, held-more, on-ok}
+use Rattle.trans_seq.proofs.HeldLemmas.{begun-item, begun-none, passed-known, takes-same, fails-same, takes-has, takes-keeps, held-more, on-ok}
 use Rattle.trans_seq.proofs.spread.+take_items.Goals as goal
 use Rattle.trans_seq.proofs.spread.+take_items.Goals.{take_numbers-in-Some+in_ok-push+in_ok-take_items, take_numbers-in_default}
 
@@ -101,6 +101,21 @@ take_unknown-returns-in_err-take_numbers-clause-err t c =
     let failed : FailsAfter before (begun_by first (written set) rest) e =
     fails-same before (begun_by first (written c.in_ok-left.left) rest) (begun_by first (written set) rest) e same c.in_err-take_numbers.ensures.err in
     search (rules, failed)
+
+pub take_unknown-returns-then-is_none-clause-ok : goal.take_unknown-returns-then-is_none-clause-ok
+take_unknown-returns-then-is_none-clause-ok t c =
+    let set = c.args.set.now in
+    let first = c.args.first.now.items in
+    let rest = c.args.rest.now in
+    let found = c.args.found.now in
+    let before = lists_of found in
+    let known = c.in_ok-before.before in
+    let left = c.in_ok-left.left in
+    let had : HasAll before (begun_by first (written known) rest) = subst (λ f. HasAll before (begun_by f (written known) rest)) c.as_slice.ensures.value (c.in_ok-before.ensures before c.requires.held) in
+    let same : news before (begun_by first (written left) rest) ≡ news before (begun_by first (written set) rest) = ap (λ vs. news before (begun_by first vs rest)) c.in_ok-left.ensures ∙ passed-known before first set known rest had in
+    let none : begun_by first (written left) rest ≡ [] = begun-none first left rest (c.is_none.ensures c.if-is_none.true) in
+    takes-same found found (begun_by first (written left) rest) (begun_by first (written set) rest) same
+    (subst (Takes found found) (sym none) (takes_none found c.requires.holds))
 
 pub take_unknown-returns-clause-ok : goal.take_unknown-returns-clause-ok
 take_unknown-returns-clause-ok t c =
