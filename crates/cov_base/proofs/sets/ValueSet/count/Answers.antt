@@ -1,6 +1,5 @@
 use Rattle.std.proofs.Common.{◌∙◌, arith, ap, length, List, ℤ}
 use Rattle.cov_base.specs.Sets.{written}
-use Rattle.cov_base.proofs.Counts.{total-written}
 use Rattle.cov_base.proofs.Stores.{count_is, count_few}
 use Rattle.cov_base.proofs.sets.ValueSet.count.Goals as goal
 
