@@ -6,5 +6,6 @@ pub mod Meeting
 pub mod Standing
 mod Still
 mod Keyed
+mod Asking
 mod Resting
 mod Bounds

@@ -1,20 +1,19 @@
 -- Automata that rest: no window stands, and none begins with the value.
-use Rattle.std.proofs.Common.{◌≡◌, ◌≢◌, ◌⊎◌, ◌↔◌, ℕ, zero, suc, ◌+◌, ◌<◌, ◌≤◌, List, [], ◌∷◌, ◌++◌, length, drop, get_or, Bool, true, false, refl, ap, sym, subst, ◌∙◌, inl, inr, arith, IsTrue, length-append, length-drop}
-use Rattle.std.specs.Prelude.{Contains, AllPairs, ◌&&◌, nat_eq}
+use Rattle.std.proofs.Common.{◌≡◌, ◌↔◌, ℕ, zero, suc, ◌+◌, ◌<◌, List, [], ◌∷◌, ◌++◌, length, drop, get_or, Bool, true, false, refl, ap, sym, subst, ◌∙◌, inl, inr, arith, IsTrue, length-append}
+use Rattle.std.specs.Prelude.{◌&&◌}
 use Rattle.std.specs.List.{AllByRecursion}
 use Rattle.std.proofs.Math.ListN.{get_or-append}
 use Rattle.std.proofs.Math.Seq.{get_or-append_seam}
-use Rattle.std.proofs.lemmas.Bool.{false≢true, true≢false, cases_lt}
-use Rattle.std.proofs.lemmas.List.{drop-append-le, drop_at, get_or_default}
+use Rattle.std.proofs.lemmas.Bool.{false≢true, cases_lt}
+use Rattle.std.proofs.lemmas.List.{drop-append-le, drop_at}
 use Rattle.trans_seq.specs.declared.seq.Item.{Item}
 use Rattle.trans_seq.specs.declared.seq.Seq.{Seq}
 use Rattle.trans_seq.specs.declared.seq.Repeat.{Repeat}
-use Rattle.trans_seq.specs.declared.seq.Repeat.TheVariants.{Once}
 use Rattle.trans_seq.specs.Windows.{EndsKept, EndsWindow, is_end, is_known_in}
 use Rattle.trans_seq.specs.Cells.{cells_of_repeat, cells_of_items}
-use Rattle.trans_auto.specs.Masks.{SeqsHold, IsEmpty, has_bit}
+use Rattle.trans_auto.specs.Masks.{SeqsHold}
 use Rattle.trans_auto.specs.Steps.{SeqsStep, ItemsStep, RepeatSteps, RunsStep, Leaves}
-use Rattle.trans_auto.specs.State.{Stands, Covers, SaysKept, SaysWindow, TakesSample}
+use Rattle.trans_auto.specs.State.{Stands, Covers}
 use Rattle.trans_auto.proofs.BitLemmas.{no-bit}
 use Rattle.trans_auto.proofs.Languages.{seqs-step, seqs-start, seqs-dead, not_fresh}
 use Rattle.trans_auto.proofs.RunLemmas.{kept-from, window-from, some-drop}

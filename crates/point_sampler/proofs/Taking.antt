@@ -1,5 +1,5 @@
 -- The places of bins that are met, counted one by one.
-use Rattle.std.proofs.Common.{◌≡◌, ◌≢◌, ◌⊎◌, ℕ, zero, suc, ◌+◌, ◌<◌, ◌≤◌, List, [], ◌∷◌, ◌++◌, length, get_or, take, Bool, true, false, cond, Some, refl, ap, sym, subst, ◌∙◌, inl, inr, arith, length-append}
+use Rattle.std.proofs.Common.{◌≡◌, ◌≢◌, ◌⊎◌, ℕ, zero, suc, ◌+◌, ◌<◌, ◌≤◌, List, [], ◌∷◌, ◌++◌, length, get_or, take, Bool, true, false, cond, Some, None, All, refl, ap, sym, subst, ◌∙◌, inl, inr, arith, length-append}
 use Rattle.std.specs.Prelude.{filter, Contains, AllPairs, slice_get, slice_index, slice_set}
 use Rattle.std.proofs.lemmas.Bool.{false≢true, true≢false, cases_lt}
 use Rattle.std.proofs.lemmas.List.{get_or-set_same, get_or-set_other}
@@ -13,7 +13,7 @@ use Rattle.design_data.specs.Bins.{is_coverage}
 use Rattle.record_codec.specs.Samples.{Env}
 use Rattle.cov_counting.specs.Hits.{holds}
 use Rattle.point_sampler.specs.declared.plan.Entry.{Entry}
-use Rattle.point_sampler.specs.Plans.{covering, IsEntry, AreEntries, AreEntriesOf}
+use Rattle.point_sampler.specs.Plans.{covering, IsEntry, IsPlain, AreEntries, AreEntriesOf}
 use Rattle.point_sampler.specs.Met.{raised, IsOn, PlaceTaken, IsNoted, AllTaken}
 
 pub same_bin : (bins : List BinInfo) (place : ℕ) (a b : BinInfo) → slice_get bins place ≡ Some a → slice_get bins place ≡ Some b → a ≡ b
@@ -29,18 +29,41 @@ one_more b = cond b 1 0
 
 -- ---- entries
 
-pub entry_at : (bins : List BinInfo) (entries : List Entry) (place : ℕ) (d : Entry) → AreEntries bins entries → place < length bins
-    → (bin : BinInfo) × (slice_get bins place ≡ Some bin) × IsEntry bins place bin (get_or entries place d)
-entry_at bins entries place d are lt =
-    let b = some_at bins place lt in
-    (b.0, b.1, are.at place b.0 (get_or entries place d) b.1 (slice_get-get_or entries place d (omega (arith, lt, are.same))))
+-- where each bin counts for coverage, as many stand before a place as its number says
+all_cover : (bins : List BinInfo) (place : ℕ) → All IsPlain bins → place < length bins → length (covering (take place bins)) ≡ place
+all_cover bins zero plain lt = refl
+all_cover [] (suc place) plain lt = absurd (omega (arith, lt))
+all_cover (bin ∷ bins) (suc place) plain lt =
+    let covers : is_coverage bin.kind ≡ true = (plain 0 bin (omega arith)).0 in
+    let later : length (covering (take place bins)) ≡ place = all_cover bins place (λ k d less. plain (suc k) d (omega (arith, less))) (omega (arith, lt)) in
+    ap (λ (b : Bool). length (cond b (bin ∷ covering (take place bins)) (covering (take place bins)))) covers ∙ more later
+  where
+    more : {n : ℕ} → n ≡ place → suc n ≡ suc place
+    more e = ap suc e
 
-slice_get_left : {X : Type 0} → (xs ys : List X) (k : ℕ) → k < length xs → slice_get (xs ++ ys) k ≡ slice_get xs k
+-- a bin of which nothing is asked
+pub plain_entry : (bins : List BinInfo) (entries : List Entry) (place : ℕ) (bin : BinInfo) → AreEntries bins entries → length entries ≡ 0 → place < length bins → slice_get bins place ≡ Some bin
+    → IsEntry bins place bin (record { covers = true; number = place; guard = None })
+plain_entry bins entries place bin (inl are) empty lt is = absurd (omega (arith, lt, are.same, empty))
+plain_entry bins entries place bin (inr none) empty lt is =
+    let at : get_or bins place bin ≡ bin = get_or_from_slice_get bins place bin bin is in
+    let plain : IsPlain bin = subst IsPlain at (none.1 place bin lt) in
+    record {
+      covers = sym plain.0;
+      number = sym (all_cover bins place none.1 lt);
+      guard = plain.1;
+    }
+
+pub listed_entry : (bins : List BinInfo) (entries : List Entry) (place : ℕ) (bin : BinInfo) (d : Entry) → AreEntries bins entries → (length entries ≡ 0 → ⊥) → place < length bins → slice_get bins place ≡ Some bin → IsEntry bins place bin (get_or entries place d)
+listed_entry bins entries place bin d (inl are) some lt is = are.at place bin (get_or entries place d) is (slice_get-get_or entries place d (omega (arith, lt, are.same)))
+listed_entry bins entries place bin d (inr none) some lt is = absurd (some (ap (λ (es : List Entry). length es) none.0))
+
+pub slice_get_left : {X : Type 0} → (xs ys : List X) (k : ℕ) → k < length xs → slice_get (xs ++ ys) k ≡ slice_get xs k
 slice_get_left [] ys k lt = absurd (omega (arith, lt))
 slice_get_left (x ∷ xs) ys zero lt = refl
 slice_get_left (x ∷ xs) ys (suc k) lt = slice_get_left xs ys k (omega (arith, lt))
 
-slice_get_last : {X : Type 0} → (xs : List X) (y : X) → slice_get (xs ++ y ∷ []) (length xs) ≡ Some y
+pub slice_get_last : {X : Type 0} → (xs : List X) (y : X) → slice_get (xs ++ y ∷ []) (length xs) ≡ Some y
 slice_get_last [] y = refl
 slice_get_last (x ∷ xs) y = slice_get_last xs y
 

@@ -1,7 +1,12 @@
 -- What the plan of a point prepares.
-use Rattle.std.specs.Prelude.{◌≡◌, ◌⊎◌, ⊤, ℤ, pos, ◌+ℤ◌, ◌<ℤ◌, ℕ, ◌+◌, ◌^◌, ◌<◌, ◌≤◌, List, [], ◌∷◌, ◌++◌, length, filter, take, slice_get, slice_index_or, Option, Some, None, IfSome, Bool, true, false, not, if◌then◌else◌}
+use Rattle.std.specs.Prelude.{◌≡◌, ◌⊎◌, ⊤, ℤ, pos, ◌+ℤ◌, ◌<ℤ◌, ◌≤ℤ◌, ℕ, ◌+◌, ◌^◌, ◌<◌, ◌≤◌, nat_eq, bit_and, bit_xor, List, [], ◌∷◌, ◌++◌, length, filter, take, slice_get, slice_index_or, All, Option, Some, None, IfSome, Bool, true, false, not, if◌then◌else◌}
 use Rattle.std.specs.List.{AllByRecursion}
 use Rattle.cov_ground.specs.Limits.{most_bins, most_cells}
+use Rattle.cov_base.specs.Sets.{is_within}
+use Rattle.bin_spec.specs.Types.{lowest, highest}
+use Rattle.wildcard_bins.specs.Patterns.{bits_of}
+use Rattle.const_eval.specs.declared.typs.Typ.{Typ}
+use Rattle.const_eval.specs.Typs.{HasWidth}
 use Rattle.const_eval.specs.Terms.{Term}
 use Rattle.trans_seq.specs.declared.seq.Seq.{Seq}
 use Rattle.trans_seq.specs.declared.seq.Item.{Item}
@@ -22,6 +27,9 @@ use Rattle.value_index.specs.Found.{places}
 use Rattle.value_index.specs.Finds.{Finds}
 use Rattle.point_sampler.specs.declared.plan.Lookup.{Lookup}
 use Rattle.point_sampler.specs.declared.plan.PointPlan.{PointPlan}
+use Rattle.point_sampler.specs.declared.plan.Question.{Question}
+use Rattle.point_sampler.specs.declared.plan.Question.TheVariants.{Bits, Range, Rule}
+use Rattle.point_sampler.specs.declared.plan.Questions.{Questions}
 use Rattle.point_sampler.specs.declared.plan.Entry.{Entry}
 use Rattle.point_sampler.specs.declared.plan.Entrance.{Entrance}
 use Rattle.point_sampler.specs.declared.plan.Machine.{Machine}
@@ -59,6 +67,30 @@ pub record IsLookupOf (bins : List BinInfo) (lookup : Lookup) : Type 0 where
   pub meets : (key : ℕ) → key < 2 ^ 64 → places key 0 sets ≡ places_from (λ bin. has_value bins (Some (lookup.least +ℤ pos key)) bin.rule) 0 bins
   pub unknown : lookup.unknown.items ≡ places_from (λ bin. has_value bins None bin.rule) 0 bins
 
+-- the value is a number of the type, and these are its bits
+pub record AreBits (typ : Typ) (v : ℤ) (word : ℕ) : Type 0 where
+  pub low : lowest typ.width typ.signed ≤ℤ v
+  pub high : v ≤ℤ highest typ.width typ.signed
+  pub bits : word ≡ bits_of typ.width v
+
+abbrev pub IsWordOf : Typ → Value → ℕ → Type 0
+IsWordOf typ None word = ⊥
+IsWordOf typ (Some v) word = AreBits typ v word
+
+-- the question asks of a value what the rule does
+abbrev pub IsQuestionOf : Typ → BinRule → Question → Type 0
+IsQuestionOf typ rule (Bits fixed bits) = (bins : List BinInfo) (v : ℤ) (word : ℕ) → AreBits typ v word → nat_eq (bit_and (bit_xor word bits) fixed) 0 ≡ has_value bins (Some v) rule
+IsQuestionOf typ rule (Range low high) = (bins : List BinInfo) (v : ℤ) → is_within v (low, high) ≡ has_value bins (Some v) rule
+IsQuestionOf typ rule Rule = ⊤
+
+-- the questions are those of the first bins
+abbrev pub AreQuestions : Typ → List BinInfo → List Question → Type 0
+AreQuestions typ bins list = (place : ℕ) (bin : BinInfo) (question : Question) → slice_get bins place ≡ Some bin → slice_get list place ≡ Some question → IsQuestionOf typ bin.rule question
+
+pub record AreQuestionsOf (bins : List BinInfo) (questions : Questions) : Type 0 where
+  pub width : HasWidth questions.typ
+  pub each : AreQuestions questions.typ bins questions.list.items
+
 -- ---- what is prepared of each bin
 
 -- the coverage bins among bins
@@ -80,8 +112,13 @@ pub record AreEntriesOf (bins : List BinInfo) (n : ℕ) (entries : List Entry) :
   pub same : length entries ≡ n
   pub at : (place : ℕ) (bin : BinInfo) (entry : Entry) → slice_get bins place ≡ Some bin → slice_get entries place ≡ Some entry → IsEntry bins place bin entry
 
+-- the bin counts for coverage and has no guard
+abbrev pub IsPlain : BinInfo → Type 0
+IsPlain bin = (is_coverage bin.kind ≡ true) × (bin.guard ≡ None)
+
+-- there is an entry for each bin, or none at all, where each bin counts for coverage and has no guard
 abbrev pub AreEntries : List BinInfo → List Entry → Type 0
-AreEntries bins entries = AreEntriesOf bins (length bins) entries
+AreEntries bins entries = AreEntriesOf bins (length bins) entries ⊎ ((entries ≡ []) × All IsPlain bins)
 
 -- ---- transitions
 
@@ -156,4 +193,5 @@ pub record IsPlanOf (item : ItemInfo) (plan : PointPlan) : Type 0 where
   pub removers : AreRemovers item plan.removers
   pub others : plan.others ≡ item.ignored ++ item.illegal
   pub lookup : IfSome plan.lookup (IsLookupOf item.bins)
+  pub questions : AreQuestionsOf item.bins plan.questions
   pub sequences : plan.sequences.items ≡ places_from (λ bin. is_default_sequence bin.rule) 0 item.bins

@@ -1,8 +1,9 @@
 //! The counts of the bins that a sample meets.
-ghost use Rattle.std.specs.Prelude.{◌≡◌, ◌≢◌, ℕ, ◌+◌, ◌<◌, ◌≤◌, ◌∷◌, ◌++◌, [], length, All, AllPairs, Option, OnOk, if◌then◌else◌};
+ghost use Rattle.std.specs.Prelude.{◌≡◌, ◌≢◌, ℕ, ◌+◌, ◌<◌, ◌≤◌, ◌∷◌, ◌++◌, [], length, slice_get, All, AllPairs, Option, Some, OnOk, if◌then◌else◌};
 ghost use Rattle.const_eval.specs.Terms.{Term};
 ghost use Rattle.cov_counting.specs.Hits.{holds as holds_at};
-ghost use Rattle.point_sampler.specs.Plans.{AreEntries, IsGuardAt};
+ghost use Rattle.design_data.specs.declared.infos.BinInfo.{BinInfo as Bin};
+ghost use Rattle.point_sampler.specs.Plans.{AreEntries, IsEntry, IsGuardAt};
 ghost use Rattle.point_sampler.specs.Points.{IsOutside};
 ghost use Rattle.point_sampler.specs.Met.{PlaceTaken, AllTaken};
 
@@ -12,6 +13,7 @@ use cov_base::{Int, Memory};
 use design_data::{BinInfo, ItemInfo};
 
 /// Whether the guard of the bin at this place holds; None stands for no guard.
+#[inline(always)]
 fn holds_of(bins: &[BinInfo], place: &Option<u32>, env: &[Option<Int>]) -> bool
     requires { (guard : Option Term) × IsGuardAt bins.now place.now guard }
     ensures { (guard : Option Term) → IsGuardAt bins.now place.now guard → result ≡ holds_at guard env.now }
@@ -23,6 +25,7 @@ fn holds_of(bins: &[BinInfo], place: &Option<u32>, env: &[Option<Int>]) -> bool
 }
 
 /// Appends the number of a coverage bin.
+#[inline(always)]
 fn add_number(entry: &Entry, row: &mut Vec<u32>) -> Result<(), Memory>
     ensures { OnOk result (row.new.items ≡ (if entry.now.covers then row.old.items ++ entry.now.number ∷ [] else row.old.items)) }
 {
@@ -32,7 +35,26 @@ fn add_number(entry: &Entry, row: &mut Vec<u32>) -> Result<(), Memory>
     Ok(())
 }
 
+/// What is asked of the bin at this place. Where there are no entries, each bin counts for coverage and has no guard.
+#[inline(always)]
+fn entry_at(entries: &[Entry], bins: &[BinInfo], place: u32) -> Entry
+    requires entries { AreEntries bins.now entries.now }
+    requires place { place < length bins.now }
+    ensures { (bin : Bin) → slice_get bins.now place ≡ Some bin → IsEntry bins.now place bin result }
+{
+    let _ = bins;
+    if entries.is_empty() {
+        return Entry {
+            covers: true,
+            number: place,
+            guard: None,
+        };
+    }
+    entries[place as usize]
+}
+
 /// Counts the bin at this place, whose rule is met, if its guard holds.
+#[inline(always)]
 fn count_one(
     entries: &[Entry],
     item: &ItemInfo,
@@ -46,8 +68,9 @@ fn count_one(
     requires counts { item.now.first_bin + length item.now.bins ≤ length counts.old }
     ensures { OnOk result (PlaceTaken item.now env.now place counts.old row.old.items counts.new row.new.items) }
 {
-    let entry = entries[place as usize];
-    if !holds_of(item.bins.as_slice(), &entry.guard, env) {
+    let bins = item.bins.as_slice();
+    let entry = entry_at(entries, bins, place);
+    if !holds_of(bins, &entry.guard, env) {
         return Ok(());
     }
     let number = item.first_bin as usize + place as usize;

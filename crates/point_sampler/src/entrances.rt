@@ -100,6 +100,7 @@ pub(crate) fn entrance_of(seqs: &[Seq]) -> Entrance
 }
 
 /// Whether the value is Unknown or beyond the bounds.
+#[inline(always)]
 fn is_out(entrance: &Entrance, value: &Option<Int>) -> bool
     ensures { IsTrue result → IsOut entrance.now value.now }
 {
@@ -113,6 +114,7 @@ fn is_out(entrance: &Entrance, value: &Option<Int>) -> bool
 }
 
 /// Whether no window stands, and none begins with the value.
+#[inline(always)]
 pub(crate) fn rests(entrance: &Entrance, state: &TransState, value: &Option<Int>) -> bool
     ensures none { IsTrue result → state.now ≡ [] }
     ensures out { IsTrue result → IsOut entrance.now value.now }

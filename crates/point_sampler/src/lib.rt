@@ -12,8 +12,10 @@ mod machines;
 mod plan;
 mod planning;
 mod point;
+mod questions;
 mod rules;
 mod state;
+mod values;
 
-pub use plan::{Entrance, Entry, Lookup, Machine, PointPlan, Removers};
+pub use plan::{Entrance, Entry, Lookup, Machine, PointPlan, Question, Questions, Removers};
 pub use state::{PointState, Steps};

@@ -65,6 +65,7 @@ fn push_one(
 }
 
 /// Takes the automaton of a bin over the next value of the trace, in no time where no window stands or begins there.
+#[inline(always)]
 fn push_machine(
     machine: &Machine,
     entrance: &Entrance,
@@ -139,6 +140,7 @@ fn push_machines(
 }
 
 /// Whether one of the two ended.
+#[inline(always)]
 fn either(ended: bool, ends: bool) -> bool
     ensures { IsTrue result ↔ (IsTrue ended ⊎ IsTrue ends) }
 {

@@ -1,5 +1,6 @@
 //! What is prepared of a point before its samples are counted. All records and threads share it.
 
+use const_eval::Typ;
 use cov_base::Int;
 use design_data::BinKind;
 use trans_auto::{Removing, Watcher};
@@ -8,7 +9,7 @@ use value_index::Index;
 /// What is prepared of a point: its tables are linear in its bins and their intervals.
 #[derive(Drop)]
 pub struct PointPlan {
-    /// One for each bin.
+    /// One for each bin; none at all where each bin counts for coverage and has no guard.
     pub(crate) entries: Vec<Entry>,
     /// The automata of the transition bins, in order.
     pub(crate) machines: Vec<Machine>,
@@ -20,6 +21,8 @@ pub struct PointPlan {
     pub(crate) others: Watcher,
     /// The index of the bins of values, where there is one.
     pub(crate) lookup: Option<Lookup>,
+    /// How the bins of values are asked where there is no index.
+    pub(crate) questions: Questions,
     /// The places of the default sequences.
     pub(crate) sequences: Vec<u32>,
 }
@@ -32,6 +35,26 @@ pub struct Lookup {
     pub(crate) index: Index,
     /// The places of the bins that are met where the value is Unknown.
     pub(crate) unknown: Vec<u32>,
+}
+
+/// How the bins of values are asked, one by one.
+#[derive(Drop)]
+pub struct Questions {
+    /// The type whose bits the patterns speak of.
+    pub(crate) typ: Typ,
+    /// One for each bin, or for the first ones; the others are asked by their rule.
+    pub(crate) list: Vec<Question>,
+}
+
+/// How a bin of values is asked whether it has a value.
+#[derive(Clone, Copy, Drop)]
+pub enum Question {
+    /// By the bits at the places that are fixed, where the value is a number of the type.
+    Bits { fixed: u64, bits: u64 },
+    /// By the ends of the only range of its set.
+    Range { low: Int, high: Int },
+    /// By its rule.
+    Rule,
 }
 
 /// What is asked of a bin that a sample meets.

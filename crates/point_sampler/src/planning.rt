@@ -1,5 +1,5 @@
 //! How a point is prepared.
-ghost use Rattle.std.specs.Prelude.{◌≡◌, ◌++◌, ◌≤◌, ◌<◌, ◌^◌, ℕ, ◌+◌, [], length, List, slice_get, Some, IfOk, OnOk, IfSome, if◌then◌else◌};
+ghost use Rattle.std.specs.Prelude.{◌≡◌, ◌++◌, ◌≤◌, ◌<◌, ◌^◌, ℕ, ◌+◌, [], length, List, slice_get, All, Some, IfOk, OnOk, IfSome, IsTrue, if◌then◌else◌};
 ghost use Rattle.const_eval.specs.Terms.{Term};
 ghost use Rattle.cov_ground.specs.Limits.{most_bins, most_cells};
 ghost use Rattle.trans_seq.specs.Cells.{cells_of_seqs};
@@ -7,12 +7,13 @@ ghost use Rattle.design_data.specs.declared.infos.ItemInfo.{ItemInfo as Item};
 ghost use Rattle.design_data.specs.declared.infos.BinInfo.{BinInfo as Bin};
 ghost use Rattle.design_data.specs.Limits.{IsPointRule};
 ghost use Rattle.record_codec.specs.Samples.{Env};
-ghost use Rattle.point_sampler.specs.Plans.{IsPoint, IsPlanOf, IsLookupOf, IsGuardAt, AreEntries, AreEntrances, AreRemovers, machine_of, machines_from, places_from, is_default_sequence as is_default_sequence_of};
+ghost use Rattle.point_sampler.specs.Plans.{IsPoint, IsPlanOf, IsLookupOf, IsGuardAt, IsPlain, AreEntriesOf, AreEntries, AreQuestionsOf, AreEntrances, AreRemovers, machine_of, machines_from, places_from, is_default_sequence as is_default_sequence_of};
 ghost use Rattle.point_sampler.specs.Points.{Fits, StateStands, RunsStand};
 
 use crate::entrances::entrance_of;
 use crate::lookups::lookup_of;
-use crate::plan::{Entrance, Entry, Lookup, Machine, PointPlan, Removers};
+use crate::plan::{Entrance, Entry, Lookup, Machine, PointPlan, Questions, Removers};
+use crate::questions::questions_of;
 use crate::rules::note;
 use crate::state::{PointState, Steps};
 use cov_base::Memory;
@@ -40,10 +41,44 @@ fn counted(number: u32, covers: bool) -> u32
     if covers { number + 1 } else { number }
 }
 
-/// What is asked of each bin.
+/// Whether the bin counts for coverage and has no guard.
+fn is_plain(bin: &BinInfo) -> bool
+    ensures { IsTrue result → IsPlain bin.now }
+{
+    match bin.guard {
+        None => bin.kind.is_coverage(),
+        Some(_) => false,
+    }
+}
+
+/// Whether each bin counts for coverage and has no guard.
+fn are_plain(bins: &[BinInfo]) -> bool
+    ensures { IsTrue result → All IsPlain bins.now }
+{
+    for bin in bins {
+        if !is_plain(bin) {
+            return false;
+        }
+    }
+    true
+}
+
+/// What is asked of each bin, where that isn't the same of all.
 fn entries_of(alloc: Global, bins: &[BinInfo]) -> Result<Vec<Entry>, Memory>
     requires { length bins.now ≤ most_bins }
     ensures { IfOk result (λ entries. AreEntries bins.now entries.items) }
+{
+    if are_plain(bins) {
+        return Ok(Vec::new(alloc));
+    }
+    let entries = entry_list(alloc, bins)?;
+    Ok(entries)
+}
+
+/// What is asked of each bin.
+fn entry_list(alloc: Global, bins: &[BinInfo]) -> Result<Vec<Entry>, Memory>
+    requires { length bins.now ≤ most_bins }
+    ensures { IfOk result (λ entries. AreEntriesOf bins.now (length bins.now) entries.items) }
 {
     let mut entries = Vec::new(alloc);
     let mut number = 0;
@@ -182,11 +217,13 @@ fn plan_with(
     removing_seqs: &[Seq],
     entries: Vec<Entry>,
     lookup: Option<Lookup>,
+    questions: Questions,
 ) -> Result<PointPlan, Memory>
     requires point { IsPoint item.now }
     requires seqs { removing_seqs.now ≡ item.now.ignored ++ item.now.illegal }
     requires entries { AreEntries item.now.bins entries.items }
     requires lookup { IfSome lookup (IsLookupOf item.now.bins) }
+    requires questions { AreQuestionsOf item.now.bins questions }
     ensures { IfOk result (λ plan. IsPlanOf item.now plan) }
 {
     let mut entrances = Vec::new(alloc);
@@ -201,6 +238,7 @@ fn plan_with(
         removers,
         others,
         lookup,
+        questions,
         sequences,
     })
 }
@@ -215,7 +253,9 @@ impl PointPlan {
         let removing_seqs = removing_of(alloc, item)?;
         let entries = entries_of(alloc, item.bins.as_slice())?;
         let lookup = lookup_of(alloc, item)?;
-        plan_with(alloc, item, removing_seqs.as_slice(), entries, lookup)
+        let questions = questions_of(alloc, item, lookup.is_none())?;
+        let removing_seqs = removing_seqs.as_slice();
+        plan_with(alloc, item, removing_seqs, entries, lookup, questions)
     }
 }
 

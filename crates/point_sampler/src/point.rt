@@ -10,8 +10,9 @@ use crate::counting::count_met;
 use crate::keys::key_of;
 use crate::machines::{is_still, push_value};
 use crate::plan::{Lookup, PointPlan};
-use crate::rules::{add_values, holds};
+use crate::rules::holds;
 use crate::state::PointState;
+use crate::values::add_values;
 use const_eval::{Bound, eval};
 use cov_base::{Int, Memory};
 use design_data::ItemInfo;
@@ -85,7 +86,7 @@ fn sample_any(
         → slice_index counts.new number ≡ slice_index counts.old number) }
 {
     push_value(plan, state, value)?;
-    add_values(&plan.lookup, item, value, &mut state.met)?;
+    add_values(&plan.lookup, &plan.questions, item, value, &mut state.met)?;
     count_met(
         plan.entries.as_slice(),
         item,

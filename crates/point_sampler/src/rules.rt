@@ -1,14 +1,12 @@
-//! Guards, and the bins of values that have a value.
-ghost use Rattle.std.specs.Prelude.{◌≡◌, ◌++◌, ◌∷◌, [], OnOk, IfSome, if◌then◌else◌};
+//! Guards, and the rules of the bins of values.
+ghost use Rattle.std.specs.Prelude.{◌≡◌, ◌++◌, ◌∷◌, [], OnOk, if◌then◌else◌};
 ghost use Rattle.std.specs.List.{AllByRecursion};
 ghost use Rattle.const_eval.specs.Values.{is_true as is_true_of};
 ghost use Rattle.design_data.specs.Limits.{IsPointRule};
 ghost use Rattle.design_data.specs.Laws.{in_patterns as in_patterns_of, lists as lists_of, is_listed as is_listed_in};
 ghost use Rattle.cov_counting.specs.Hits.{holds as holds_at};
-ghost use Rattle.point_sampler.specs.Plans.{IsPoint, IsLookupOf, places_from, has_value as has_value_of};
+ghost use Rattle.point_sampler.specs.Plans.{IsPoint, has_value as has_value_of};
 
-use crate::keys::key_of;
-use crate::plan::Lookup;
 use const_eval::{Bound, eval};
 use cov_base::{Int, Memory};
 use design_data::{BinInfo, BinRule, ItemInfo};
@@ -76,7 +74,7 @@ fn is_listed(item: &ItemInfo, value: &Option<Int>) -> bool
 }
 
 /// Whether the rule of a bin of values is met.
-fn has_value(item: &ItemInfo, bin: &BinInfo, value: &Option<Int>) -> bool
+pub(crate) fn has_value(item: &ItemInfo, bin: &BinInfo, value: &Option<Int>) -> bool
     requires point { IsPoint item.now }
     requires own { IsPointRule item.now bin.now.kind bin.now.rule }
     ensures { result ≡ has_value_of item.now.bins value.now bin.now.rule }
@@ -91,51 +89,12 @@ fn has_value(item: &ItemInfo, bin: &BinInfo, value: &Option<Int>) -> bool
 }
 
 /// Appends a place, if it is met.
+#[inline(always)]
 pub(crate) fn note(place: u32, is_met: bool, met: &mut Vec<u32>) -> Result<(), Memory>
     ensures { OnOk result (met.new.items ≡ (if is_met then met.old.items ++ place ∷ [] else met.old.items)) }
 {
     if is_met {
         met.push(place)?;
     }
-    Ok(())
-}
-
-/// Appends the places of the bins of values whose rule is met, by asking each bin.
-fn walk_values(item: &ItemInfo, value: &Option<Int>, met: &mut Vec<u32>) -> Result<(), Memory>
-    requires { IsPoint item.now }
-    ensures { OnOk result (met.new.items
-        ≡ met.old.items ++ places_from (λ bin. has_value_of item.now.bins value.now bin.rule) 0 item.now.bins) }
-{
-    for (place, bin) in item.bins.as_slice().iter().enumerate() {
-        note(place as u32, has_value(item, bin, value), met)?;
-    }
-    Ok(())
-}
-
-/// Appends the places of the bins of values whose rule is met: those that the index finds, where it has the value.
-pub(crate) fn add_values(
-    lookup: &Option<Lookup>,
-    item: &ItemInfo,
-    value: &Option<Int>,
-    met: &mut Vec<u32>,
-) -> Result<(), Memory>
-    requires point { IsPoint item.now }
-    requires lookup { IfSome lookup.now (IsLookupOf item.now.bins) }
-    ensures { OnOk result (met.new.items
-        ≡ met.old.items ++ places_from (λ bin. has_value_of item.now.bins value.now bin.rule) 0 item.now.bins) }
-{
-    let Some(lookup) = lookup else {
-        walk_values(item, value, met)?;
-        return Ok(());
-    };
-    let Some(number) = value else {
-        met.extend_from_slice(lookup.unknown.as_slice())?;
-        return Ok(());
-    };
-    let Some(key) = key_of(lookup.least, *number) else {
-        walk_values(item, value, met)?;
-        return Ok(());
-    };
-    met.extend_from_slice(lookup.index.hits(key))?;
     Ok(())
 }

@@ -1,27 +1,29 @@
-use Rattle.std.proofs.Common.{ap, sym, subst, ◌∙◌, List, ℕ, get_or, set, ◌+◌, None, false}
+use Rattle.std.proofs.Common.{◌≡◌, ap, sym, subst, ◌∙◌, List, ℕ, set, ◌+◌}
+use Rattle.std.specs.Prelude.{slice_get, Some}
 use Rattle.design_data.specs.declared.infos.BinInfo.{BinInfo}
-use Rattle.point_sampler.specs.declared.plan.Entry.{Entry}
-use Rattle.point_sampler.specs.Plans.{IsGuardAt}
-use Rattle.point_sampler.proofs.Taking.{entry_at, off_taken, on_taken}
+use Rattle.point_sampler.specs.Plans.{IsEntry}
+use Rattle.point_sampler.proofs.Taking.{some_at, off_taken, on_taken}
 use Rattle.point_sampler.proofs.counting.count_one.Goals as goal
-
-abbrev none : Entry
-none = record { covers = false; number = 0; guard = None }
 
 pub holds_of-requires : goal.holds_of-requires
 holds_of-requires c =
-    let e = entry_at c.args.item.now.bins c.args.entries.now c.args.place none c.requires.entries c.requires.place in
-    (e.0.guard, subst (λ (bins : List BinInfo). IsGuardAt bins (get_or c.args.entries.now c.args.place none).guard e.0.guard) (sym c.as_slice.ensures) e.2.guard)
+    let b = some_at c.args.item.now.bins c.args.place c.requires.place in
+    let is : slice_get c.as_slice-bins.result.now c.args.place ≡ Some b.0 = subst (λ (bins : List BinInfo). slice_get bins c.args.place ≡ Some b.0) (sym c.as_slice-bins.ensures) b.1 in
+    (b.0.guard, (c.entry_at-entry.ensures b.0 is).guard)
 
 pub returns-then-not-holds_of : goal.returns-then-not-holds_of
 returns-then-not-holds_of c =
-    let e = entry_at c.args.item.now.bins c.args.entries.now c.args.place none c.requires.entries c.requires.place in
-    let at = subst (λ (bins : List BinInfo). IsGuardAt bins (get_or c.args.entries.now c.args.place none).guard e.0.guard) (sym c.as_slice.ensures) e.2.guard in
-    off_taken c.args.item.now c.args.env.now c.args.place c.args.counts.now c.args.row.now.items e.0 e.1 (sym (c.holds_of.ensures e.0.guard at) ∙ c.if-not-holds_of.true)
+    let b = some_at c.args.item.now.bins c.args.place c.requires.place in
+    let is : slice_get c.as_slice-bins.result.now c.args.place ≡ Some b.0 = subst (λ (bins : List BinInfo). slice_get bins c.args.place ≡ Some b.0) (sym c.as_slice-bins.ensures) b.1 in
+    off_taken c.args.item.now c.args.env.now c.args.place c.args.counts.now c.args.row.now.items b.0 b.1
+    (sym (c.holds_of.ensures b.0.guard (c.entry_at-entry.ensures b.0 is).guard) ∙ c.if-not-holds_of.true)
 
 pub returns : goal.returns
 returns c =
-    let e = entry_at c.args.item.now.bins c.args.entries.now c.args.place none c.requires.entries c.requires.place in
-    let at = subst (λ (bins : List BinInfo). IsGuardAt bins (get_or c.args.entries.now c.args.place none).guard e.0.guard) (sym c.as_slice.ensures) e.2.guard in
-    on_taken c.args.item.now c.args.env.now c.args.place c.args.counts.now _ c.args.row.now.items c.add_number.new.row.items e.0 (get_or c.args.entries.now c.args.place none) e.1
-    (sym (c.holds_of.ensures e.0.guard at) ∙ c.if-not-holds_of.false) e.2 (ap (λ (u : ℕ). set c.args.counts.now (c.args.item.now.first_bin + c.args.place) u) c.saturating_add.ensures) c.in_ok-add_number.ensures
+    let b = some_at c.args.item.now.bins c.args.place c.requires.place in
+    let is : slice_get c.as_slice-bins.result.now c.args.place ≡ Some b.0 = subst (λ (bins : List BinInfo). slice_get bins c.args.place ≡ Some b.0) (sym c.as_slice-bins.ensures) b.1 in
+    let entry = c.entry_at-entry.ensures b.0 is in
+    on_taken c.args.item.now c.args.env.now c.args.place c.args.counts.now _ c.args.row.now.items c.add_number.new.row.items b.0 c.entry_at-entry.result b.1
+    (sym (c.holds_of.ensures b.0.guard entry.guard) ∙ c.if-not-holds_of.false)
+    (subst (λ (bins : List BinInfo). IsEntry bins c.args.place b.0 c.entry_at-entry.result) c.as_slice-bins.ensures entry)
+    (ap (λ (u : ℕ). set c.args.counts.now (c.args.item.now.first_bin + c.args.place) u) c.saturating_add.ensures) c.in_ok-add_number.ensures

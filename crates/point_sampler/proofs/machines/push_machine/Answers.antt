@@ -1,6 +1,5 @@
-use Rattle.std.proofs.Common.{sym, subst, List, ℕ, [], ◌++◌, ◌∷◌, ◌↔◌, IsTrue, false}
-use Rattle.trans_seq.specs.Windows.{EndsKept, EndsWindow}
-use Rattle.trans_auto.specs.State.{Stands, SaysKept, SaysWindow, TakesSample}
+use Rattle.std.proofs.Common.{sym, subst, List, ℕ, false}
+use Rattle.trans_auto.specs.State.{SaysKept, SaysWindow, TakesSample}
 use Rattle.point_sampler.specs.Plans.{removed_by}
 use Rattle.point_sampler.proofs.Resting.{rest_stands, rest_kept, rest_window}
 use Rattle.point_sampler.proofs.machines.push_machine.Goals as goal

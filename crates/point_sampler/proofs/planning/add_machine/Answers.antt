@@ -1,4 +1,4 @@
-use Rattle.std.proofs.Common.{◌≡◌, ◌++◌, ◌∷◌, [], List, sym, subst, ◌∙◌, ap}
+use Rattle.std.proofs.Common.{◌++◌, ◌∷◌, [], List, sym, subst}
 use Rattle.trans_seq.specs.declared.seq.Seq.{Seq}
 use Rattle.point_sampler.specs.declared.plan.Machine.{Machine}
 use Rattle.point_sampler.specs.declared.plan.Entrance.{Entrance}

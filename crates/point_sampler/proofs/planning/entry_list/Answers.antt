@@ -4,7 +4,7 @@ use Rattle.std.proofs.lemmas.Option.{slice_get_read}
 use Rattle.point_sampler.specs.declared.plan.Entry.{Entry}
 use Rattle.point_sampler.specs.Plans.{IsEntry, AreEntriesOf}
 use Rattle.point_sampler.proofs.Taking.{entries_more, counted_more, counted_few}
-use Rattle.point_sampler.proofs.planning.entries_of.Goals as goal
+use Rattle.point_sampler.proofs.planning.entry_list.Goals as goal
 
 pub loop-place-preserved : goal.loop-place-preserved
 loop-place-preserved c =

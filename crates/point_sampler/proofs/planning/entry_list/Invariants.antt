@@ -1,6 +1,6 @@
 use Rattle.std.proofs.Common.{◌≡◌, ◌≤◌, length, take}
 use Rattle.point_sampler.specs.Plans.{covering, AreEntriesOf}
-use Rattle.point_sampler.proofs.planning.entries_of.Given as goal
+use Rattle.point_sampler.proofs.planning.entry_list.Given as goal
 
 abbrev pub invariant-loop-place : goal.invariant-loop-place
 invariant-loop-place l = record {

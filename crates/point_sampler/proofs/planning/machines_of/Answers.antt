@@ -1,4 +1,4 @@
-use Rattle.std.proofs.Common.{◌≡◌, ◌<◌, ap, sym, subst, refl, ◌∙◌, List, [], ◌++◌, length, get_or, arith}
+use Rattle.std.proofs.Common.{◌≡◌, ◌<◌, ap, sym, subst, ◌∙◌, List, [], ◌++◌, length, get_or, arith}
 use Rattle.design_data.specs.declared.infos.BinInfo.{BinInfo}
 use Rattle.point_sampler.specs.declared.plan.Machine.{Machine}
 use Rattle.point_sampler.specs.declared.plan.Entrance.{Entrance}

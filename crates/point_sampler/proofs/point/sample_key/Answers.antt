@@ -1,4 +1,4 @@
-use Rattle.std.proofs.Common.{◌≡◌, ◌<◌, ◌∙◌, ap, sym, subst, ℕ, List, [], ◌++◌, ◌∷◌, length, refl, arith, inl, inr, length-append}
+use Rattle.std.proofs.Common.{◌<◌, ◌∙◌, ap, sym, [], ◌++◌, ◌∷◌, length, refl, arith, inl, inr, length-append}
 use Rattle.std.proofs.lemmas.Option.{slice_get_within}
 use Rattle.design_data.specs.declared.infos.BinInfo.{BinInfo}
 use Rattle.design_data.specs.Laws.{Value}
