@@ -51,8 +51,8 @@ fn lies_in(low: Int, high: Int, number: Int) -> bool
     low.get() <= number.get() && number.get() <= high.get()
 }
 
-/// What the bin answers to its question: whether its rule is met. `word` has the bits of the value, where it is a number of
-/// the type.
+/// What the bin answers to its question: whether its rule is met. `word` has the bits of the value, where it is a number
+/// of the type.
 #[inline(always)]
 fn answer(
     typ: Typ,
