@@ -10,7 +10,7 @@ use Rattle.bin_spec.specs.Types.{lowest, highest}
 use Rattle.wildcard_bins.specs.declared.pattern.Pattern.{Pattern}
 use Rattle.wildcard_bins.specs.Patterns.{bits_of, agrees}
 use Rattle.wildcard_bins.proofs.Agreement.{matched}
-use Rattle.const_eval.specs.declared.typs.Typ.{Typ}
+use Rattle.const_eval.specs.Typs.{Typ}
 use Rattle.design_data.specs.declared.infos.BinInfo.{BinInfo}
 use Rattle.design_data.specs.declared.infos.BinRule.{BinRule}
 use Rattle.design_data.specs.declared.infos.BinRule.TheVariants.{Values, Patterns}

@@ -5,8 +5,7 @@ use Rattle.cov_ground.specs.Limits.{most_bins, most_cells}
 use Rattle.cov_base.specs.Sets.{is_within}
 use Rattle.bin_spec.specs.Types.{lowest, highest}
 use Rattle.wildcard_bins.specs.Patterns.{bits_of}
-use Rattle.const_eval.specs.declared.typs.Typ.{Typ}
-use Rattle.const_eval.specs.Typs.{HasWidth}
+use Rattle.const_eval.specs.Typs.{Typ}
 use Rattle.const_eval.specs.Terms.{Term}
 use Rattle.trans_seq.specs.declared.seq.Seq.{Seq}
 use Rattle.trans_seq.specs.declared.seq.Item.{Item}
@@ -88,7 +87,6 @@ abbrev pub AreQuestions : Typ → List BinInfo → List Question → Type 0
 AreQuestions typ bins list = (place : ℕ) (bin : BinInfo) (question : Question) → slice_get bins place ≡ Some bin → slice_get list place ≡ Some question → IsQuestionOf typ bin.rule question
 
 pub record AreQuestionsOf (bins : List BinInfo) (questions : Questions) : Type 0 where
-  pub width : HasWidth questions.typ
   pub each : AreQuestions questions.typ bins questions.list.items
 
 -- ---- what is prepared of each bin

@@ -1,11 +1,11 @@
 //! How the bins of a point without an index are asked.
 ghost use Rattle.std.specs.Prelude.{◌≡◌, ◌∷◌, [], IfOk, IsTrue};
-ghost use Rattle.const_eval.specs.Typs.{HasWidth};
-ghost use Rattle.const_eval.specs.declared.typs.Typ.{Typ as AnyTyp};
+ghost use Rattle.const_eval.specs.Typs.{Typ as AnyTyp};
 ghost use Rattle.design_data.specs.declared.infos.BinRule.TheVariants.{Values, Patterns};
 ghost use Rattle.point_sampler.specs.Plans.{IsQuestionOf, AreQuestions, AreQuestionsOf};
 
 use crate::plan::{Question, Questions};
+use bit_width::Width;
 use const_eval::{Typ, typ};
 use cov_base::{Memory, ValueSet};
 use design_data::{BinInfo, BinRule, ItemInfo, ItemShape};
@@ -13,15 +13,10 @@ use std::alloc::Global;
 use wildcard_bins::Pattern;
 
 /// The type of the point's values.
-fn typ_of(item: &ItemInfo) -> Typ
-    ensures { HasWidth result }
-{
+fn typ_of(item: &ItemInfo) -> Typ {
     match &item.shape {
         ItemShape::Point(expr) => typ(expr),
-        ItemShape::Cross(_) => Typ {
-            width: 1,
-            signed: false,
-        },
+        ItemShape::Cross(_) => Typ::of(Width::of(1), false),
     }
 }
 
@@ -29,26 +24,24 @@ fn typ_of(item: &ItemInfo) -> Typ
 fn has_type(pattern: &Pattern, typ: Typ) -> bool
     ensures { IsTrue result → (pattern.now.width ≡ typ.width) × (pattern.now.signed ≡ typ.signed) }
 {
-    pattern.width.get() == typ.width && pattern.signed == typ.signed
+    pattern.width.get() == typ.width().get() && pattern.signed == typ.is_signed()
 }
 
 /// The question of a bin of one pattern: by bits, where the pattern's numbers are those of the type.
 fn by_pattern(typ: Typ, pattern: &Pattern) -> Question
-    requires { HasWidth typ }
     ensures { IsQuestionOf typ (Patterns (pattern.now ∷ [])) result }
 {
     if !has_type(pattern, typ) {
         return Question::Rule;
     }
     Question::Bits {
-        fixed: !pattern.free & (u64::MAX >> (64 - typ.width)),
+        fixed: !pattern.free & (u64::MAX >> (64 - typ.width().get())),
         bits: pattern.bits,
     }
 }
 
 /// The question of a bin of patterns.
 fn by_patterns(typ: Typ, patterns: &[Pattern]) -> Question
-    requires { HasWidth typ }
     ensures { IsQuestionOf typ (Patterns patterns.now) result }
 {
     match patterns {
@@ -73,7 +66,6 @@ fn by_set(set: &ValueSet) -> Question
 
 /// The question of a bin with this rule.
 fn question_of(typ: Typ, rule: &BinRule) -> Question
-    requires { HasWidth typ }
     ensures { IsQuestionOf typ rule.now result }
 {
     match rule {
@@ -85,7 +77,6 @@ fn question_of(typ: Typ, rule: &BinRule) -> Question
 
 /// A question for each bin.
 fn question_list(alloc: Global, typ: Typ, bins: &[BinInfo]) -> Result<Vec<Question>, Memory>
-    requires { HasWidth typ }
     ensures { IfOk result (λ list. AreQuestions typ bins.now list.items) }
 {
     let mut list = Vec::new(alloc);

@@ -1,6 +1,5 @@
 //! The bins of values that have a value.
 ghost use Rattle.std.specs.Prelude.{◌≡◌, ◌++◌, OnOk, IfSome, Some, slice_get};
-ghost use Rattle.const_eval.specs.Typs.{HasWidth};
 ghost use Rattle.cov_base.specs.Sets.{is_within};
 ghost use Rattle.design_data.specs.Limits.{IsPointRule};
 ghost use Rattle.point_sampler.specs.Plans.{IsPoint, IsLookupOf, IsWordOf, IsQuestionOf, AreQuestionsOf, places_from, has_value as has_value_of};
@@ -14,11 +13,11 @@ use design_data::{BinInfo, ItemInfo};
 
 /// The bits of a number of the type.
 fn bits_of(typ: Typ, number: Int) -> Option<u64>
-    requires { HasWidth typ }
     ensures { IfSome result (IsWordOf typ (Some number)) }
 {
-    let low = lowest_of(typ.width, typ.signed).get();
-    let high = highest_of(typ.width, typ.signed).get();
+    let width = typ.width().get();
+    let low = lowest_of(width, typ.is_signed()).get();
+    let high = highest_of(width, typ.is_signed()).get();
     let value = number.get();
     if value < low {
         return None;
@@ -29,12 +28,11 @@ fn bits_of(typ: Typ, number: Int) -> Option<u64>
     if value >= 0 {
         return Some(value as u64);
     }
-    Some((power_of_two(typ.width) - value.unsigned_abs()) as u64)
+    Some((power_of_two(width) - value.unsigned_abs()) as u64)
 }
 
 /// The bits of a value, where it is a number of the type.
 fn word_of(typ: Typ, value: &Option<Int>) -> Option<u64>
-    requires { HasWidth typ }
     ensures { IfSome result (IsWordOf typ value.now) }
 {
     match value {
