@@ -1,4 +1,5 @@
 pub mod Counting
+pub mod Defaults
 pub mod Domains
 pub mod Intersections
 pub mod Items

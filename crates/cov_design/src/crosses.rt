@@ -1,5 +1,5 @@
 //! Crosses of an instance.
-ghost use Rattle.std.specs.Prelude.{◌≡◌, ◌<◌, ◌≤◌, [], length, OnOk, IfOk, None};
+ghost use Rattle.std.specs.Prelude.{◌≡◌, ◌<◌, ◌≤◌, [], length, OnOk, IfOk};
 ghost use Rattle.cov_ground.specs.Limits.{most_items, most_points, most_products};
 ghost use Rattle.cross_select.specs.Products.{product_of};
 ghost use Rattle.design_data.specs.Tested.{HaveFewBins};
@@ -14,6 +14,7 @@ ghost use Rattle.cov_design.specs.Points.{named_point};
 ghost use Rattle.cov_design.specs.Crosses.{cross_name as name_meant, label_unused, implicit_decl as decl_meant, placed, axis_placed, axes_placed, cross_head, cross_decls, with_cross, headed_cross, bins_crossed, named_cross, placed_cross, around_cross, cross as cross_meant};
 
 use crate::counts::{Counts, count_bins};
+use crate::defaults::DefaultNames;
 use crate::items::{Inside, Items, check_room, index_of, infos, keep_item};
 use crate::points::add_named;
 use const_eval::{Bound, Scope};
@@ -50,21 +51,18 @@ impl Drop for CrossHead {
 
 // ---- names
 
-fn numbered_name(alloc: Global, k: usize) -> Result<Name, Memory>
-    ensures { IfOk result (λ name. name ≡ name_meant None k) }
-{
-    let mut text = Vec::from_slice(alloc, b"cross_".as_slice())?;
-    text.extend_from_slice(k.to_string(alloc)?.as_bytes())?;
-    Name::from_vec(text)
-}
-
 /// The name of a cross behind these items.
-fn name_of(alloc: Global, cross: &CrossDecl, items: &Items) -> Result<Name, Memory>
+fn name_of(
+    alloc: Global,
+    cross: &CrossDecl,
+    items: &Items,
+    defaults: &mut DefaultNames,
+) -> Result<Name, Memory>
     ensures { IfOk result (λ name. name ≡ name_meant cross.now.label (length items.now.items)) }
 {
     match &cross.label {
         Some(label) => label.share(),
-        None => numbered_name(alloc, items.items.as_slice().len()),
+        None => defaults.cross(alloc, items.items.as_slice().len()),
     }
 }
 
@@ -429,6 +427,7 @@ fn add_placed(
     cross: &CrossDecl,
     points: &[Axis],
     items: &mut Items,
+    defaults: &mut DefaultNames,
 ) -> Result<(), ElabFault>
     requires range { AreInRange inside.now.options }
     requires few { HaveFewBins items.old.items }
@@ -438,7 +437,7 @@ fn add_placed(
 {
     let mut axes = List::new(alloc);
     place_points(alloc, outside, inside, cross.at, points, items, &mut axes)?;
-    let name = name_of(alloc, cross, items)?;
+    let name = name_of(alloc, cross, items, defaults)?;
     add_crossed(alloc, &mut outside.scope, inside, name, cross, axes, items)?;
     Ok(())
 }
@@ -452,6 +451,7 @@ pub(crate) fn add_cross(
     inside: &Inside,
     cross: &CrossDecl,
     items: &mut Items,
+    defaults: &mut DefaultNames,
 ) -> Result<(), ElabFault>
     requires range { AreInRange inside.now.options }
     requires few { HaveFewBins items.old.items }
@@ -460,6 +460,14 @@ pub(crate) fn add_cross(
 {
     check_label(&items.names, &cross.label, cross.at)?;
     let points = points_of(alloc, outside, inside, cross, items)?;
-    add_placed(alloc, outside, inside, cross, points.as_slice(), items)?;
+    add_placed(
+        alloc,
+        outside,
+        inside,
+        cross,
+        points.as_slice(),
+        items,
+        defaults,
+    )?;
     Ok(())
 }

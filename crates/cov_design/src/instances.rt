@@ -7,6 +7,7 @@ ghost use Rattle.elab_decls.specs.Formals.{args_fit};
 ghost use Rattle.cov_design.specs.Instances.{formals_in, samples_in, members_in, formals_at, samples_at, members_at, group_meant, entered, body_walked, with_instance, instance_of, instance};
 
 use crate::counts::Counts;
+use crate::defaults::DefaultNames;
 use crate::groups::with_options;
 use crate::items::{Inside, Items};
 use crate::known::Known;
@@ -139,13 +140,14 @@ fn walk_inside(
     names: NameMap<What>,
     counts: Counts,
     members: &[Member],
+    defaults: &mut DefaultNames,
 ) -> Result<Body, ElabFault>
     ensures gives { Gives result (body_walked outside.old names counts members.now) }
     ensures same { outside.new ≡ outside.old }
 {
     let options = read_options(alloc, &mut outside.scope, members)?;
     let inside = inside_of(alloc, names, options, members)?;
-    let items = walk_members(alloc, outside, &inside, counts, members)?;
+    let items = walk_members(alloc, outside, &inside, counts, members, defaults)?;
     let Inside {
         names: _,
         options,
@@ -163,12 +165,13 @@ fn walk_body(
     inner: NameMap<Meaning>,
     counts: Counts,
     members: &[Member],
+    defaults: &mut DefaultNames,
 ) -> Result<Body, ElabFault>
     ensures gives { Gives result (body_walked (entered outside.old inner) names counts members.now) }
     ensures same { outside.new ≡ outside.old }
 {
     let before = outside.scope.replace_inner(inner);
-    let body = walk_inside(alloc, outside, names, counts, members);
+    let body = walk_inside(alloc, outside, names, counts, members, defaults);
     outside.scope.replace_inner(before);
     body
 }
@@ -220,6 +223,7 @@ fn add_instance_of(
     args: &[Expr],
     at: u32,
     known: &mut Known,
+    defaults: &mut DefaultNames,
 ) -> Result<(), ElabFault>
     requires { place.1 < length known.old.groups }
     ensures { Makes result known.new (instance_of text.now place of_group.now name.now args.now at known.old) }
@@ -244,6 +248,7 @@ fn add_instance_of(
         inner,
         known.counts,
         members(text, place.0),
+        defaults,
     )?;
     keep_instance(alloc, name, of_group, place.1, sample_args, body, known)?;
     Ok(())
@@ -261,6 +266,7 @@ pub(crate) fn add_instance(
     args: &[Expr],
     at: u32,
     known: &mut Known,
+    defaults: &mut DefaultNames,
 ) -> Result<(), ElabFault>
     ensures { Makes result known.new (instance text.now of_group.now name.now args.now at known.old) }
 {
@@ -269,5 +275,7 @@ pub(crate) fn add_instance(
     let place = group_of(known.groups.as_slice().len(), what, at)?;
     check_args(formals(text, place.0), args, at)?;
     check_instances(known, at)?;
-    add_instance_of(alloc, text, place, of_group, name, args, at, known)
+    add_instance_of(
+        alloc, text, place, of_group, name, args, at, known, defaults,
+    )
 }

@@ -6,6 +6,7 @@
 
 mod counts;
 mod crosses;
+mod defaults;
 mod domains;
 mod elaboration;
 mod events;

@@ -7,6 +7,7 @@ ghost use Rattle.cov_design.specs.Members.{inside_in, member, members_walked};
 
 use crate::counts::Counts;
 use crate::crosses::add_cross;
+use crate::defaults::DefaultNames;
 use crate::intersections::intersected;
 use crate::items::{Inside, Items, nothing};
 use crate::points::{add_named, name_of};
@@ -44,6 +45,7 @@ fn add_member(
     inside: &Inside,
     found: &Member,
     items: &mut Items,
+    defaults: &mut DefaultNames,
 ) -> Result<(), ElabFault>
     requires range { AreInRange inside.now.options }
     requires few { HaveFewBins items.old.items }
@@ -52,11 +54,11 @@ fn add_member(
 {
     match found {
         Member::Point(point) => {
-            let name = name_of(alloc, point, items.items.as_slice().len())?;
+            let name = name_of(alloc, point, items.items.as_slice().len(), defaults)?;
             add_named(alloc, outside, inside, name, point, items)
         }
         Member::Opt(_) => Ok(()),
-        Member::Cross(cross) => add_cross(alloc, outside, inside, cross, items),
+        Member::Cross(cross) => add_cross(alloc, outside, inside, cross, items, defaults),
     }
 }
 
@@ -69,6 +71,7 @@ pub(crate) fn walk_members(
     inside: &Inside,
     counts: Counts,
     members: &[Member],
+    defaults: &mut DefaultNames,
 ) -> Result<Items, ElabFault>
     requires { AreInRange inside.now.options }
     ensures gives { Gives result (members_walked outside.old inside.now counts members.now) }
@@ -76,7 +79,7 @@ pub(crate) fn walk_members(
 {
     let mut items = nothing(alloc, counts);
     for found in members {
-        add_member(alloc, outside, inside, found, &mut items)?;
+        add_member(alloc, outside, inside, found, &mut items, defaults)?;
     }
     Ok(items)
 }

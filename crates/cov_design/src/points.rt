@@ -10,10 +10,11 @@ ghost use Rattle.elab_base.specs.Gives.{Gives, Makes, needs};
 ghost use Rattle.elab_decls.specs.Invariant.{AreInRange};
 ghost use Rattle.elab_points.specs.Left.{bins_of_point};
 ghost use Rattle.cov_design.specs.Domains.{domain_of_point};
-ghost use Rattle.cov_design.specs.Points.{numbered_name as numbered_text, point_name, settings_of, with_point, head_of, bins_headed, headed_point, named_point};
+ghost use Rattle.cov_design.specs.Points.{point_name, settings_of, with_point, head_of, bins_headed, headed_point, named_point};
 ghost use Rattle.cov_design.specs.Items.{places_from};
 
 use crate::counts::{Counts, count_bins};
+use crate::defaults::DefaultNames;
 use crate::domains::point_domain;
 use crate::items::{Inside, Items, check_room, infos, keep_item, origins, places};
 use const_eval::{Bound, typ};
@@ -51,24 +52,21 @@ impl Drop for Head {
     }
 }
 
-fn numbered_name(alloc: Global, k: usize) -> Result<Name, Memory>
-    ensures { IfOk result (λ name. name ≡ numbered_text k) }
-{
-    let mut text = Vec::from_slice(alloc, b"point_".as_slice())?;
-    text.extend_from_slice(k.to_string(alloc)?.as_bytes())?;
-    Name::from_vec(text)
-}
-
 /// The name of a point that has so many items before it.
 #[tactic(auto, unfolding(crate::specs::Points::point_name))]
-pub(crate) fn name_of(alloc: Global, point: &PointDecl, k: usize) -> Result<Name, Memory>
+pub(crate) fn name_of(
+    alloc: Global,
+    point: &PointDecl,
+    k: usize,
+    defaults: &mut DefaultNames,
+) -> Result<Name, Memory>
     ensures { IfOk result (λ name. name ≡ point_name point.now k) }
 {
     match &point.label {
         Some(label) => label.share(),
         None => match &point.expr {
             Expr::Name { name, .. } => name.share(),
-            _ => numbered_name(alloc, k),
+            _ => defaults.point(alloc, k),
         },
     }
 }

@@ -4,6 +4,7 @@ ghost use Rattle.elab_base.specs.Gives.{Gives, Makes, each_at};
 ghost use Rattle.cov_design.specs.Walk.{declared, nothing as nothing_known, walked};
 
 use crate::counts::Counts;
+use crate::defaults::DefaultNames;
 use crate::groups::add_group;
 use crate::instances::add_instance;
 use crate::known::Known;
@@ -20,6 +21,7 @@ fn declare(
     place: usize,
     decl: &Decl,
     known: &mut Known,
+    defaults: &mut DefaultNames,
 ) -> Result<(), ElabFault>
     ensures { Makes result known.new (declared text.now place decl.now known.old) }
 {
@@ -39,15 +41,29 @@ fn declare(
             name,
             args,
             at,
-        } => add_instance(alloc, text, group, name, args.as_slice(), *at, known),
+        } => add_instance(
+            alloc,
+            text,
+            group,
+            name,
+            args.as_slice(),
+            *at,
+            known,
+            defaults,
+        ),
     }
 }
 
-fn walk(alloc: Global, text: &[Decl], known: &mut Known) -> Result<(), ElabFault>
+fn walk(
+    alloc: Global,
+    text: &[Decl],
+    known: &mut Known,
+    defaults: &mut DefaultNames,
+) -> Result<(), ElabFault>
     ensures { Makes result known.new (each_at (declared text.now) 0 text.now known.old) }
 {
     for (place, decl) in text.iter().enumerate() {
-        declare(alloc, text, place, decl, known)?;
+        declare(alloc, text, place, decl, known, defaults)?;
     }
     Ok(())
 }
@@ -79,6 +95,7 @@ pub(crate) fn walk_all(alloc: Global, text: &[Decl]) -> Result<Known, ElabFault>
     ensures { Gives result (walked text.now) }
 {
     let mut known = nothing(alloc);
-    walk(alloc, text, &mut known)?;
+    let mut defaults = DefaultNames::new(alloc);
+    walk(alloc, text, &mut known, &mut defaults)?;
     Ok(known)
 }

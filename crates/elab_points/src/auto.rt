@@ -1,33 +1,23 @@
 //! Automatic bins of a point.
-ghost use Rattle.std.specs.Prelude.{◌≡◌, ◌++◌, ◌∷◌, ◌+◌, ◌≤◌, length, map, nat_le, IfOk, OnOk};
+ghost use Rattle.std.specs.Prelude.{◌≡◌, ◌++◌, ◌∷◌, [], ◌+◌, ◌≤◌, codes, length, map, nat_le, IfOk, OnOk};
 ghost use Rattle.std.specs.Ordering.{int_eq};
 ghost use Rattle.std.specs.Fmt.{signed_decimal};
 ghost use Rattle.cov_ground.specs.Limits.{most_bins};
+ghost use Rattle.cov_base.specs.Sets.{set_of, written};
 ghost use Rattle.elab_base.specs.Gives.{Gives, Makes};
-ghost use Rattle.elab_points.specs.Automatic.{CanHaveBins, auto_head as head_meant, range_text as text_meant, auto_bin as bin_meant, constant_bin as constant_meant, automatic, is_coverage as is_coverage_word, declares_coverage, automatic_added, automatic_binned, with_automatic};
+ghost use Rattle.elab_points.specs.Made.{value_bin, indexed};
+ghost use Rattle.elab_points.specs.Automatic.{CanHaveBins, auto_head, range_text as text_meant, auto_bin as bin_meant, constant_bin as constant_meant, automatic, is_coverage as is_coverage_word, declares_coverage, automatic_added, automatic_binned, with_automatic};
 
 use crate::declared::{Walked, keep_bins};
-use crate::made::{Head, bin_of, check_room, indexed_name};
+use crate::made::{check_room, indexed_name};
 use auto_bins::{Typ2, auto_ranges};
 use bit_width::Width;
 use cov_base::{Int, Memory, ValueSet};
-use cov_tree::{BinsDecl, List, Name, Word};
-use design_data::{BinKind, BinRule};
+use cov_tree::{BinsDecl, List, Word};
+use design_data::{BinInfo, BinKind, BinRule};
 use elab_base::ElabFault;
 use elab_values::{Constant, Domain, Made, Settings};
 use std::alloc::Global;
-
-fn auto_head(alloc: Global, at: u32) -> Result<Head, Memory>
-    ensures { IfOk result (λ head. head ≡ head_meant at) }
-{
-    Ok(Head {
-        name: Name::of(alloc, b"auto".as_slice())?,
-        kind: BinKind::CvgBin,
-        guard: None,
-        at,
-        declared: None,
-    })
-}
 
 /// Whether a range has one number.
 fn is_one(low: Int, high: Int) -> bool
@@ -64,39 +54,60 @@ fn range_text(alloc: Global, low: Int, high: Int) -> Result<Vec<u8>, Memory>
     ends_text(alloc, low, high)
 }
 
-fn auto_bin(alloc: Global, head: &Head, low: Int, high: Int) -> Result<Made, Memory>
-    ensures { IfOk result (λ made. made ≡ bin_meant head.now (low, high)) }
+/// The bin `auto[index]` of these numbers, of a point that stands there.
+fn auto_made(
+    alloc: Global,
+    at: u32,
+    index: &[u8],
+    low: Int,
+    high: Int,
+) -> Result<Made, Memory>
+    ensures { IfOk result (λ made. made ≡ value_bin (auto_head at) (indexed (codes "auto") index.now) (set_of (written ((low, high) ∷ [])))) }
 {
-    let text = range_text(alloc, low, high)?;
-    let name = indexed_name(alloc, &head.name, text.as_slice())?;
+    let name = indexed_name(alloc, b"auto".as_slice(), index)?;
     let set = ValueSet::from_ranges(alloc, &[(low, high)])?;
-    bin_of(alloc, head, name, BinRule::Values(set))
+    Ok(Made {
+        bin: BinInfo {
+            name,
+            kind: BinKind::CvgBin,
+            rule: BinRule::Values(set),
+            guard: None,
+        },
+        at,
+        declared: None,
+    })
 }
 
-fn range_bins(alloc: Global, head: &Head, ranges: &[(Int, Int)]) -> Result<Vec<Made>, Memory>
-    ensures { IfOk result (λ bins. bins.items ≡ map (bin_meant head.now) ranges.now) }
+fn auto_bin(alloc: Global, at: u32, low: Int, high: Int) -> Result<Made, Memory>
+    ensures { IfOk result (λ made. made ≡ bin_meant (auto_head at) (low, high)) }
+{
+    let text = range_text(alloc, low, high)?;
+    auto_made(alloc, at, text.as_slice(), low, high)
+}
+
+fn range_bins(alloc: Global, at: u32, ranges: &[(Int, Int)]) -> Result<Vec<Made>, Memory>
+    ensures { IfOk result (λ bins. bins.items ≡ map (bin_meant (auto_head at)) ranges.now) }
 {
     let mut bins = Vec::new(alloc);
     for range in ranges {
-        bins.push(auto_bin(alloc, head, range.0, range.1)?)?;
+        bins.push(auto_bin(alloc, at, range.0, range.1)?)?;
     }
     Ok(bins)
 }
 
-fn constant_bin(alloc: Global, head: &Head, constant: &Constant) -> Result<Made, Memory>
-    ensures { IfOk result (λ made. made ≡ constant_meant head.now constant.now) }
+fn constant_bin(alloc: Global, at: u32, constant: &Constant) -> Result<Made, Memory>
+    ensures { IfOk result (λ made. made ≡ constant_meant (auto_head at) constant.now) }
 {
-    let name = indexed_name(alloc, &head.name, constant.name.as_slice())?;
-    let set = ValueSet::from_ranges(alloc, &[(constant.value, constant.value)])?;
-    bin_of(alloc, head, name, BinRule::Values(set))
+    let index = constant.name.as_slice();
+    auto_made(alloc, at, index, constant.value, constant.value)
 }
 
-fn constant_bins(alloc: Global, head: &Head, constants: &[Constant]) -> Result<Vec<Made>, Memory>
-    ensures { IfOk result (λ bins. bins.items ≡ map (constant_meant head.now) constants.now) }
+fn constant_bins(alloc: Global, at: u32, constants: &[Constant]) -> Result<Vec<Made>, Memory>
+    ensures { IfOk result (λ bins. bins.items ≡ map (constant_meant (auto_head at)) constants.now) }
 {
     let mut bins = Vec::new(alloc);
     for constant in constants {
-        bins.push(constant_bin(alloc, head, constant)?)?;
+        bins.push(constant_bin(alloc, at, constant)?)?;
     }
     Ok(bins)
 }
@@ -111,16 +122,15 @@ fn automatic_bins(
     requires { CanHaveBins settings }
     ensures { IfOk result (λ bins. bins.items ≡ automatic domain.now settings at) }
 {
-    let head = auto_head(alloc, at)?;
     match &domain.constants {
-        Some(constants) => constant_bins(alloc, &head, constants.as_slice()),
+        Some(constants) => constant_bins(alloc, at, constants.as_slice()),
         None => {
             let typ = Typ2 {
                 width: domain.typ.width(),
                 signed: domain.typ.is_signed(),
             };
             let ranges = auto_ranges(alloc, typ, settings.auto_bin_max)?;
-            range_bins(alloc, &head, ranges.as_slice())
+            range_bins(alloc, at, ranges.as_slice())
         }
     }
 }

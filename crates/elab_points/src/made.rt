@@ -169,10 +169,10 @@ pub(crate) fn make_plan(
 
 /// `name[index]`
 #[tactic(auto, unfolding(crate::specs::Made::indexed))]
-pub(crate) fn indexed_name(alloc: Global, name: &Name, index: &[u8]) -> Result<Name, Memory>
+pub(crate) fn indexed_name(alloc: Global, name: &[u8], index: &[u8]) -> Result<Name, Memory>
     ensures { IfOk result (λ text. text ≡ indexed name.now index.now) }
 {
-    let mut text = Vec::from_slice(alloc, name.as_slice())?;
+    let mut text = Vec::from_slice(alloc, name)?;
     text.push(b'[')?;
     text.extend_from_slice(index)?;
     text.push(b']')?;
@@ -200,7 +200,7 @@ fn single_bin(alloc: Global, head: &Head, value: Int) -> Result<Made, Memory>
     ensures { IfOk result (λ made. made ≡ single head.now value) }
 {
     let text = value.get().to_string(alloc)?;
-    let name = indexed_name(alloc, &head.name, text.as_bytes())?;
+    let name = indexed_name(alloc, head.name.as_slice(), text.as_bytes())?;
     let made = ValueSet::from_ranges(alloc, &[(value, value)])?;
     // a copy has no room to spare, and there may be very many of them
     let set = made.copy(alloc)?;
@@ -221,7 +221,7 @@ fn part_bin(alloc: Global, head: &Head, place: usize, set: ValueSet) -> Result<M
     ensures { IfOk result (λ made. made ≡ value_bin head.now (indexed head.now.name (decimal place)) set) }
 {
     let text = place.to_string(alloc)?;
-    let name = indexed_name(alloc, &head.name, text.as_bytes())?;
+    let name = indexed_name(alloc, head.name.as_slice(), text.as_bytes())?;
     bin_of(alloc, head, name, BinRule::Values(set))
 }
 

@@ -29,7 +29,7 @@ fn rest_bin(alloc: Global, head: &Head, value: Int) -> Result<Made, Memory>
     ensures { IfOk result (λ made. made ≡ rest_meant head.now value) }
 {
     let text = value.get().to_string(alloc)?;
-    let name = indexed_name(alloc, &head.name, text.as_bytes())?;
+    let name = indexed_name(alloc, head.name.as_slice(), text.as_bytes())?;
     let set = ValueSet::from_ranges(alloc, &[(value, value)])?;
     bin_of(alloc, head, name, BinRule::DefaultValues(set))
 }
