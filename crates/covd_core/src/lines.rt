@@ -6,7 +6,8 @@ ghost use Rattle.covd_core.specs.Columns.{counts_of};
 ghost use Rattle.covd_core.specs.Lines.{kind_word, count_at, count_column, bin_line, design_lines, count_text, check_text, number_line};
 ghost use Rattle.covd_core.specs.Walks.{bin_lines, item_lines, instance_lines, lines_of_instance, group_lines, lines_from};
 
-use crate::texts::{append, append_count, append_number};
+use crate::texts::append_count;
+use appending::{append, append_number};
 use cov_base::Memory;
 use cov_tree::Name;
 use design_data::{BinInfo, BinKind, Design, GroupInfo, InstInfo, ItemInfo};

@@ -1,24 +1,10 @@
 //! The parts of lines, and the lines of refusals.
-ghost use Rattle.std.specs.Prelude.{◌≡◌, IfOk, OnOk, ◌++◌, decimal};
+ghost use Rattle.std.specs.Prelude.{◌≡◌, IfOk, OnOk, ◌++◌};
 ghost use Rattle.covd_core.specs.Lines.{number_line, bad_words_text, design_refused_text, record_refused_text, dump_refused_text, cannot_read_text, too_long_text};
 
+use appending::{append, append_number};
 use cov_base::Memory;
-use itoa::Buffer;
 use std::alloc::Global;
-
-pub(crate) fn append(text: &mut Vec<u8>, bytes: &[u8]) -> Result<(), Memory>
-    ensures { OnOk result (text.new.items ≡ text.old.items ++ bytes.now) }
-{
-    text.extend_from_slice(bytes)?;
-    Ok(())
-}
-
-pub(crate) fn append_number(text: &mut Vec<u8>, number: u64) -> Result<(), Memory>
-    ensures { OnOk result (text.new.items ≡ text.old.items ++ decimal number) }
-{
-    let mut buffer = Buffer::new();
-    append(text, buffer.format(number).as_bytes())
-}
 
 // A word and a number.
 pub(crate) fn append_count(text: &mut Vec<u8>, word: &str, number: usize) -> Result<(), Memory>

@@ -2,7 +2,7 @@
 ghost use Rattle.std.specs.Prelude.{◌≡◌, ◌++◌, ◌∷◌, [], ◌/◌, ◌%◌, codes, slice_index, ◌<◌, IfOk, OnOk};
 ghost use Rattle.covd_core.specs.Admission.{hexadecimal, taken_line, full_line, which_word as word_meant};
 
-use crate::texts::{append, append_number};
+use appending::{append, append_number};
 use cov_base::Memory;
 use std::alloc::Global;
 use ucis_model::Which;

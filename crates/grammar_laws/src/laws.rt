@@ -1,19 +1,5 @@
 //! What holds of first tokens that begin a design. Each function does nothing: it stands for the law that it ensures.
-ghost use Rattle.std.specs.Prelude.{
-  ◌≡◌,
-  ℕ,
-  ◌+◌,
-  ◌<◌,
-  ◌≤◌,
-  List,
-  true,
-  length,
-  take,
-  slice_get,
-  Some,
-  IsSome,
-  ◌⊎◌,
-};
+ghost use Rattle.std.specs.Prelude.{◌≡◌, ℕ, ◌+◌, ◌<◌, ◌≤◌, List, true, length, take, slice_get, Some, IsSome, ◌⊎◌};
 ghost use Rattle.cov_tree.specs.declared.expr.Expr.{Expr};
 ghost use Rattle.cov_tree.specs.declared.bins.Step.{Step};
 ghost use Rattle.cov_tree.specs.declared.bins.BinsDecl.{BinsDecl};
@@ -32,45 +18,15 @@ ghost use Rattle.cov_grammar.specs.declared.place.Standing.{Standing};
 ghost use Rattle.cov_grammar.specs.declared.place.Standing.TheVariants.{StepEnd};
 ghost use Rattle.cov_grammar.specs.Kinds.{has};
 ghost use Rattle.cov_grammar.specs.Operators.{unary_kinds, unary_of, level_kinds, binary_of};
-ghost use Rattle.cov_grammar.specs.Bins.{
-  bins_words,
-  bins_word_of,
-  times_of,
-  repetition,
-  step,
-  bins,
-};
-ghost use Rattle.cov_grammar.specs.Designs.{
-  fixed_words,
-  width_of,
-  edge_kind,
-  Written,
-  formal,
-  argument,
-};
+ghost use Rattle.cov_grammar.specs.Bins.{bins_words, bins_word_of, times_of, repetition, step, bins};
+ghost use Rattle.cov_grammar.specs.Designs.{fixed_words, width_of, edge_kind, Written, formal, argument};
 ghost use Rattle.cov_grammar.specs.Groups.{item};
 ghost use Rattle.cov_grammar.specs.Expressions.{literal_or, part_expr, index_in, inner_at};
 ghost use Rattle.cov_grammar.specs.Marking.{marked};
 ghost use Rattle.cov_grammar.specs.Fault.{IsViableWithin, IsSyntaxFault};
 ghost use Rattle.grammar_laws.specs.Continuations.{AreAlike, LieIn, GoesOn};
-ghost use Rattle.grammar_laws.specs.Tokens.{
-  word_of,
-  AreSpelledAlike,
-  EndsAlone,
-  GoOnAlike,
-  StandIn,
-  LeadsOn,
-};
-ghost use Rattle.grammar_laws.specs.Tables.{
-  unary_at,
-  binary_at,
-  times_at,
-  bins_word_at,
-  width_at,
-  edge_at,
-  repetition_kinds,
-  edge_kinds,
-};
+ghost use Rattle.grammar_laws.specs.Tokens.{word_of, AreSpelledAlike, EndsAlone, GoOnAlike, StandIn, LeadsOn};
+ghost use Rattle.grammar_laws.specs.Tables.{unary_at, binary_at, times_at, bins_word_at, width_at, edge_at, repetition_kinds, edge_kinds};
 
 /// First tokens are viable, within some limits, exactly where more tokens can stand behind them that make them a design
 /// within these limits.
