@@ -2,9 +2,9 @@
 use Rattle.std.proofs.Common.{◌≡◌, ℕ, List, [], ◌∷◌, ◌++◌, Bool, true, false, not, ◌&&◌, refl}
 use Rattle.cov_tree.specs.declared.bins.Right.TheVariants.{Ranges, Whole, Trans}
 use Rattle.cov_tree.specs.declared.bins.Size.{Size}
-use Rattle.cov_grammar.specs.declared.kind.Kind.{Kind}
-use Rattle.cov_grammar.specs.declared.kind.Kind.TheVariants.{Ident, Quoted, WildcardWord, IffWord, DefaultWord, SequenceWord, WithWord, OptionWord, TypeOptionWord, OpenParen, CloseParen, OpenSquare, CloseSquare, OpenBrace, CloseBrace, Comma, Semi, Colon, Dot, Assign, FatArrow, ThinArrow, Star, DollarSign}
-use Rattle.cov_grammar.specs.declared.kind.Marked.{Marked}
+use Rattle.cov_lexer.specs.declared.kind.Kind.{Kind}
+use Rattle.cov_lexer.specs.declared.kind.Kind.TheVariants.{Ident, Quoted, WildcardWord, IffWord, DefaultWord, SequenceWord, WithWord, OptionWord, TypeOptionWord, OpenParen, CloseParen, OpenSquare, CloseSquare, OpenBrace, CloseBrace, Comma, Semi, Colon, Dot, Assign, FatArrow, ThinArrow, Star, DollarSign}
+use Rattle.cov_grammar.specs.declared.marked.Marked.{Marked}
 use Rattle.cov_grammar.specs.declared.place.Room.{Room}
 use Rattle.cov_grammar.specs.declared.place.Standing.{Standing}
 use Rattle.cov_grammar.specs.declared.place.Standing.TheVariants.{Plain, StepEnd}

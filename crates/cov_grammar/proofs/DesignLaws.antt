@@ -1,8 +1,8 @@
 -- The sets of the rules of declarations and of a whole design text, and that each keeps its facts.
 use Rattle.std.proofs.Common.{ℕ, List, [], ◌∷◌, ◌++◌, true, false, codes, refl}
-use Rattle.cov_grammar.specs.declared.kind.Kind.{Kind}
-use Rattle.cov_grammar.specs.declared.kind.Kind.TheVariants.{Ident, TypedefWord, EnumWord, SignedWord, UnsignedWord, CovergroupWord, EndgroupWord, IffWord, WithWord, OtherWord, InputWord, RefWord, NewWord, PosedgeWord, NegedgeWord, EdgeWord, OrWord, OpenParen, CloseParen, CloseSquare, OpenBrace, CloseBrace, Comma, Semi, Colon, AtSign, Assign}
-use Rattle.cov_grammar.specs.declared.kind.Marked.{Marked}
+use Rattle.cov_lexer.specs.declared.kind.Kind.{Kind}
+use Rattle.cov_lexer.specs.declared.kind.Kind.TheVariants.{Ident, TypedefWord, EnumWord, SignedWord, UnsignedWord, CovergroupWord, EndgroupWord, IffWord, WithWord, OtherWord, InputWord, RefWord, NewWord, PosedgeWord, NegedgeWord, EdgeWord, OrWord, OpenParen, CloseParen, CloseSquare, OpenBrace, CloseBrace, Comma, Semi, Colon, AtSign, Assign}
+use Rattle.cov_grammar.specs.declared.marked.Marked.{Marked}
 use Rattle.cov_grammar.specs.declared.place.Room.{Room}
 use Rattle.cov_grammar.specs.declared.place.Standing.TheVariants.{Plain}
 use Rattle.cov_grammar.specs.Rule.{one, word, same_word, ahead, behind, both, either, map_to, maybe}

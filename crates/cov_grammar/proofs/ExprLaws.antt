@@ -1,8 +1,8 @@
 -- The sets of the rules of expressions, and that each keeps its facts.
 use Rattle.std.proofs.Common.{◌≡◌, ℕ, zero, suc, ◌≤◌, List, [], ◌∷◌, ◌++◌, true, false, refl, arith}
-use Rattle.cov_grammar.specs.declared.kind.Kind.{Kind}
-use Rattle.cov_grammar.specs.declared.kind.Kind.TheVariants.{Ident, Numeral, OpenParen, CloseParen, CloseSquare, OpenBrace, CloseBrace, Comma, Colon, Question}
-use Rattle.cov_grammar.specs.declared.kind.Marked.{Marked}
+use Rattle.cov_lexer.specs.declared.kind.Kind.{Kind}
+use Rattle.cov_lexer.specs.declared.kind.Kind.TheVariants.{Ident, Numeral, OpenParen, CloseParen, CloseSquare, OpenBrace, CloseBrace, Comma, Colon, Question}
+use Rattle.cov_grammar.specs.declared.marked.Marked.{Marked}
 use Rattle.cov_grammar.specs.declared.place.Room.{Room}
 use Rattle.cov_grammar.specs.declared.place.Standing.{Standing}
 use Rattle.cov_grammar.specs.declared.place.Standing.TheVariants.{Plain, StepEnd}

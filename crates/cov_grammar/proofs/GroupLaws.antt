@@ -1,9 +1,9 @@
 -- The sets of the rules of selections, coverpoints and crosses, and that each keeps its facts.
 use Rattle.std.proofs.Common.{◌≡◌, ℕ, zero, suc, ◌≤◌, List, [], ◌∷◌, ◌++◌, Option, true, false, refl, arith}
 use Rattle.cov_tree.specs.Exprs.{none_of, both_of, either_of}
-use Rattle.cov_grammar.specs.declared.kind.Kind.{Kind}
-use Rattle.cov_grammar.specs.declared.kind.Kind.TheVariants.{Ident, CoverpointWord, CrossWord, BinsofWord, IntersectWord, OptionWord, TypeOptionWord, OpenParen, CloseParen, OpenBrace, CloseBrace, Comma, Semi, Colon, Dot, Assign, Bang, AndAnd, OrOr}
-use Rattle.cov_grammar.specs.declared.kind.Marked.{Marked}
+use Rattle.cov_lexer.specs.declared.kind.Kind.{Kind}
+use Rattle.cov_lexer.specs.declared.kind.Kind.TheVariants.{Ident, CoverpointWord, CrossWord, BinsofWord, IntersectWord, OptionWord, TypeOptionWord, OpenParen, CloseParen, OpenBrace, CloseBrace, Comma, Semi, Colon, Dot, Assign, Bang, AndAnd, OrOr}
+use Rattle.cov_grammar.specs.declared.marked.Marked.{Marked}
 use Rattle.cov_grammar.specs.declared.place.Room.{Room}
 use Rattle.cov_grammar.specs.declared.place.Standing.TheVariants.{Plain}
 use Rattle.cov_grammar.specs.Rule.{here, one, word, ahead, behind, both, either, map_to, maybe}

@@ -2,9 +2,9 @@
 use Rattle.std.proofs.Common.{◌≡◌, ℕ, ◌<◌, ◌≤◌, List, [], ◌∷◌, ◌++◌, Some, Bool, true, false, ◌||◌, ◌&&◌, cond, eqb, ◌⊎◌, inl, inr, refl, sym, ◌∙◌, ap, subst, arith, append-nil}
 use Rattle.std.proofs.lemmas.Bool.{eqb-true, cases_lt}
 use Rattle.std.proofs.lemmas.Grind.{common_steps}
-use Rattle.cov_grammar.specs.declared.kind.Kind.{Kind}
-use Rattle.cov_grammar.specs.declared.kind.Marked.{Marked}
-use Rattle.cov_grammar.specs.Kinds.{code, has, has_code}
+use Rattle.cov_lexer.specs.declared.kind.Kind.{Kind}
+use Rattle.cov_grammar.specs.declared.marked.Marked.{Marked}
+use Rattle.cov_lexer.specs.Kinds.{code, has, has_code}
 use Rattle.cov_grammar.specs.Rule.{In}
 
 -- no kind is in both lists

@@ -3,7 +3,7 @@ use Rattle.std.proofs.Common.{◌≡◌, ℕ, ◌+◌, ◌<◌, ◌≤◌, List,
 use Rattle.std.proofs.lemmas.Bool.{cases_lt, cases_order}
 use Rattle.std.proofs.lemmas.Option.{slice_get_past}
 use Rattle.cov_tree.specs.declared.declarations.Decl.{Decl}
-use Rattle.cov_grammar.specs.declared.kind.Marked.{Marked}
+use Rattle.cov_grammar.specs.declared.marked.Marked.{Marked}
 use Rattle.cov_grammar.specs.declared.place.Place.{Place}
 use Rattle.cov_grammar.specs.declared.place.Room.{Room}
 use Rattle.cov_grammar.specs.declared.place.Stop.{Stop}

@@ -18,13 +18,13 @@ use Rattle.cov_tree.specs.declared.bins.BinsDecl.{BinsDecl}
 use Rattle.cov_tree.specs.declared.bins.OptText.{OptText}
 use Rattle.cov_tree.specs.declared.bins.OptText.TheVariants.{Number, Text}
 use Rattle.cov_tree.specs.declared.bins.OptDecl.{OptDecl}
-use Rattle.cov_grammar.specs.declared.kind.Kind.{Kind}
-use Rattle.cov_grammar.specs.declared.kind.Kind.TheVariants.{Ident, Quoted, BinsWord, IllegalBinsWord, IgnoreBinsWord, WildcardWord, IffWord, DefaultWord, SequenceWord, WithWord, OptionWord, TypeOptionWord, OpenParen, CloseParen, OpenIndex, OpenSquare, CloseSquare, OpenBrace, CloseBrace, Comma, Semi, Colon, Dot, Assign, FatArrow, ThinArrow, Star, DollarSign}
-use Rattle.cov_grammar.specs.declared.kind.Marked.{Marked}
+use Rattle.cov_lexer.specs.declared.kind.Kind.{Kind}
+use Rattle.cov_lexer.specs.declared.kind.Kind.TheVariants.{Ident, Quoted, BinsWord, IllegalBinsWord, IgnoreBinsWord, WildcardWord, IffWord, DefaultWord, SequenceWord, WithWord, OptionWord, TypeOptionWord, OpenParen, CloseParen, OpenIndex, OpenSquare, CloseSquare, OpenBrace, CloseBrace, Comma, Semi, Colon, Dot, Assign, FatArrow, ThinArrow, Star, DollarSign}
+use Rattle.cov_grammar.specs.declared.marked.Marked.{Marked}
 use Rattle.cov_grammar.specs.declared.place.Room.{Room}
 use Rattle.cov_grammar.specs.declared.place.Standing.{Standing}
 use Rattle.cov_grammar.specs.declared.place.Standing.TheVariants.{Plain, StepEnd}
-use Rattle.cov_grammar.specs.Kinds.{has}
+use Rattle.cov_lexer.specs.Kinds.{has}
 use Rattle.cov_grammar.specs.Rule.{Rule, one, word, here, bind, either, map_to, both, fold, ◌▸◌, ◌◂◌, allow, maybe}
 use Rattle.cov_grammar.specs.Expressions.{pair, snoc, spelled, expr, whole_expr}
 

@@ -1,14 +1,14 @@
 -- What a list of tokens is as a whole: a design text of one tree, or a text with a fault at one place.
 use Rattle.std.specs.Prelude.{◌≡◌, ℕ, ◌+◌, ◌<◌, ◌≤◌, List, [], ◌∷◌, length, false, Option, Some, None, Bool, slice_get}
 use Rattle.cov_tree.specs.declared.declarations.Decl.{Decl}
-use Rattle.cov_grammar.specs.declared.kind.Kind.{Kind}
-use Rattle.cov_grammar.specs.declared.kind.Kind.TheVariants.{System, NotSupported, OtherWord, WithWord}
-use Rattle.cov_grammar.specs.declared.kind.Marked.{Marked}
+use Rattle.cov_lexer.specs.declared.kind.Kind.{Kind}
+use Rattle.cov_lexer.specs.declared.kind.Kind.TheVariants.{System, NotSupported, OtherWord, WithWord}
+use Rattle.cov_grammar.specs.declared.marked.Marked.{Marked}
 use Rattle.cov_grammar.specs.declared.place.Place.{Place}
 use Rattle.cov_grammar.specs.declared.place.Room.{Room}
 use Rattle.cov_grammar.specs.declared.place.Stop.{Stop}
 use Rattle.cov_grammar.specs.declared.place.Stop.TheVariants.{Memory, Syntax, TooDeep}
-use Rattle.cov_grammar.specs.Kinds.{has}
+use Rattle.cov_lexer.specs.Kinds.{has}
 use Rattle.cov_grammar.specs.Designs.{design}
 
 abbrev pub start : Place

@@ -9,8 +9,8 @@ use Rattle.cov_tree.specs.declared.groups.CrossBins.{CrossBins}
 use Rattle.cov_tree.specs.declared.groups.Member.{Member}
 use Rattle.cov_tree.specs.declared.groups.Member.TheVariants.{Opt, Point, Cross}
 use Rattle.cov_tree.specs.Exprs.{bins_of, none_of, both_of, either_of}
-use Rattle.cov_grammar.specs.declared.kind.Kind.TheVariants.{CoverpointWord, CrossWord, BinsofWord, IntersectWord, OpenParen, CloseParen, OpenBrace, CloseBrace, Comma, Semi, Colon, Dot, Assign, Bang, AndAnd, OrOr}
-use Rattle.cov_grammar.specs.declared.kind.Marked.{Marked}
+use Rattle.cov_lexer.specs.declared.kind.Kind.TheVariants.{CoverpointWord, CrossWord, BinsofWord, IntersectWord, OpenParen, CloseParen, OpenBrace, CloseBrace, Comma, Semi, Colon, Dot, Assign, Bang, AndAnd, OrOr}
+use Rattle.cov_grammar.specs.declared.marked.Marked.{Marked}
 use Rattle.cov_grammar.specs.declared.place.Room.{Room}
 use Rattle.cov_grammar.specs.declared.place.Standing.TheVariants.{Plain}
 use Rattle.cov_grammar.specs.Rule.{Rule, one, word, counted, afresh, here, never, bind, either, many, map_to, both, fold, ◌▸◌, ◌◂◌, allow, maybe}

@@ -1,4 +1,3 @@
-pub mod Kinds
 pub mod Rule
 pub mod Parses
 pub mod Operators

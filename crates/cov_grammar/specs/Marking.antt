@@ -1,61 +1,11 @@
 -- The kinds of the tokens of a text. They tell two uses of `[` apart by its neighbours, so that one token decides everywhere.
-use Rattle.std.specs.Prelude.{ℕ, ◌+◌, List, [], ◌∷◌, Bool, false, ◌&&◌, codes, nat_eq, cond, slice_range}
-use Rattle.std.specs.Cmp.Lexicographic.{pointwise}
+use Rattle.std.specs.Prelude.{ℕ, ◌+◌, List, [], ◌∷◌, Bool, false, ◌&&◌, cond, slice_range}
+pub use Rattle.cov_lexer.specs.Spellings.{kind_of}
 use Rattle.cov_lexer.specs.declared.token.Token.{Token}
-use Rattle.cov_lexer.specs.declared.token.TokenKind.{TokenKind}
-use Rattle.cov_lexer.specs.declared.token.TokenKind.TheVariants as lexed
-use Rattle.cov_grammar.specs.declared.kind.Kind.{Kind}
-use Rattle.cov_grammar.specs.declared.kind.Kind.TheVariants.{Ident, Numeral, Quoted, System, NotSupported, OtherWord, OpenIndex, TypedefWord, EnumWord, BitWord, LogicWord, RegWord, ByteWord, ShortintWord, IntWord, LongintWord, IntegerWord, SignedWord, UnsignedWord, CovergroupWord, EndgroupWord, CoverpointWord, CrossWord, BinsWord, IllegalBinsWord, IgnoreBinsWord, WildcardWord, IffWord, DefaultWord, SequenceWord, BinsofWord, IntersectWord, WithWord, InputWord, RefWord, NewWord, PosedgeWord, NegedgeWord, EdgeWord, OrWord, OptionWord, TypeOptionWord, OpenParen, CloseParen, OpenSquare, CloseSquare, OpenBrace, CloseBrace, Comma, Semi, Colon, Dot, AtSign, Assign, FatArrow, ThinArrow, PlusSign, Minus, Star, Slash, Percent, Tilde, Bang, Ampersand, AndAnd, Bar, OrOr, Caret, TildeAnd, TildeOr, TildeCaret, Less, LessEqual, Greater, GreaterEqual, EqualEqual, NotEqual, ShiftLeft, ShiftRight, SignedLeft, SignedRight, Question, DollarSign}
-use Rattle.cov_grammar.specs.declared.kind.Marked.{Marked}
-use Rattle.cov_grammar.specs.Kinds.{has}
-
--- a text with its kind
-pub record Spelling : Type 0 where
-  pub text : List ℕ
-  pub kind : Kind
-
-abbrev pub is : Kind → List ℕ → Spelling
-is kind text = record { text = text; kind = kind }
-
--- the words and operators of the grammar
-unfoldable pub spellings : List Spelling
-spellings =
-    is TypedefWord (codes "typedef") ∷ is EnumWord (codes "enum") ∷ is BitWord (codes "bit") ∷ is LogicWord (codes "logic") ∷ is RegWord (codes "reg")
-    ∷ is ByteWord (codes "byte") ∷ is ShortintWord (codes "shortint") ∷ is IntWord (codes "int") ∷ is LongintWord (codes "longint")
-    ∷ is IntegerWord (codes "integer") ∷ is SignedWord (codes "signed") ∷ is UnsignedWord (codes "unsigned") ∷ is CovergroupWord (codes "covergroup")
-    ∷ is EndgroupWord (codes "endgroup") ∷ is CoverpointWord (codes "coverpoint") ∷ is CrossWord (codes "cross") ∷ is BinsWord (codes "bins")
-    ∷ is IllegalBinsWord (codes "illegal_bins") ∷ is IgnoreBinsWord (codes "ignore_bins") ∷ is WildcardWord (codes "wildcard")
-    ∷ is IffWord (codes "iff") ∷ is DefaultWord (codes "default") ∷ is SequenceWord (codes "sequence") ∷ is BinsofWord (codes "binsof")
-    ∷ is IntersectWord (codes "intersect") ∷ is WithWord (codes "with") ∷ is InputWord (codes "input") ∷ is RefWord (codes "ref")
-    ∷ is NewWord (codes "new") ∷ is PosedgeWord (codes "posedge") ∷ is NegedgeWord (codes "negedge") ∷ is EdgeWord (codes "edge")
-    ∷ is OrWord (codes "or") ∷ is OptionWord (codes "option") ∷ is TypeOptionWord (codes "type_option") ∷ is OpenParen (codes "(")
-    ∷ is CloseParen (codes ")") ∷ is OpenSquare (codes "[") ∷ is CloseSquare (codes "]") ∷ is OpenBrace (codes "{") ∷ is CloseBrace (codes "}")
-    ∷ is Comma (codes ",") ∷ is Semi (codes ";") ∷ is Colon (codes ":") ∷ is Dot (codes ".") ∷ is AtSign (codes "@") ∷ is Assign (codes "=")
-    ∷ is FatArrow (codes "=>") ∷ is ThinArrow (codes "->") ∷ is PlusSign (codes "+") ∷ is Minus (codes "-") ∷ is Star (codes "*")
-    ∷ is Slash (codes "/") ∷ is Percent (codes "%") ∷ is Tilde (codes "~") ∷ is Bang (codes "!") ∷ is Ampersand (codes "&") ∷ is AndAnd (codes "&&")
-    ∷ is Bar (codes "|") ∷ is OrOr (codes "||") ∷ is Caret (codes "^") ∷ is TildeAnd (codes "~&") ∷ is TildeOr (codes "~|")
-    ∷ is TildeCaret (codes "~^") ∷ is TildeCaret (codes "^~") ∷ is Less (codes "<") ∷ is LessEqual (codes "<=") ∷ is Greater (codes ">")
-    ∷ is GreaterEqual (codes ">=") ∷ is EqualEqual (codes "==") ∷ is NotEqual (codes "!=") ∷ is ShiftLeft (codes "<<") ∷ is ShiftRight (codes ">>")
-    ∷ is SignedLeft (codes "<<<") ∷ is SignedRight (codes ">>>") ∷ is Question (codes "?") ∷ is DollarSign (codes "$") ∷ []
-
--- the kind of this text: that of the first entry which has it
-abbrev pub kind_among : List ℕ → List Spelling → Kind
-kind_among text [] = OtherWord
-kind_among text (s ∷ ss) = cond (pointwise nat_eq s.text text) s.kind (kind_among text ss)
-
-unfoldable pub kind_spelled : List ℕ → Kind
-kind_spelled text = kind_among text spellings
-
--- the kind of a token by itself
-abbrev pub kind_of : List ℕ → TokenKind → Kind
-kind_of text lexed.Ident = Ident
-kind_of text lexed.Keyword = kind_spelled text
-kind_of text lexed.System = System
-kind_of text lexed.Decimal = Numeral
-kind_of text lexed.Based = Numeral
-kind_of text lexed.Text = Quoted
-kind_of text lexed.Operator = kind_spelled text
-kind_of text lexed.NotSupported = NotSupported
+use Rattle.cov_lexer.specs.declared.kind.Kind.{Kind}
+use Rattle.cov_lexer.specs.declared.kind.Kind.TheVariants.{Ident, Numeral, OpenIndex, OpenParen, OpenSquare, OpenBrace, PlusSign, Minus, Tilde, Bang, Ampersand, Bar, Caret, TildeAnd, TildeOr, TildeCaret}
+use Rattle.cov_grammar.specs.declared.marked.Marked.{Marked}
+use Rattle.cov_lexer.specs.Kinds.{has}
 
 unfoldable pub alone : List ℕ → Token → Kind
 alone text t = kind_of (slice_range text t.«at» (t.«at» + t.len)) t.kind

@@ -1,9 +1,9 @@
 -- The rules of a grammar over a list of tokens, by what they derive and how far the tokens begin them.
 use Rattle.std.specs.Prelude.{◌≡◌, ℕ, zero, suc, ◌+◌, ◌<◌, List, [], ◌∷◌, Option, Some, None, Bool, true, false, ◌⊎◌, slice_get, slice_range}
-use Rattle.cov_grammar.specs.declared.kind.Kind.{Kind}
-use Rattle.cov_grammar.specs.declared.kind.Marked.{Marked}
+use Rattle.cov_lexer.specs.declared.kind.Kind.{Kind}
+use Rattle.cov_grammar.specs.declared.marked.Marked.{Marked}
 use Rattle.cov_grammar.specs.declared.place.Place.{Place}
-use Rattle.cov_grammar.specs.Kinds.{has}
+use Rattle.cov_lexer.specs.Kinds.{has}
 
 -- derives p t q: the tokens from place p up to place q derive the tree t.
 -- begins p n: the tokens from place p up to token n begin the rule (none of them, or all of a derivation, included).

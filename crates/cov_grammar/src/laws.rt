@@ -1,7 +1,7 @@
 //! What holds of the grammar itself. Each function does nothing: it stands for the law that it ensures.
 ghost use Rattle.std.specs.Prelude.{◌≡◌, ℕ, ◌≤◌, List, length};
 ghost use Rattle.cov_tree.specs.declared.declarations.Decl.{Decl};
-ghost use Rattle.cov_grammar.specs.declared.kind.Marked.{Marked};
+ghost use Rattle.cov_grammar.specs.declared.marked.Marked.{Marked};
 ghost use Rattle.cov_grammar.specs.declared.place.Room.{Room};
 ghost use Rattle.cov_grammar.specs.Fault.{DerivesWithin, Derives, IsViableWithin, IsSyntaxFault, IsTooDeepAt};
 

@@ -6,8 +6,8 @@ use Rattle.std.proofs.lemmas.Grind.{common_steps}
 use Rattle.cov_lexer.specs.declared.token.TokenKind.{TokenKind}
 use Rattle.cov_lexer.specs.declared.token.TokenKind.TheVariants.{Ident, Keyword, System, Decimal, Based, Text, Operator, NotSupported}
 use Rattle.cov_lexer.specs.Bytes.{is_letter, is_digit, is_blank, is_quote, is_dollar, is_slash, is_apostrophe}
-use Rattle.cov_lexer.specs.Words.{begins_with}
-use Rattle.cov_lexer.specs.Operators.{Spelled, operators, stands, IsOneAt}
+use Rattle.cov_lexer.specs.Spellings.{Spelling, operators, begins_with}
+use Rattle.cov_lexer.specs.Operators.{stands, IsOneAt}
 use Rattle.cov_lexer.specs.Forms.{Piece, Separator, Item, Spells}
 use Rattle.cov_lexer.specs.Lexes.{opens_comment}
 use Rattle.cov_lexer.proofs.Tables.{first_byte, not_standing, cond_true}
@@ -39,7 +39,7 @@ abbrev first_passes : (ℕ → Bool) → List ℕ → Bool
 first_passes p [] = false
 first_passes p (x ∷ xs) = p x
 
-abbrev all_begin : (ℕ → Bool) → List Spelled → Bool
+abbrev all_begin : (ℕ → Bool) → List Spelling → Bool
 all_begin p [] = true
 all_begin p (s ∷ ss) = cond (first_passes p s.text) (all_begin p ss) false
 
@@ -47,7 +47,7 @@ stands_passes : (p : ℕ → Bool) (text : List ℕ) (i : ℕ) (bytes : List ℕ
 stands_passes p text i [] l h s = absurd (cc)
 stands_passes p text i (x ∷ xs) l h s = subst (λ q. p q ≡ true) (sym (first_byte text i x xs l s)) h
 
-one_passes : (p : ℕ → Bool) (text : List ℕ) (i : ℕ) (k : TokenKind) (ss : List Spelled) (n : ℕ) → i < length text → all_begin p ss ≡ true → IsOneAt text i k ss n → p (get_or text i 0) ≡ true
+one_passes : (p : ℕ → Bool) (text : List ℕ) (i : ℕ) (k : TokenKind) (ss : List Spelling) (n : ℕ) → i < length text → all_begin p ss ≡ true → IsOneAt text i k ss n → p (get_or text i 0) ≡ true
 unfolding IsOneAt
 one_passes p text i k [] n l h o = absurd o
 one_passes p text i k (s ∷ ss) n l h o =
@@ -226,7 +226,7 @@ no_comment text i l n = not_standing text i 47 (42 ∷ []) l (ne_eqb 47 (get_or 
 
 -- operators that have one byte where they begin with this one
 
-abbrev all_short : ℕ → List Spelled → Bool
+abbrev all_short : ℕ → List Spelling → Bool
 all_short b [] = true
 all_short b (s ∷ ss) = cond (not (begins_with b s.text) || eqb (length s.text) 1) (all_short b ss) false
 
@@ -234,7 +234,7 @@ stands_begins : (text : List ℕ) (i : ℕ) (bytes : List ℕ) → i < length te
 stands_begins text i [] l s = refl
 stands_begins text i (x ∷ xs) l s = let e = first_byte text i x xs l s in subst (λ q. eqb x q ≡ true) (sym e) (grind (arith, common_steps))
 
-short_one : (text : List ℕ) (i : ℕ) (k : TokenKind) (ss : List Spelled) (n : ℕ) → i < length text → all_short (get_or text i 0) ss ≡ true → IsOneAt text i k ss n → n ≡ i + 1
+short_one : (text : List ℕ) (i : ℕ) (k : TokenKind) (ss : List Spelling) (n : ℕ) → i < length text → all_short (get_or text i 0) ss ≡ true → IsOneAt text i k ss n → n ≡ i + 1
 unfolding IsOneAt
 short_one text i k [] n l h o = absurd o
 short_one text i k (s ∷ ss) n l h o =

@@ -2,13 +2,15 @@
 use Rattle.std.proofs.Common.{◌≡◌, ◌≢◌, ℕ, zero, suc, ◌+◌, ◌<◌, ◌≤◌, List, [], ◌∷◌, Bool, true, false, ◌⊎◌, inl, inr, Option, None, IsSome, length, get_or, slice_range, sym, ◌∙◌, ap, subst, arith}
 use Rattle.cov_lexer.specs.declared.token.TokenKind.{TokenKind}
 use Rattle.cov_lexer.specs.declared.token.TokenKind.TheVariants.{Ident, Decimal, Based}
+use Rattle.cov_lexer.specs.declared.kind.Kind.{Kind}
 use Rattle.cov_lexer.specs.declared.token.Token.{Token}
 use Rattle.cov_lexer.specs.declared.token.LexFault.{LexFault}
 use Rattle.cov_lexer.specs.declared.token.LexFault.TheVariants.{BadByte, OpenComment, OpenString, LiteralTooWide, NameTooLong, Memory}
 use Rattle.cov_tree.specs.declared.literal.Literal.{Literal}
 use Rattle.cov_lexer.specs.Forms.{Piece, Separator, Item, Spells, IsPiece}
+use Rattle.cov_lexer.specs.Spellings.{kind_of}
 use Rattle.cov_lexer.specs.Literals.{literal_of}
-use Rattle.cov_lexer.specs.Lexes.{IsToken, IsWithin, Covers, Lexes, IsNothing, IsFaultAt, IsFault, Ascend, place, opens_comment, name_limit, AllWithin}
+use Rattle.cov_lexer.specs.Lexes.{IsToken, IsWithin, Covers, Lexes, IsNothing, IsFaultAt, IsFault, Ascend, place, opens_comment, name_limit, AllWithin, IsSpelled, AllSpelled}
 
 pub piece_same : (text : List ℕ) (i : ℕ) (p q : Piece) (j k : ℕ) → IsPiece text i p j → IsPiece text i q k → (j ≡ k) × (p ≡ q)
 piece_same text i p q j k x y =
@@ -26,11 +28,18 @@ IsStuck text j = (n : ℕ) → j < n → n ≤ length text → (IsPiece text j S
 pub stuck_at_end : (text : List ℕ) → IsStuck text (length text)
 stuck_at_end text n l m s = absurd (omega arith)
 
-abbrev made : TokenKind → ℕ → ℕ → Token
-made k a l = record { kind = k; «at» = a; len = l }
+abbrev made : TokenKind → Kind → ℕ → ℕ → Token
+made k w a l = record { kind = k; spelled = w; «at» = a; len = l }
 
-token_equal : (a b : Token) → a.kind ≡ b.kind → a.«at» ≡ b.«at» → a.len ≡ b.len → a ≡ b
-token_equal a b k s e = ap (λ x. made x a.«at» a.len) k ∙ (ap (λ x. made b.kind x a.len) s ∙ ap (λ x. made b.kind b.«at» x) e)
+token_equal : (a b : Token) → a.kind ≡ b.kind → a.spelled ≡ b.spelled → a.«at» ≡ b.«at» → a.len ≡ b.len → a ≡ b
+token_equal a b k w s e =
+    ap (λ x. made x a.spelled a.«at» a.len) k
+    ∙ (ap (λ x. made b.kind x a.«at» a.len) w ∙ (ap (λ x. made b.kind b.spelled x a.len) s ∙ ap (λ x. made b.kind b.spelled b.«at» x) e))
+
+-- the same bytes spell one kind as one sort of token
+one_spelled : (text : List ℕ) (i j n : ℕ) (a b : TokenKind) (k w : Kind) → j ≡ n → a ≡ b → IsSpelled text i a j k → IsSpelled text i b n w → k ≡ w
+one_spelled text i j n a b k w e f x y =
+    x ∙ (ap (λ (z : ℕ). kind_of (slice_range text i z) a) e ∙ (ap (λ (z : TokenKind). kind_of (slice_range text i n) z) f ∙ sym y))
 
 item_same : (a b : TokenKind) → Item a ≡ Item b → a ≡ b
 item_same a b h = cc
@@ -59,8 +68,10 @@ covers_meet text (suc c) (suc d) i ts us j k a b h g = elim h.3 [
   | inr p ↦ elim g.3 [
     | inl q ↦ absurd (let e = (piece_same text i (Item p.0.kind) Separator h.0 g.0 p.5.piece q.0).1 in cc)
     | inr q ↦ (let e = piece_same text i (Item p.0.kind) (Item q.0.kind) h.0 g.0 p.5.piece q.5.piece in
-        let t = token_equal p.0 q.0 (item_same p.0.kind q.0.kind e.1) (p.3 ∙ sym q.3) (let x = p.4 in let y = q.4 in let z = e.0 in omega arith) in
-        let r = covers_meet text c d g.0 p.1 q.1 j k a b (subst (λ n. Covers text c n p.1 j) e.0 p.6) q.6 in
+        let same = item_same p.0.kind q.0.kind e.1 in
+        let w = one_spelled text i h.0 g.0 p.0.kind q.0.kind p.0.spelled q.0.spelled e.0 same p.6 q.6 in
+        let t = token_equal p.0 q.0 same w (p.3 ∙ sym q.3) (let x = p.4 in let y = q.4 in let z = e.0 in omega arith) in
+        let r = covers_meet text c d g.0 p.1 q.1 j k a b (subst (λ n. Covers text c n p.1 j) e.0 p.7) q.7 in
         (p.2 ∙ (ap (λ x. x ∷ p.1) t ∙ (ap (λ xs. q.0 ∷ xs) r.0 ∙ sym q.2)), r.1))
   ]
 ]
@@ -187,7 +198,7 @@ pub covers_ascend : (text : List ℕ) (c i : ℕ) (ts : List Token) (j : ℕ) �
 covers_ascend text zero i ts j l h = subst (λ xs. Ascend i xs (length text)) (sym h.0) (let e = h.1 in omega arith)
 covers_ascend text (suc c) i ts j l h = elim h.3 [
   | inl p ↦ ascend_from i h.0 (length text) ts (let a = h.1 in omega arith) (covers_ascend text c h.0 ts j l p.1)
-  | inr p ↦ (let r = covers_ascend text c h.0 p.1 j l p.6 in
+  | inr p ↦ (let r = covers_ascend text c h.0 p.1 j l p.7 in
       let e : h.0 ≡ p.0.«at» + p.0.len = (let a = p.3 in let b = p.4 in omega arith) in
       subst (λ xs. Ascend i xs (length text)) (sym p.2) ((let a = p.3 in omega arith), (let a = h.1 in let b = p.4 in omega arith), subst (λ q. Ascend q p.1 (length text)) e r))
 ]
@@ -199,9 +210,23 @@ covers_within text (suc c) i ts j h = elim h.3 [
   | inl p ↦ covers_within text c h.0 ts j p.1
   | inr p ↦
       (
-      let r = covers_within text c h.0 p.1 j p.6 in
+      let r = covers_within text c h.0 p.1 j p.7 in
       let e : h.0 ≡ p.0.«at» + p.0.len = (let a = p.3 in let b = p.4 in omega arith) in
       let w = subst (λ q. IsWithin text q p.0.kind h.0) (sym p.3) p.5.within in
       subst (λ xs. AllWithin text xs) (sym p.2) (subst (λ q. IsWithin text p.0.«at» p.0.kind q) e w, r)
+      )
+]
+
+-- tokens keep what they spell
+pub covers_spelled : (text : List ℕ) (c i : ℕ) (ts : List Token) (j : ℕ) → Covers text c i ts j → AllSpelled text ts
+covers_spelled text zero i ts j h = subst (λ xs. AllSpelled text xs) (sym h.0) tt
+covers_spelled text (suc c) i ts j h = elim h.3 [
+  | inl p ↦ covers_spelled text c h.0 ts j p.1
+  | inr p ↦
+      (
+      let r = covers_spelled text c h.0 p.1 j p.7 in
+      let e : h.0 ≡ p.0.«at» + p.0.len = (let a = p.3 in let b = p.4 in omega arith) in
+      let w = subst (λ q. IsSpelled text q p.0.kind h.0 p.0.spelled) (sym p.3) p.6 in
+      subst (λ xs. AllSpelled text xs) (sym p.2) (subst (λ q. IsSpelled text p.0.«at» p.0.kind q p.0.spelled) e w, r)
       )
 ]

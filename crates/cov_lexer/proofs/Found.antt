@@ -8,11 +8,12 @@ use Rattle.cov_lexer.specs.declared.bytes.Base.TheVariants as bases
 use Rattle.cov_lexer.specs.declared.token.TokenKind.{TokenKind}
 use Rattle.cov_lexer.specs.declared.token.TokenKind.TheVariants.{Ident, Keyword, System, Decimal, Based, Text, Operator, NotSupported}
 use Rattle.cov_lexer.specs.Bytes.{is_letter, is_digit, is_word, is_number, is_space, is_blank, is_in_line, is_inside, is_quote, is_dollar, is_slash, is_apostrophe, is_sign, is_base, is_base_digit, is_base_more}
-use Rattle.cov_lexer.specs.Words.{is_keyword}
-use Rattle.cov_lexer.specs.Operators.{operators, stands, IsOneAt, Spelled}
+use Rattle.cov_lexer.specs.Spellings.{Spelling, operators, is_keyword}
+use Rattle.cov_lexer.specs.Operators.{sort_of, stands, IsOneAt}
 use Rattle.cov_lexer.specs.Forms.{One, Many, Passes, Fits, name, digits, marked, based, sized, quoted, line_comment, Piece, Separator, Item, Spells, IsPiece}
 use Rattle.cov_lexer.specs.Literals.{literal_of, base_of}
-use Rattle.cov_lexer.specs.Lexes.{IsToken, IsNothing, IsWithin, opens_comment}
+use Rattle.cov_lexer.specs.declared.kind.Kind.TheVariants.{Numeral}
+use Rattle.cov_lexer.specs.Lexes.{IsToken, IsNothing, IsWithin, IsSpelled, opens_comment}
 use Rattle.cov_lexer.specs.Reading.{Runs, IsLongestOf, EndsOf, IsLongestOperator, OnlyOperators, IsClose}
 use Rattle.cov_lexer.proofs.Tables.{first_byte, stands_inside, cond_true}
 use Rattle.cov_lexer.proofs.Fitting.{inside, run_then, run_last, run_fits}
@@ -376,15 +377,15 @@ is_operator Decimal = false
 is_operator Based = false
 is_operator Text = false
 
-abbrev all_operators : List Spelled → Bool
+abbrev all_operators : List Spelling → Bool
 all_operators [] = true
-all_operators (s ∷ ss) = cond (is_operator s.kind) (all_operators ss) false
+all_operators (s ∷ ss) = cond (is_operator (sort_of s.kind)) (all_operators ss) false
 
-operator_kind : (text : List ℕ) (i : ℕ) (k : TokenKind) (ss : List Spelled) (n : ℕ) → all_operators ss ≡ true → IsOneAt text i k ss n → is_operator k ≡ true
+operator_kind : (text : List ℕ) (i : ℕ) (k : TokenKind) (ss : List Spelling) (n : ℕ) → all_operators ss ≡ true → IsOneAt text i k ss n → is_operator k ≡ true
 unfolding IsOneAt
 operator_kind text i k [] n h o = absurd o
 operator_kind text i k (s ∷ ss) n h o =
-    let a = cond_true (is_operator s.kind) (all_operators ss) h in
+    let a = cond_true (is_operator (sort_of s.kind)) (all_operators ss) h in
     elim o [ inl q ↦ subst (λ x. is_operator x ≡ true) q.0 a.0 | inr q ↦ operator_kind text i k ss n a.1 q ]
 
 operators_are : all_operators operators ≡ true
@@ -410,6 +411,13 @@ operator_of text i j Text h only o = absurd (cc)
 
 pub operator_token : (text : List ℕ) (i j : ℕ) (k : TokenKind) → OnlyOperators text i → IsLongestOperator text i k j → IsToken text i k j
 operator_token text i j k only o = operator_of text i j k (operator_kind text i k operators j operators_are o.spells) only o
+
+-- a numeral spells a number
+pub numeral_spelled : (text : List ℕ) (i j : ℕ) (k : TokenKind) → (k ≡ Decimal) ⊎ (k ≡ Based) → IsSpelled text i k j Numeral
+numeral_spelled text i j k h = elim h [
+  | inl e ↦ subst (λ (z : TokenKind). IsSpelled text i z j Numeral) (sym e) refl
+  | inr e ↦ subst (λ (z : TokenKind). IsSpelled text i z j Numeral) (sym e) refl
+]
 
 pub operator_nothing : (text : List ℕ) (i : ℕ) → i < length text → OnlyOperators text i → ((k : TokenKind) (n : ℕ) → IsOneAt text i k operators n → ⊥) → IsNothing text i
 operator_nothing text i l only none = (l, only.no_comment, nothing)

@@ -1,5 +1,5 @@
 -- The meaning of a text is that of the literal which it is.
-use Rattle.std.proofs.Common.{◌≡◌, ◌≢◌, ℕ, ◌+◌, ◌-◌, ◌<◌, ◌≤◌, List, [], ◌∷◌, Bool, true, false, ◌&&◌, ◌⊎◌, inl, inr, cond, eqb, nat_eq, Option, Some, None, length, take, drop, get_or, slice_range, length-take, refl, sym, ◌∙◌, ap, subst, arith, length-drop}
+use Rattle.std.proofs.Common.{◌≡◌, ◌≢◌, ℕ, ◌+◌, ◌-◌, ◌<◌, ◌≤◌, List, [], ◌∷◌, Bool, true, false, ◌⊎◌, inl, inr, cond, nat_eq, Option, Some, None, length, take, drop, get_or, slice_range, length-take, refl, sym, ◌∙◌, subst, arith, length-drop}
 use Rattle.std.specs.List.{prefix_len}
 use Rattle.std.proofs.lemmas.Bool.{cases_Bool, cases_lt, cases_order, eqb-true, eq-eqb, ne_eqb, and_parts}
 use Rattle.std.proofs.lemmas.List.{get_or-drop, get_or-take}
@@ -9,10 +9,10 @@ use Rattle.cov_lexer.specs.declared.bytes.Base.TheVariants as bases
 use Rattle.cov_tree.specs.declared.literal.Literal.{Literal}
 use Rattle.cov_lexer.specs.Bytes.{is_digit, is_number, is_space, is_apostrophe, is_sign, is_base, is_base_digit, is_base_more}
 use Rattle.cov_lexer.specs.Forms.{Part, One, Maybe, Many, Passes, Fits, decimal, based, sized, digits as digits_in}
-use Rattle.cov_lexer.specs.Literals.{base_of, value_of, decimal_literal, meaning, spaces, marks, IsSize, IsBased, IsDecimal, IsLiteral, IsNumber, run_to, are_digits, in_base, lettered, based_literal, numbered, literal_of}
+use Rattle.cov_lexer.specs.Literals.{base_of, value_of, decimal_literal, meaning, spaces, marks, IsSize, IsBased, IsDecimal, IsLiteral, IsNumber, run_to, are_digits, lettered, based_literal, literal_of}
 use Rattle.cov_lexer.specs.Reading.{Runs}
 use Rattle.cov_lexer.proofs.Fitting.{inside, run_fits}
-use Rattle.cov_lexer.proofs.Found.{base_is, base_passes, digit_passes, apostrophe_passes, sign_passes, no_digit_space, no_base_sign, number_no_space, number_no_apostrophe, digit_no_apostrophe}
+use Rattle.cov_lexer.proofs.Found.{base_is, base_passes, digit_passes, sign_passes, no_digit_space, no_base_sign, number_no_space, number_no_apostrophe, digit_no_apostrophe}
 
 -- runs
 

@@ -1,14 +1,14 @@
--- Tables of words and operators by their first byte.
-use Rattle.std.proofs.Common.{◌≡◌, ◌≢◌, ℕ, ◌+◌, ◌<◌, ◌≤◌, List, [], ◌∷◌, Bool, true, false, ◌&&◌, ◌||◌, ◌⊎◌, inl, inr, cond, not, nat_lt, nat_eq, eqb, Option, Some, None, length, take, drop, get_or, refl, sym, ◌∙◌, ap, subst, arith, drop-cons, length-take, length-drop}
+-- The table of words and operators, and what stands at a place.
+use Rattle.std.proofs.Common.{◌≡◌, ◌≢◌, ℕ, ◌+◌, ◌-◌, ◌<◌, ◌≤◌, List, [], ◌∷◌, Bool, true, false, ◌&&◌, ◌||◌, ◌⊎◌, inl, inr, cond, not, nat_lt, eqb, Option, Some, None, is_some, length, take, drop, get_or, slice_range, refl, sym, ◌∙◌, ap, subst, arith, drop-cons, length-take, length-drop}
 use lib.Pointwise.{pointwise}
 use Rattle.std.proofs.lemmas.Bool.{cases_Bool, eqb-true, ltb-true, and_parts, or_cases, and_left}
 use Rattle.std.proofs.lemmas.Grind.{common_steps}
+use Rattle.cov_lexer.specs.declared.kind.Kind.{Kind}
+use Rattle.cov_lexer.specs.declared.kind.Kind.TheVariants.{NotSupported}
 use Rattle.cov_lexer.specs.declared.token.TokenKind.{TokenKind}
-use Rattle.cov_lexer.specs.declared.token.TokenKind.TheVariants.{Operator}
-use Rattle.std.specs.List.{starts_with}
-use Rattle.cov_lexer.specs.Words.{keywords, is_keyword, is_one_of, begins_with, with_first}
-use Rattle.cov_lexer.specs.Operators.{Spelled, operators, stands, IsOneAt, first_standing, spelled_from, is_lone, has_it}
-use Rattle.cov_lexer.specs.Reading.{IsLongestOperator}
+use Rattle.cov_lexer.specs.Spellings.{Spelling, words, operators, kind_among, is_keyword, kind_of, or_other, begins_with, starting}
+use Rattle.cov_lexer.specs.Operators.{sort_of, stands, IsOneAt, first_standing}
+use Rattle.cov_lexer.specs.Reading.{IsOperator}
 
 abbrev pub among : ℕ → List ℕ → Bool
 among b [] = false
@@ -25,11 +25,6 @@ outside_false b (l ∷ ls) h = elim (cases_Bool (eqb l b)) [
   | inr e ↦ rw e (outside_false b ls h.1)
 ]
 
-abbrev pub firsts_in : List ℕ → List (List ℕ) → Bool
-firsts_in letters [] = true
-firsts_in letters ([] ∷ ws) = false
-firsts_in letters ((x ∷ xs) ∷ ws) = cond (among x letters) (firsts_in letters ws) false
-
 among_left : (x b : ℕ) (letters : List ℕ) → among x letters ≡ true → among b letters ≡ false → eqb x b ≡ false
 among_left x b letters h k = elim (cases_Bool (eqb x b)) [
   | inl e ↦ absurd (let s = eqb-true x b e in let g = subst (λ q. among q letters ≡ true) s h in cc)
@@ -40,38 +35,56 @@ pub cond_true : (c t : Bool) → cond c t false ≡ true → (c ≡ true) × (t 
 cond_true true t h = (refl, h)
 cond_true false t h = absurd (cc)
 
--- no word begins with a byte that is none of the letters
-pub none_from : (b : ℕ) (letters : List ℕ) (ws : List (List ℕ)) → firsts_in letters ws ≡ true → among b letters ≡ false → with_first b ws ≡ []
-none_from b letters [] h k = refl
-none_from b letters ([] ∷ ws) h k = absurd (cc)
-none_from b letters ((x ∷ xs) ∷ ws) h k =
-    let p = cond_true (among x letters) (firsts_in letters ws) h in
-    let e = among_left x b letters p.0 k in
-    rw e (none_from b letters ws p.1 k)
+abbrev pub first_among : List ℕ → List ℕ → Bool
+first_among letters [] = false
+first_among letters (x ∷ xs) = among x letters
 
--- a text that begins with b is one of the words where it is one of those that begin with b
+abbrev pub all_among : List ℕ → List Spelling → Bool
+all_among letters [] = true
+all_among letters (s ∷ ss) = cond (first_among letters s.text) (all_among letters ss) false
+
+not_beginning : (b : ℕ) (letters bytes : List ℕ) → first_among letters bytes ≡ true → among b letters ≡ false → begins_with b bytes ≡ false
+not_beginning b letters [] h k = absurd (cc)
+not_beginning b letters (x ∷ xs) h k = among_left x b letters h k
+
+-- none begins with a byte that is none of these
+pub none_starting : (b : ℕ) (letters : List ℕ) (ss : List Spelling) → all_among letters ss ≡ true → among b letters ≡ false → starting b ss ≡ []
+none_starting b letters [] h k = refl
+none_starting b letters (s ∷ ss) h k =
+    let p = cond_true (first_among letters s.text) (all_among letters ss) h in
+    rw (not_beginning b letters s.text p.0 k) (none_starting b letters ss p.1 k)
+
+-- the kind of a text that begins with b is that among those that begin with b
 other_first : (b : ℕ) (rest w : List ℕ) → begins_with b w ≡ false → pointwise eqb w (b ∷ rest) ≡ false
 other_first b rest [] h = absurd (cc)
 other_first b rest (x ∷ xs) h = and_left (eqb x b) (pointwise eqb xs rest) h
 
-one_step : (text w : List ℕ) (found : List (List ℕ)) (more t : Bool) → (t ≡ false → pointwise eqb w text ≡ false) → more ≡ is_one_of text found →
-    cond (pointwise eqb w text) true more ≡ is_one_of text (cond t (w ∷ found) found)
-one_step text w found more true k h = ap (λ r. cond (pointwise eqb w text) true r) h
-one_step text w found more false k h = rw (k refl) h
+one_step : (text : List ℕ) (s : Spelling) (found : List Spelling) (more : Option Kind) (t : Bool) → (t ≡ false → pointwise eqb s.text text ≡ false) → more ≡ kind_among text found →
+    cond (pointwise eqb s.text text) (Some s.kind) more ≡ kind_among text (cond t (s ∷ found) found)
+one_step text s found more true k h = ap (λ r. cond (pointwise eqb s.text text) (Some s.kind) r) h
+one_step text s found more false k h = rw (k refl) h
 
-one_by_first : (b : ℕ) (rest : List ℕ) (ws : List (List ℕ)) → is_one_of (b ∷ rest) ws ≡ is_one_of (b ∷ rest) (with_first b ws)
-one_by_first b rest [] = refl
-one_by_first b rest (w ∷ ws) = one_step (b ∷ rest) w (with_first b ws) _ (begins_with b w) (other_first b rest w) (one_by_first b rest ws)
+by_first : (b : ℕ) (rest : List ℕ) (ss : List Spelling) → kind_among (b ∷ rest) ss ≡ kind_among (b ∷ rest) (starting b ss)
+by_first b rest [] = refl
+by_first b rest (s ∷ ss) = one_step (b ∷ rest) s (starting b ss) _ (begins_with b s.text) (other_first b rest s.text) (by_first b rest ss)
 
-pub keyword_by_first : (text : List ℕ) → 0 < length text → is_one_of text (with_first (get_or text 0 0) keywords) ≡ is_keyword text
+pub kind_by_first : (text : List ℕ) → 0 < length text → kind_among text (starting (get_or text 0 0) words) ≡ kind_among text words
+kind_by_first [] l = absurd (omega arith)
+kind_by_first (x ∷ xs) l = sym (by_first x xs words)
+
+pub no_kind : (text : List ℕ) → length text ≡ 0 → kind_among text words ≡ None
+unfolding words
+no_kind [] h = refl
+no_kind (x ∷ xs) h = absurd (omega arith)
+
+-- a text with a kind among the words is a keyword
+pub keyword_is : (text : List ℕ) (k : Kind) → kind_among text words ≡ Some k → is_keyword text ≡ true
 unfolding is_keyword
-keyword_by_first [] l = absurd (omega arith)
-keyword_by_first (x ∷ xs) l = sym (one_by_first x xs keywords)
+keyword_is text k h = ap is_some h
 
-pub keyword_none : (text : List ℕ) → length text ≡ 0 → is_keyword text ≡ false
-unfolding is_keyword keywords
-keyword_none [] h = refl
-keyword_none (x ∷ xs) h = absurd (omega arith)
+pub keyword_not : (text : List ℕ) → kind_among text words ≡ None → is_keyword text ≡ false
+unfolding is_keyword
+keyword_not text h = ap is_some h
 
 -- what stands
 
@@ -108,57 +121,55 @@ unfolding stands
 same_length text i xs ys e h k =
     pointwise_equal xs _ h ∙ (ap (λ n. take n (drop i text)) e ∙ sym (pointwise_equal ys _ k))
 
+same_eqb : (x y : ℕ) → eqb y x ≡ eqb x y
+same_eqb x y = elim (cases_Bool (eqb x y)) [
+  | inl e ↦ (let s = eqb-true x y e in subst (λ (q : ℕ). eqb q x ≡ eqb x q) s refl)
+  | inr e ↦ elim (cases_Bool (eqb y x)) [ inl f ↦ absurd (let s = eqb-true y x f in let g = subst (λ (q : ℕ). eqb x q ≡ false) s e in absurd (let r : eqb x x ≡ true = grind (arith, common_steps) in cc)) | inr f ↦ f ∙ sym e ]
+]
+
+-- one byte alone
+pub byte_stands : (text : List ℕ) (i : ℕ) (bytes : List ℕ) → i < length text → length bytes ≡ 1 → eqb (get_or text i 0) (get_or bytes 0 0) ≡ stands text i bytes
+unfolding stands
+byte_stands text i [] l h = absurd (omega arith)
+byte_stands text i (x ∷ []) l h = rw (drop-cons text i 0 l) (rw (same_eqb x (get_or text i 0)) (and_true (eqb x (get_or text i 0))))
+  where
+    and_true : (b : Bool) → b ≡ (b && true)
+    and_true true = refl
+    and_true false = refl
+byte_stands text i (x ∷ y ∷ more) l h = absurd (omega arith)
+
 -- operators
 
 other_standing : (text : List ℕ) (i : ℕ) (bytes : List ℕ) → i < length text → begins_with (get_or text i 0) bytes ≡ false → stands text i bytes ≡ false
 other_standing text i [] l h = absurd (cc)
 other_standing text i (x ∷ xs) l h = not_standing text i x xs l h
 
-standing_step : (text : List ℕ) (i : ℕ) (s : Spelled) (found : List Spelled) (more : Option Spelled) (t : Bool) → (t ≡ false → stands text i s.text ≡ false) →
+standing_step : (text : List ℕ) (i : ℕ) (s : Spelling) (found : List Spelling) (more : Option Spelling) (t : Bool) → (t ≡ false → stands text i s.text ≡ false) →
     first_standing text i found ≡ more → first_standing text i (cond t (s ∷ found) found) ≡ cond (stands text i s.text) (Some s) more
 standing_step text i s found more true k h = ap (λ r. cond (stands text i s.text) (Some s) r) h
 standing_step text i s found more false k h = rw (k refl) h
 
-pub standing_by_first : (text : List ℕ) (i : ℕ) (ss : List Spelled) → i < length text → first_standing text i (spelled_from (get_or text i 0) ss) ≡ first_standing text i ss
+pub standing_by_first : (text : List ℕ) (i : ℕ) (ss : List Spelling) → i < length text → first_standing text i (starting (get_or text i 0) ss) ≡ first_standing text i ss
 standing_by_first text i [] l = refl
 standing_by_first text i (s ∷ ss) l =
-    standing_step text i s (spelled_from (get_or text i 0) ss) _ (begins_with (get_or text i 0) s.text) (other_standing text i s.text l) (standing_by_first text i ss l)
+    standing_step text i s (starting (get_or text i 0) ss) _ (begins_with (get_or text i 0) s.text) (other_standing text i s.text l) (standing_by_first text i ss l)
 
-abbrev pub first_among : List ℕ → List ℕ → Bool
-first_among letters [] = false
-first_among letters (x ∷ xs) = among x letters
-
-abbrev pub spelled_in : List ℕ → List Spelled → Bool
-spelled_in letters [] = true
-spelled_in letters (s ∷ ss) = cond (first_among letters s.text) (spelled_in letters ss) false
-
-not_beginning : (b : ℕ) (letters bytes : List ℕ) → first_among letters bytes ≡ true → among b letters ≡ false → begins_with b bytes ≡ false
-not_beginning b letters [] h k = absurd (cc)
-not_beginning b letters (x ∷ xs) h k = among_left x b letters h k
-
--- no operator begins with a byte that is none of these
-pub none_spelled_from : (b : ℕ) (letters : List ℕ) (ss : List Spelled) → spelled_in letters ss ≡ true → among b letters ≡ false → spelled_from b ss ≡ []
-none_spelled_from b letters [] h k = refl
-none_spelled_from b letters (s ∷ ss) h k =
-    let p = cond_true (first_among letters s.text) (spelled_in letters ss) h in
-    rw (not_beginning b letters s.text p.0 k) (none_spelled_from b letters ss p.1 k)
-
-pub first_stands : (text : List ℕ) (i : ℕ) (s : Spelled) (ss : List Spelled) → first_standing text i ss ≡ Some s → stands text i s.text ≡ true
+pub first_stands : (text : List ℕ) (i : ℕ) (s : Spelling) (ss : List Spelling) → first_standing text i ss ≡ Some s → stands text i s.text ≡ true
 first_stands text i s [] h = absurd (cc)
 first_stands text i s (x ∷ ss) h = elim (cases_Bool (stands text i x.text)) [
   | inl e ↦ (let g = rw e at h in let same : x ≡ s = cc in subst (λ y. stands text i y.text ≡ true) same e)
   | inr e ↦ first_stands text i s ss (rw e at h)
 ]
 
-pub first_is_one : (text : List ℕ) (i : ℕ) (s : Spelled) (ss : List Spelled) → first_standing text i ss ≡ Some s → IsOneAt text i s.kind ss (i + length s.text)
+pub first_is_one : (text : List ℕ) (i : ℕ) (s : Spelling) (ss : List Spelling) → first_standing text i ss ≡ Some s → IsOneAt text i (sort_of s.kind) ss (i + length s.text)
 unfolding IsOneAt
 first_is_one text i s [] h = absurd (cc)
 first_is_one text i s (x ∷ ss) h = elim (cases_Bool (stands text i x.text)) [
-  | inl e ↦ (let g = rw e at h in let same : x ≡ s = cc in subst (λ y. IsOneAt text i y.kind (x ∷ ss) (i + length y.text)) same (inl (refl, e, refl)))
+  | inl e ↦ (let g = rw e at h in let same : x ≡ s = cc in subst (λ y. IsOneAt text i (sort_of y.kind) (x ∷ ss) (i + length y.text)) same (inl (refl, e, refl)))
   | inr e ↦ inr (first_is_one text i s ss (rw e at h))
 ]
 
-pub none_is_none : (text : List ℕ) (i : ℕ) (ss : List Spelled) → first_standing text i ss ≡ None → (k : TokenKind) (n : ℕ) → IsOneAt text i k ss n → ⊥
+pub none_is_none : (text : List ℕ) (i : ℕ) (ss : List Spelling) → first_standing text i ss ≡ None → (k : TokenKind) (n : ℕ) → IsOneAt text i k ss n → ⊥
 unfolding IsOneAt
 none_is_none text i [] h k n s = s
 none_is_none text i (x ∷ ss) h k n s = elim (cases_Bool (stands text i x.text)) [
@@ -170,14 +181,14 @@ none_is_none text i (x ∷ ss) h k n s = elim (cases_Bool (stands text i x.text)
 ]
 
 -- y is shorter than x, or of its length and another
-abbrev pub comes_behind : Spelled → Spelled → Bool
+abbrev pub comes_behind : Spelling → Spelling → Bool
 comes_behind x y = nat_lt (length y.text) (length x.text) || (eqb (length y.text) (length x.text) && not (pointwise eqb y.text x.text))
 
-abbrev pub all_behind : Spelled → List Spelled → Bool
+abbrev pub all_behind : Spelling → List Spelling → Bool
 all_behind x [] = true
 all_behind x (y ∷ ys) = comes_behind x y && all_behind x ys
 
-abbrev pub in_order : List Spelled → Bool
+abbrev pub in_order : List Spelling → Bool
 in_order [] = true
 in_order (x ∷ xs) = all_behind x xs && in_order xs
 
@@ -185,7 +196,7 @@ pointwise_same : (xs : List ℕ) → pointwise eqb xs xs ≡ true
 pointwise_same [] = refl
 pointwise_same (x ∷ xs) = let r : eqb x x ≡ true = grind (arith, common_steps) in rw r (pointwise_same xs)
 
-behind_shorter : (text : List ℕ) (i : ℕ) (x y : Spelled) → comes_behind x y ≡ true → stands text i x.text ≡ true → stands text i y.text ≡ true → length y.text < length x.text
+behind_shorter : (text : List ℕ) (i : ℕ) (x y : Spelling) → comes_behind x y ≡ true → stands text i x.text ≡ true → stands text i y.text ≡ true → length y.text < length x.text
 behind_shorter text i x y h s t = elim (or_cases (nat_lt (length y.text) (length x.text)) _ h) [
   | inl e ↦ ltb-true _ _ e
   | inr e ↦ absurd (let p = and_parts (eqb (length y.text) (length x.text)) _ e in
@@ -195,7 +206,7 @@ behind_shorter text i x y h s t = elim (or_cases (nat_lt (length y.text) (length
       let z = rw r at twice in cc)
 ]
 
-all_shorter : (text : List ℕ) (i : ℕ) (x : Spelled) (ys : List Spelled) → all_behind x ys ≡ true → stands text i x.text ≡ true → (k : TokenKind) (n : ℕ) → IsOneAt text i k ys n → n < i + length x.text
+all_shorter : (text : List ℕ) (i : ℕ) (x : Spelling) (ys : List Spelling) → all_behind x ys ≡ true → stands text i x.text ≡ true → (k : TokenKind) (n : ℕ) → IsOneAt text i k ys n → n < i + length x.text
 unfolding IsOneAt
 all_shorter text i x [] h s k n o = absurd o
 all_shorter text i x (y ∷ ys) h s k n o =
@@ -206,15 +217,15 @@ all_shorter text i x (y ∷ ys) h s k n o =
     ]
 
 -- the first that stands is the longest
-pub first_longest : (text : List ℕ) (i : ℕ) (s : Spelled) (ss : List Spelled) → in_order ss ≡ true → first_standing text i ss ≡ Some s →
-    (k : TokenKind) (n : ℕ) → IsOneAt text i k ss n → (n < i + length s.text) ⊎ ((n ≡ i + length s.text) × (k ≡ s.kind))
+pub first_longest : (text : List ℕ) (i : ℕ) (s : Spelling) (ss : List Spelling) → in_order ss ≡ true → first_standing text i ss ≡ Some s →
+    (k : TokenKind) (n : ℕ) → IsOneAt text i k ss n → (n < i + length s.text) ⊎ ((n ≡ i + length s.text) × (k ≡ sort_of s.kind))
 unfolding IsOneAt
 first_longest text i s [] o h k n m = absurd m
 first_longest text i s (x ∷ ss) o h k n m =
     let p = and_parts (all_behind x ss) (in_order ss) o in
     elim (cases_Bool (stands text i x.text)) [
       | inl e ↦ (let g = rw e at h in let same : x ≡ s = cc in
-          subst (λ y. (n < i + length y.text) ⊎ ((n ≡ i + length y.text) × (k ≡ y.kind))) same (elim m [
+          subst (λ y. (n < i + length y.text) ⊎ ((n ≡ i + length y.text) × (k ≡ sort_of y.kind))) same (elim m [
             | inl q ↦ inr (q.2, sym q.0)
             | inr q ↦ inl (all_shorter text i x ss p.0 e k n q)
           ]))
@@ -225,11 +236,11 @@ first_longest text i s (x ∷ ss) o h k n m =
     ]
 
 -- no text of the table is empty
-abbrev pub all_longer : List Spelled → Bool
+abbrev pub all_longer : List Spelling → Bool
 all_longer [] = true
 all_longer (s ∷ ss) = nat_lt 0 (length s.text) && all_longer ss
 
-first_longer : (text : List ℕ) (i : ℕ) (s : Spelled) (ss : List Spelled) → all_longer ss ≡ true → first_standing text i ss ≡ Some s → 0 < length s.text
+first_longer : (text : List ℕ) (i : ℕ) (s : Spelling) (ss : List Spelling) → all_longer ss ≡ true → first_standing text i ss ≡ Some s → 0 < length s.text
 first_longer text i s [] o h = absurd (cc)
 first_longer text i s (x ∷ ss) o h =
     let p = and_parts (nat_lt 0 (length x.text)) (all_longer ss) o in
@@ -246,27 +257,42 @@ operators_longer : all_longer operators ≡ true
 unfolding operators
 operators_longer = refl
 
-pub longest_operator : (text : List ℕ) (i : ℕ) (s : Spelled) → i < length text → first_standing text i operators ≡ Some s → IsLongestOperator text i s.kind (i + length s.text)
-longest_operator text i s l h = record {
-  spells = first_is_one text i s operators h;
-  longest = first_longest text i s operators operators_in_order h;
-  more = (let m = first_longer text i s operators operators_longer h in omega arith);
-  inside = stands_inside text i s.text (omega arith) (first_stands text i s operators h);
-}
+-- what the table says of the text of each of these
+abbrev pub AreKnown : List Spelling → List Spelling → Type 0
+AreKnown all [] = Unit {0}
+AreKnown all (s ∷ ss) = (kind_among s.text all ≡ Some s.kind) × AreKnown all ss
 
--- operators of one byte that no other begins with
-
-pub lone_from : (b : ℕ) → is_lone b ≡ true → spelled_from b operators ≡ has_it (b ∷ []) ∷ []
+operators_known : AreKnown operators operators
 unfolding operators
-lone_from b h = elim (or_cases _ (eqb b 36) h) [ inl k12 ↦ elim (or_cases _ (eqb b 63) k12) [ inl k11 ↦ elim (or_cases _ (eqb b 37) k11) [ inl k10 ↦ elim (or_cases _ (eqb b 47) k10) [ inl k9 ↦ elim (or_cases _ (eqb b 46) k9) [ inl k8 ↦ elim (or_cases _ (eqb b 59) k8) [ inl k7 ↦ elim (or_cases _ (eqb b 44) k7) [ inl k6 ↦ elim (or_cases _ (eqb b 125) k6) [ inl k5 ↦ elim (or_cases _ (eqb b 123) k5) [ inl k4 ↦ elim (or_cases _ (eqb b 93) k4) [ inl k3 ↦ elim (or_cases _ (eqb b 91) k3) [ inl k2 ↦ elim (or_cases _ (eqb b 41) k2) [ inl k1 ↦ subst (λ q. spelled_from q operators ≡ has_it (q ∷ []) ∷ []) (sym (eqb-true b 40 k1)) refl | inr e1 ↦ subst (λ q. spelled_from q operators ≡ has_it (q ∷ []) ∷ []) (sym (eqb-true b 41 e1)) refl ] | inr e2 ↦ subst (λ q. spelled_from q operators ≡ has_it (q ∷ []) ∷ []) (sym (eqb-true b 91 e2)) refl ] | inr e3 ↦ subst (λ q. spelled_from q operators ≡ has_it (q ∷ []) ∷ []) (sym (eqb-true b 93 e3)) refl ] | inr e4 ↦ subst (λ q. spelled_from q operators ≡ has_it (q ∷ []) ∷ []) (sym (eqb-true b 123 e4)) refl ] | inr e5 ↦ subst (λ q. spelled_from q operators ≡ has_it (q ∷ []) ∷ []) (sym (eqb-true b 125 e5)) refl ] | inr e6 ↦ subst (λ q. spelled_from q operators ≡ has_it (q ∷ []) ∷ []) (sym (eqb-true b 44 e6)) refl ] | inr e7 ↦ subst (λ q. spelled_from q operators ≡ has_it (q ∷ []) ∷ []) (sym (eqb-true b 59 e7)) refl ] | inr e8 ↦ subst (λ q. spelled_from q operators ≡ has_it (q ∷ []) ∷ []) (sym (eqb-true b 46 e8)) refl ] | inr e9 ↦ subst (λ q. spelled_from q operators ≡ has_it (q ∷ []) ∷ []) (sym (eqb-true b 47 e9)) refl ] | inr e10 ↦ subst (λ q. spelled_from q operators ≡ has_it (q ∷ []) ∷ []) (sym (eqb-true b 37 e10)) refl ] | inr e11 ↦ subst (λ q. spelled_from q operators ≡ has_it (q ∷ []) ∷ []) (sym (eqb-true b 63 e11)) refl ] | inr e12 ↦ subst (λ q. spelled_from q operators ≡ has_it (q ∷ []) ∷ []) (sym (eqb-true b 36 e12)) refl ]
+operators_known = (refl, (refl, (refl, (refl, (refl, (refl, (refl, (refl, (refl, (refl, (refl, (refl, (refl, (refl, (refl, (refl, (refl, (refl, (refl, (refl, (refl, (refl, (refl, (refl, (refl, (refl, (refl, (refl, (refl, (refl, (refl, (refl, (refl, (refl, (refl, (refl, (refl, (refl, (refl, (refl, (refl, (refl, (refl, (refl, (refl, (refl, (refl, (refl, (refl, (refl, (refl, (refl, (refl, tt)))))))))))))))))))))))))))))))))))))))))))))))))))))
 
-one_stands : (text : List ℕ) (i : ℕ) → i < length text → stands text i (get_or text i 0 ∷ []) ≡ true
+first_known : (text : List ℕ) (i : ℕ) (s : Spelling) (all ss : List Spelling) → AreKnown all ss → first_standing text i ss ≡ Some s → kind_among s.text all ≡ Some s.kind
+first_known text i s all [] k h = absurd (cc)
+first_known text i s all (x ∷ ss) k h = elim (cases_Bool (stands text i x.text)) [
+  | inl e ↦ (let g = rw e at h in let same : x ≡ s = cc in subst (λ (y : Spelling). kind_among y.text all ≡ Some y.kind) same k.0)
+  | inr e ↦ first_known text i s all ss k.1 (rw e at h)
+]
+
+-- what stands is spelled so
+stands_spelled : (text : List ℕ) (i : ℕ) (bytes : List ℕ) → stands text i bytes ≡ true → slice_range text i (i + length bytes) ≡ bytes
 unfolding stands
-one_stands text i l = subst (λ xs. starts_with nat_eq xs (get_or text i 0 ∷ []) ≡ true) (sym (drop-cons text i 0 l)) (let r : eqb (get_or text i 0) (get_or text i 0) ≡ true = grind (arith, common_steps) in rw r refl)
+stands_spelled text i bytes h =
+    let e : i + length bytes - i ≡ length bytes = omega arith in
+    rw e (sym (pointwise_equal bytes (take (length bytes) (drop i text)) h))
 
-pub lone_stands : (text : List ℕ) (i : ℕ) → i < length text → is_lone (get_or text i 0) ≡ true → IsLongestOperator text i Operator (i + 1)
-lone_stands text i l h =
-    let b = get_or text i 0 in
-    let s : stands text i (b ∷ []) ≡ true = one_stands text i l in
-    let f : first_standing text i (spelled_from b operators) ≡ Some (has_it (b ∷ [])) = ap (λ ss. first_standing text i ss) (lone_from b h) ∙ rw s refl in
-    longest_operator text i (has_it (b ∷ [])) l (sym (standing_by_first text i operators l) ∙ f)
+-- the kind of an operator's text is its own
+kind_by_sort : (text : List ℕ) (k : Kind) → kind_among text operators ≡ Some k → k ≡ kind_of text (sort_of k)
+kind_by_sort text NotSupported h = refl
+kind_by_sort text k h = ap or_other (sym h)
+
+pub longest_operator : (text : List ℕ) (i : ℕ) (s : Spelling) → i < length text → first_standing text i operators ≡ Some s → IsOperator text i s.kind (i + length s.text)
+longest_operator text i s l h = record {
+  longest = record {
+    spells = first_is_one text i s operators h;
+    longest = first_longest text i s operators operators_in_order h;
+    more = (let m = first_longer text i s operators operators_longer h in omega arith);
+    inside = stands_inside text i s.text (omega arith) (first_stands text i s operators h);
+  };
+  spelled = subst (λ (w : List ℕ). s.kind ≡ kind_of w (sort_of s.kind)) (sym (stands_spelled text i s.text (first_stands text i s operators h)))
+      (kind_by_sort s.text s.kind (first_known text i s operators operators operators_known h));
+}

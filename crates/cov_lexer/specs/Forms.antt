@@ -4,8 +4,8 @@ use Rattle.cov_lexer.specs.declared.bytes.Base.{Base}
 use Rattle.cov_lexer.specs.declared.token.TokenKind.{TokenKind}
 use Rattle.cov_lexer.specs.declared.token.TokenKind.TheVariants.{Ident, Keyword, System, Decimal, Based, Text, Operator, NotSupported}
 use Rattle.cov_lexer.specs.Bytes.{is_letter, is_digit, is_word, is_number, is_space, is_blank, is_in_line, is_inside, is_quote, is_dollar, is_slash, is_apostrophe, is_sign, is_base, is_base_digit, is_base_more}
-use Rattle.cov_lexer.specs.Words.{is_keyword}
-use Rattle.cov_lexer.specs.Operators.{operators, stands, IsOneAt}
+use Rattle.cov_lexer.specs.Spellings.{operators, is_keyword}
+use Rattle.cov_lexer.specs.Operators.{stands, IsOneAt}
 
 -- a part of a form: one byte that passes the test, at most one, or any number of them
 pub data Part : Type 0 where

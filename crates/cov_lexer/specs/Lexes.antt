@@ -5,6 +5,8 @@ use Rattle.cov_lexer.specs.declared.token.TokenKind.TheVariants.{Ident, Keyword,
 use Rattle.cov_lexer.specs.declared.token.Token.{Token}
 use Rattle.cov_lexer.specs.declared.token.LexFault.{LexFault}
 use Rattle.cov_lexer.specs.declared.token.LexFault.TheVariants.{BadByte, OpenComment, OpenString, LiteralTooWide, NameTooLong, Memory}
+use Rattle.cov_lexer.specs.declared.kind.Kind.{Kind}
+use Rattle.cov_lexer.specs.Spellings.{kind_of}
 use Rattle.cov_lexer.specs.Operators.{stands}
 use Rattle.cov_lexer.specs.Forms.{Piece, Separator, Item, Spells, IsPiece}
 use Rattle.cov_lexer.specs.Literals.{literal_of}
@@ -33,13 +35,17 @@ pub record IsToken (text : List ℕ) (i : ℕ) (k : TokenKind) (j : ℕ) : Type 
   pub no_comment : opens_comment text i ≡ false
   pub within : IsWithin text i k j
 
+-- the kind is what the bytes from i up to j spell as such a token
+abbrev pub IsSpelled : List ℕ → ℕ → TokenKind → ℕ → Kind → Type 0
+IsSpelled text i k j spelled = spelled ≡ kind_of (slice_range text i j) k
+
 -- so many separators and these tokens cover the text from i up to j; n is the end of the first
 abbrev pub Covers : List ℕ → ℕ → ℕ → List Token → ℕ → Type 0
 Covers text zero i ts j = (ts ≡ []) × (i ≡ j)
 Covers text (suc c) i ts j =
     (n : ℕ) × (i < n) × (n ≤ length text)
     × ((IsPiece text i Separator n × Covers text c n ts j)
-    ⊎ ((t : Token) × (rest : List Token) × (ts ≡ t ∷ rest) × (t.«at» ≡ i) × (i + t.len ≡ n) × IsToken text i t.kind n × Covers text c n rest j))
+    ⊎ ((t : Token) × (rest : List Token) × (ts ≡ t ∷ rest) × (t.«at» ≡ i) × (i + t.len ≡ n) × IsToken text i t.kind n × IsSpelled text i t.kind n t.spelled × Covers text c n rest j))
 
 -- these are the tokens of the text
 abbrev pub Lexes : List ℕ → List Token → Type 0
@@ -82,3 +88,8 @@ Ascend i (t ∷ ts) n = (i ≤ t.«at») × (0 < t.len) × Ascend (t.«at» + t.
 abbrev pub AllWithin : List ℕ → List Token → Type 0
 AllWithin text [] = Unit {0}
 AllWithin text (t ∷ ts) = IsWithin text t.«at» t.kind (t.«at» + t.len) × AllWithin text ts
+
+-- each token keeps what it spells
+abbrev pub AllSpelled : List ℕ → List Token → Type 0
+AllSpelled text [] = Unit {0}
+AllSpelled text (t ∷ ts) = IsSpelled text t.«at» t.kind (t.«at» + t.len) t.spelled × AllSpelled text ts

@@ -1,5 +1,6 @@
 pub mod Bytes
-pub mod Words
+pub mod Kinds
+pub mod Spellings
 pub mod Operators
 pub mod Forms
 pub mod Literals

@@ -1,14 +1,17 @@
 -- What the lexer's own functions find.
 use Rattle.std.specs.Prelude.{◌≡◌, ℕ, ◌+◌, ◌<◌, ◌≤◌, List, Bool, true, false, codes, ◌⊎◌, length, slice_index, Option, None, Some, Result, Ok, Err}
+use Rattle.std.specs.Borrow.{Bor}
 use Rattle.cov_lexer.specs.declared.bytes.Base.{Base}
-use Rattle.cov_lexer.specs.declared.operators.Spelling.{Spelling}
+use Rattle.cov_lexer.specs.declared.kind.Kind.{Kind}
 use Rattle.cov_lexer.specs.declared.pieces.Found.{Found}
+use Rattle.cov_lexer.specs.declared.pieces.Sort.{Sort}
 use Rattle.cov_lexer.specs.declared.token.TokenKind.{TokenKind}
 use Rattle.cov_lexer.specs.declared.token.TokenKind.TheVariants.{Operator, NotSupported}
 use Rattle.cov_lexer.specs.declared.token.LexFault.{LexFault}
-use Rattle.cov_lexer.specs.Operators.{Spelled, operators, stands, IsOneAt}
+use Rattle.cov_lexer.specs.Spellings.{Spelling, operators}
+use Rattle.cov_lexer.specs.Operators.{sort_of, stands, IsOneAt}
 use Rattle.cov_lexer.specs.Forms.{AllPass, Part, Fits, Piece, Separator, Item, Spells, IsPiece}
-use Rattle.cov_lexer.specs.Lexes.{IsToken, IsFaultAt, place, opens_comment}
+use Rattle.cov_lexer.specs.Lexes.{IsToken, IsSpelled, IsFaultAt, place, opens_comment}
 
 -- the bytes from i up to j pass the test, and the one at j doesn't
 pub record Runs (p : ℕ → Bool) (text : List ℕ) (i : ℕ) (j : ℕ) : Type 0 where
@@ -17,8 +20,9 @@ pub record Runs (p : ℕ → Bool) (text : List ℕ) (i : ℕ) (j : ℕ) : Type 
   pub all : AllPass p text i j
   pub stops : j < length text → p (slice_index text j) ≡ false
 
-abbrev pub seen : Spelling → Spelled
-seen s = record { text = s.text.now; kind = s.kind }
+-- an entry of the code's table
+abbrev pub seen : Bor (List ℕ) × Kind → Spelling
+seen e = record { text = e.0.now; kind = e.1 }
 
 pub record IsLongestOperator (text : List ℕ) (i : ℕ) (k : TokenKind) (j : ℕ) : Type 0 where
   pub spells : IsOneAt text i k operators j
@@ -26,9 +30,14 @@ pub record IsLongestOperator (text : List ℕ) (i : ℕ) (k : TokenKind) (j : �
   pub more : i < j
   pub inside : j ≤ length text
 
-abbrev pub OperatorAt : List ℕ → ℕ → Option (TokenKind × ℕ) → Type 0
+-- the longest operator at i, and its kind
+pub record IsOperator (text : List ℕ) (i : ℕ) (kind : Kind) (j : ℕ) : Type 0 where
+  pub longest : IsLongestOperator text i (sort_of kind) j
+  pub spelled : IsSpelled text i (sort_of kind) j kind
+
+abbrev pub OperatorAt : List ℕ → ℕ → Option (Kind × ℕ) → Type 0
 OperatorAt text i None = (k : TokenKind) (n : ℕ) → IsOneAt text i k operators n → ⊥
-OperatorAt text i (Some x) = IsLongestOperator text i x.0 x.1
+OperatorAt text i (Some x) = IsOperator text i x.0 x.1
 
 -- what fits a form of one of the bases, and is the longest that does
 pub record IsLongestOf (form : Base → List Part) (text : List ℕ) (i : ℕ) (j : ℕ) : Type 0 where
@@ -53,18 +62,18 @@ abbrev pub ClosesAt : List ℕ → ℕ → Option ℕ → Type 0
 ClosesAt text i None = (q : ℕ) → i ≤ q → stands text q (codes "*/") ≡ false
 ClosesAt text i (Some close) = IsClose text i close
 
-abbrev pub MayStand : List ℕ → ℕ → Option TokenKind → ℕ → Type 0
+abbrev pub MayStand : List ℕ → ℕ → Option Sort → ℕ → Type 0
 MayStand text i None j = IsPiece text i Separator j
-MayStand text i (Some k) j = IsToken text i k j
+MayStand text i (Some s) j = IsToken text i s.kind j × IsSpelled text i s.kind j s.spelled
 
-pub record Gives (text : List ℕ) (i : ℕ) (kind : Option TokenKind) (j : ℕ) : Type 0 where
-  pub stands : MayStand text i kind j
+pub record Gives (text : List ℕ) (i : ℕ) (sort : Option Sort) (j : ℕ) : Type 0 where
+  pub stands : MayStand text i sort j
   pub more : i < j
   pub inside : j ≤ length text
 
 -- the piece that begins at i, or the fault there
 abbrev pub Finds : List ℕ → ℕ → Result Found LexFault → Type 0
-Finds text i (Ok x) = Gives text i x.kind x.«end»
+Finds text i (Ok x) = Gives text i x.sort x.«end»
 Finds text i (Err f) = IsFaultAt text f × (place f ≡ i)
 
 -- no piece but an operator begins at i, and no comment that has no end

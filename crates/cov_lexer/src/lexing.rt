@@ -28,9 +28,10 @@ pub fn lex(alloc: Global, text: &[u8]) -> Result<Vec<Token>, LexFault>
     let mut at = 0;
     while at < text.len() {
         let found = piece_at(text, at)?;
-        if let Some(kind) = found.kind {
+        if let Some(sort) = found.sort {
             tokens.push(Token {
-                kind,
+                kind: sort.kind,
+                spelled: sort.spelled,
                 at: at as u32,
                 len: (found.end - at) as u32,
             })?;

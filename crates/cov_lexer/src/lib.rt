@@ -4,14 +4,16 @@
 #![tactic(auto)]
 
 mod bytes;
+mod kind;
 mod lexing;
 mod literals;
 mod operators;
 mod pieces;
 mod runs;
+mod spellings;
 mod token;
-mod words;
 
+pub use kind::Kind;
 pub use lexing::lex;
 pub use literals::literal;
 pub use token::{LexFault, Token, TokenKind};

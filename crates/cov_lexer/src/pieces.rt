@@ -7,36 +7,44 @@ ghost use Rattle.cov_lexer.specs.Lexes.{opens_comment};
 ghost use Rattle.cov_lexer.specs.Reading.{Finds, EndsOf, ClosesAt, OnlyOperators};
 
 use crate::bytes::{Base, Class, is_blank, is_digit, is_letter, is_sign};
+use crate::kind::Kind;
 use crate::literals::literal;
-use crate::operators::{is_lone, operator_at};
+use crate::operators::{operator_at, sort_of};
 use crate::runs::{byte_at, run_end, stands};
+use crate::spellings::keyword;
 use crate::token::{LexFault, TokenKind};
-use crate::words::is_keyword;
 
 /// The greatest number of bytes of a name.
 const NAME_LIMIT: usize = 1024;
 
+/// What a token is, and what it spells.
+#[derive(Clone, Copy)]
+pub(crate) struct Sort {
+    pub(crate) kind: TokenKind,
+    pub(crate) spelled: Kind,
+}
+
 /// A piece of a text.
 #[derive(Clone, Copy)]
 pub(crate) struct Found {
-    /// The token's kind; none for a blank or a comment.
-    pub(crate) kind: Option<TokenKind>,
+    /// What the token is; none for a blank or a comment.
+    pub(crate) sort: Option<Sort>,
     /// Where it ends.
     pub(crate) end: usize,
 }
 
 impl Found {
     fn separator(end: usize) -> Found
-        ensures { result ≡ record { kind = None; «end» = end } }
+        ensures { result ≡ record { sort = None; «end» = end } }
     {
-        Found { kind: None, end }
+        Found { sort: None, end }
     }
 
-    fn token(kind: TokenKind, end: usize) -> Found
-        ensures { result ≡ record { kind = Some kind; «end» = end } }
+    fn token(kind: TokenKind, spelled: Kind, end: usize) -> Found
+        ensures { result ≡ record { sort = Some (record { kind = kind; spelled = spelled }); «end» = end } }
     {
         Found {
-            kind: Some(kind),
+            sort: Some(Sort { kind, spelled }),
             end,
         }
     }
@@ -63,7 +71,6 @@ pub(crate) fn piece_at(text: &[u8], at: usize) -> Result<Found, LexFault>
         b'$' => system_at(text, at),
         b'\'' => apostrophe_at(text, at),
         b'/' => slash_at(text, at),
-        _ if is_lone(byte) => Ok(Found::token(TokenKind::Operator, at + 1)),
         _ => operator_only(text, at),
     }
 }
@@ -76,13 +83,13 @@ fn name_at(text: &[u8], at: usize) -> Result<Found, LexFault>
     ensures { Finds text.now at result }
 {
     let end = run_end(text, at + 1, Class::Word);
-    if is_keyword(&text[at..end]) {
-        return Ok(Found::token(TokenKind::Keyword, end));
+    if let Some(spelled) = keyword(&text[at..end]) {
+        return Ok(Found::token(TokenKind::Keyword, spelled, end));
     }
     if end - at > NAME_LIMIT {
         return Err(LexFault::NameTooLong { at: at as u32 });
     }
-    Ok(Found::token(TokenKind::Ident, end))
+    Ok(Found::token(TokenKind::Ident, Kind::Ident, end))
 }
 
 /// A number that begins with a digit.
@@ -111,7 +118,7 @@ fn literal_token(text: &[u8], at: usize, end: usize, kind: TokenKind) -> Result<
     ensures { Finds text.now at result }
 {
     match literal(&text[at..end]) {
-        Some(_) => Ok(Found::token(kind, end)),
+        Some(_) => Ok(Found::token(kind, Kind::Numeral, end)),
         None => Err(LexFault::LiteralTooWide { at: at as u32 }),
     }
 }
@@ -157,7 +164,7 @@ fn string_at(text: &[u8], at: usize) -> Result<Found, LexFault>
     if byte_at(text, end) != b'"' {
         return Err(LexFault::OpenString { at: at as u32 });
     }
-    Ok(Found::token(TokenKind::Text, end + 1))
+    Ok(Found::token(TokenKind::Text, Kind::Quoted, end + 1))
 }
 
 /// A system name, or a dollar sign alone.
@@ -171,7 +178,7 @@ fn system_at(text: &[u8], at: usize) -> Result<Found, LexFault>
     if end == at + 1 {
         return operator_only(text, at);
     }
-    Ok(Found::token(TokenKind::System, end))
+    Ok(Found::token(TokenKind::System, Kind::System, end))
 }
 
 /// A based literal with no size, or an apostrophe alone.
@@ -230,7 +237,7 @@ fn operator_only(text: &[u8], at: usize) -> Result<Found, LexFault>
     ensures { Finds text.now at result }
 {
     match operator_at(text, at) {
-        Some((kind, end)) => Ok(Found::token(kind, end)),
+        Some((spelled, end)) => Ok(Found::token(sort_of(spelled), spelled, end)),
         None => Err(LexFault::BadByte { at: at as u32 }),
     }
 }

@@ -2,6 +2,7 @@
 ghost use Rattle.std.specs.Prelude.{◌≡◌};
 ghost use Rattle.cov_lexer.specs.declared.token.LexFault.TheVariants.{Memory};
 
+use crate::kind::Kind;
 use std::alloc::{AllocError, AllocFailed};
 use thiserror::Error;
 
@@ -31,6 +32,8 @@ pub enum TokenKind {
 pub struct Token {
     /// What it is.
     pub kind: TokenKind,
+    /// Which word or operator it is, or what else, as a grammar tells tokens apart. Each `[` is an `OpenSquare`.
+    pub spelled: Kind,
     /// Where it begins, in bytes from the beginning of the text.
     pub at: u32,
     /// How many bytes it has, 1 at least.

@@ -5,14 +5,14 @@ use Rattle.cov_tree.specs.declared.groups.Member.{Member}
 use Rattle.cov_tree.specs.declared.groups.Formal.{Formal}
 use Rattle.cov_tree.specs.declared.groups.EdgeText.{EdgeText}
 use Rattle.cov_tree.specs.declared.declarations.TypeText.{TypeText}
-use Rattle.cov_grammar.specs.declared.kind.Kind.{Kind}
-use Rattle.cov_grammar.specs.declared.kind.Kind.TheVariants.{Ident, CovergroupWord, EndgroupWord, CoverpointWord, CrossWord, WithWord, OtherWord, InputWord, OrWord, OpenParen, CloseParen, Comma, Semi, Colon, AtSign, Assign}
-use Rattle.cov_grammar.specs.declared.kind.Marked.{Marked}
+use Rattle.cov_lexer.specs.declared.kind.Kind.{Kind}
+use Rattle.cov_lexer.specs.declared.kind.Kind.TheVariants.{Ident, CovergroupWord, EndgroupWord, CoverpointWord, CrossWord, WithWord, OtherWord, InputWord, OrWord, OpenParen, CloseParen, Comma, Semi, Colon, AtSign, Assign}
+use Rattle.cov_grammar.specs.declared.marked.Marked.{Marked}
 use Rattle.cov_grammar.specs.declared.place.Place.{Place}
 use Rattle.cov_grammar.specs.declared.place.Room.{Room}
 use Rattle.cov_grammar.specs.declared.place.Stop.{Stop}
 use Rattle.cov_grammar.specs.declared.place.Stop.TheVariants.{Memory, Syntax, TooDeep}
-use Rattle.cov_grammar.specs.Kinds.{code, has, has_code}
+use Rattle.cov_lexer.specs.Kinds.{code, has, has_code}
 use Rattle.cov_grammar.specs.Rule.{Rule, In, one, word, same_word, here, offset, both, bind, either, give, many, map_to, fold, ahead, behind, maybe}
 use Rattle.cov_grammar.specs.Parses.{Reads, Stops, Fails, Parses}
 use Rattle.std.specs.Prelude.{IfOk, IfErr}

@@ -6,9 +6,9 @@ use Rattle.std.proofs.lemmas.List.{map-append, take_more}
 use Rattle.cov_tree.specs.declared.expr.Expr.{Expr}
 use Rattle.cov_tree.specs.declared.declarations.TypeText.{TypeText}
 use Rattle.cov_tree.specs.declared.declarations.Decl.{Decl}
-use Rattle.cov_grammar.specs.declared.kind.Kind.{Kind}
-use Rattle.cov_grammar.specs.declared.kind.Kind.TheVariants.{Ident, TypedefWord, EnumWord, CovergroupWord, NewWord, OpenParen, CloseParen, OpenBrace, CloseBrace, Comma, Semi, Assign}
-use Rattle.cov_grammar.specs.declared.kind.Marked.{Marked}
+use Rattle.cov_lexer.specs.declared.kind.Kind.{Kind}
+use Rattle.cov_lexer.specs.declared.kind.Kind.TheVariants.{Ident, TypedefWord, EnumWord, CovergroupWord, NewWord, OpenParen, CloseParen, OpenBrace, CloseBrace, Comma, Semi, Assign}
+use Rattle.cov_grammar.specs.declared.marked.Marked.{Marked}
 use Rattle.cov_grammar.specs.declared.place.Place.{Place}
 use Rattle.cov_grammar.specs.declared.place.Room.{Room}
 use Rattle.cov_grammar.specs.declared.place.Stop.{Stop}

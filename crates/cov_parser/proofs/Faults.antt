@@ -1,8 +1,10 @@
 -- The one fault of a text, from what stopped its reading.
-use Rattle.std.proofs.Common.{◌≡◌, ◌≢◌, ℕ, List, Bool, true, false, cond, refl, sym, ◌∙◌, ap, subst}
+use Rattle.std.proofs.Common.{◌≡◌, ◌≢◌, ℕ, List, Bool, true, false, cond, length, refl, sym, ◌∙◌, ap, subst}
 use Rattle.cov_tree.specs.declared.declarations.Decl.{Decl}
 use Rattle.cov_lexer.specs.declared.token.Token.{Token}
-use Rattle.cov_grammar.specs.declared.kind.Marked.{Marked}
+use Rattle.cov_lexer.specs.Lexes.{Lexes, AllSpelled}
+use Rattle.cov_lexer.proofs.Covering.{covers_spelled}
+use Rattle.cov_grammar.specs.declared.marked.Marked.{Marked}
 use Rattle.cov_grammar.specs.declared.place.Stop.{Stop}
 use Rattle.cov_grammar.specs.declared.place.Stop.TheVariants as stop
 use Rattle.cov_grammar.specs.Marking.{marked}
@@ -12,6 +14,9 @@ use Rattle.cov_parser.specs.declared.fault.ParseFault.{ParseFault}
 use Rattle.cov_parser.specs.declared.fault.ParseFault.TheVariants.{Syntax, NotSupported, TooDeep, Memory}
 use Rattle.cov_parser.specs.Parse.{place_of, IsFault}
 use Rattle.cov_parser.specs.Told.{told}
+
+pub lexed_spelled : (text : List ℕ) (tokens : List Token) → Lexes text tokens → AllSpelled text tokens
+lexed_spelled text tokens h = covers_spelled text h.0 0 tokens (length text) h.1
 
 module _ (text : List ℕ) (tokens : List Token) where
   abbrev ts : List Marked

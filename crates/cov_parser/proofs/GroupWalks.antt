@@ -5,14 +5,14 @@ use Rattle.cov_tree.specs.declared.bins.OptDecl.{OptDecl}
 use Rattle.cov_tree.specs.declared.bins.BinsDecl.{BinsDecl}
 use Rattle.cov_tree.specs.declared.groups.Sel.{Sel}
 use Rattle.cov_tree.specs.declared.groups.CrossBins.{CrossBins}
-use Rattle.cov_grammar.specs.declared.kind.Kind.{Kind}
-use Rattle.cov_grammar.specs.declared.kind.Kind.TheVariants.{CoverpointWord, CrossWord, OpenBrace, CloseBrace, Comma, Semi, Assign}
-use Rattle.cov_grammar.specs.declared.kind.Marked.{Marked}
+use Rattle.cov_lexer.specs.declared.kind.Kind.{Kind}
+use Rattle.cov_lexer.specs.declared.kind.Kind.TheVariants.{CoverpointWord, CrossWord, OpenBrace, CloseBrace, Comma, Semi, Assign}
+use Rattle.cov_grammar.specs.declared.marked.Marked.{Marked}
 use Rattle.cov_grammar.specs.declared.place.Place.{Place}
 use Rattle.cov_grammar.specs.declared.place.Room.{Room}
 use Rattle.cov_grammar.specs.declared.place.Stop.{Stop}
 use Rattle.cov_grammar.specs.declared.place.Stop.TheVariants.{Memory, Syntax, TooDeep}
-use Rattle.cov_grammar.specs.Kinds.{has}
+use Rattle.cov_lexer.specs.Kinds.{has}
 use Rattle.cov_grammar.specs.Rule.{Rule, In, one, word, both, either, many, map_to, ahead, behind, maybe}
 use Rattle.cov_grammar.specs.Parses.{Reads, Stops, Fails}
 use Rattle.cov_grammar.specs.Expressions.{pair, snoc, expr}

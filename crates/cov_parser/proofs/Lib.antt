@@ -1,4 +1,3 @@
-mod SpellingTables
 pub mod Walks
 pub mod Operating
 pub mod ExprWalks
@@ -11,3 +10,4 @@ pub mod DesignWalks
 pub mod CovergroupWalks
 pub mod DeclWalks
 pub mod Faults
+pub mod Keeping

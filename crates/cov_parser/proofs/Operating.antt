@@ -1,10 +1,10 @@
 -- Kinds that may be operators of an expression.
 use Rattle.std.proofs.Common.{◌≡◌, ℕ, zero, suc, List, [], ◌∷◌, Bool, true, false, ◌&&◌, ◌||◌, ◌<◌, inl, inr, not, nat_le, eqb, refl, sym, subst, ◌∙◌, ap, arith, Option, Some, None}
 use Rattle.std.proofs.lemmas.Bool.{cases_Bool, eqb-true, eqb-false, and_parts, or_cases}
-use Rattle.cov_grammar.specs.declared.kind.Kind.{Kind}
-use Rattle.cov_grammar.specs.declared.kind.Kind.TheVariants.{Ident, PlusSign, SignedRight}
-use Rattle.cov_grammar.specs.declared.kind.Marked.{Marked}
-use Rattle.cov_grammar.specs.Kinds.{code, has, has_code}
+use Rattle.cov_lexer.specs.declared.kind.Kind.{Kind}
+use Rattle.cov_lexer.specs.declared.kind.Kind.TheVariants.{Ident, PlusSign, SignedRight}
+use Rattle.cov_grammar.specs.declared.marked.Marked.{Marked}
+use Rattle.cov_lexer.specs.Kinds.{code, has, has_code}
 use Rattle.cov_grammar.specs.Rule.{In}
 use Rattle.cov_grammar.specs.Operators.{unary_kinds, level_kinds}
 use Rattle.cov_parser.specs.Operating.{operates, all_operate, AllOperate, KindAt, level_of}

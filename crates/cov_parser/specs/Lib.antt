@@ -1,4 +1,3 @@
-pub mod Spelled
 pub mod Parse
 pub mod Told
 pub mod Operating

@@ -1,9 +1,9 @@
 -- The kinds that may be operators of an expression.
 use Rattle.std.specs.Prelude.{◌≡◌, ℕ, List, [], ◌∷◌, Bool, true, ◌&&◌, nat_le, slice_get, Option, Some, None}
-use Rattle.cov_grammar.specs.declared.kind.Kind.{Kind}
-use Rattle.cov_grammar.specs.declared.kind.Kind.TheVariants.{PlusSign, Minus, Star, Slash, Percent, Ampersand, AndAnd, Bar, OrOr, Caret, Less, LessEqual, Greater, GreaterEqual, EqualEqual, NotEqual, ShiftLeft, ShiftRight, SignedLeft, SignedRight}
-use Rattle.cov_grammar.specs.declared.kind.Marked.{Marked}
-use Rattle.cov_grammar.specs.Kinds.{code}
+use Rattle.cov_lexer.specs.declared.kind.Kind.{Kind}
+use Rattle.cov_lexer.specs.declared.kind.Kind.TheVariants.{PlusSign, Minus, Star, Slash, Percent, Ampersand, AndAnd, Bar, OrOr, Caret, Less, LessEqual, Greater, GreaterEqual, EqualEqual, NotEqual, ShiftLeft, ShiftRight, SignedLeft, SignedRight}
+use Rattle.cov_grammar.specs.declared.marked.Marked.{Marked}
+use Rattle.cov_lexer.specs.Kinds.{code}
 
 -- they stand side by side
 abbrev pub operates : Kind → Bool

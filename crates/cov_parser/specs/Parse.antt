@@ -1,7 +1,7 @@
 -- Why tokens have no syntax tree.
 use Rattle.std.specs.Prelude.{◌≡◌, ℕ, List, Option, Some, None, length, true, false, slice_get}
 use Rattle.cov_lexer.specs.declared.token.Token.{Token}
-use Rattle.cov_grammar.specs.declared.kind.Marked.{Marked}
+use Rattle.cov_grammar.specs.declared.marked.Marked.{Marked}
 use Rattle.cov_grammar.specs.Marking.{marked}
 use Rattle.cov_grammar.specs.Fault.{IsSyntaxFault, IsTooDeepAt, is_foreign, limits}
 use Rattle.cov_parser.specs.declared.fault.ParseFault.{ParseFault}

@@ -14,9 +14,9 @@ use Rattle.cov_tree.specs.declared.groups.CrossBins.{CrossBins}
 use Rattle.cov_tree.specs.declared.groups.Formal.{Formal}
 use Rattle.cov_tree.specs.declared.groups.EdgeText.{EdgeText}
 use Rattle.cov_tree.specs.declared.declarations.TypeText.{TypeText}
-use Rattle.cov_grammar.specs.declared.kind.Kind.{Kind}
-use Rattle.cov_grammar.specs.declared.kind.Kind.TheVariants.{Ident, OpenParen, CloseParen, OpenBrace, CloseBrace, Comma, Semi, Colon, Dot, FatArrow, WildcardWord, SequenceWord, IntersectWord, InputWord, RefWord, OtherWord, OrWord, PosedgeWord, NegedgeWord, EdgeWord}
-use Rattle.cov_grammar.specs.declared.kind.Marked.{Marked}
+use Rattle.cov_lexer.specs.declared.kind.Kind.{Kind}
+use Rattle.cov_lexer.specs.declared.kind.Kind.TheVariants.{Ident, OpenParen, CloseParen, OpenBrace, CloseBrace, Comma, Semi, Colon, Dot, FatArrow, WildcardWord, SequenceWord, IntersectWord, InputWord, RefWord, OtherWord, OrWord, PosedgeWord, NegedgeWord, EdgeWord}
+use Rattle.cov_grammar.specs.declared.marked.Marked.{Marked}
 use Rattle.cov_grammar.specs.declared.place.Room.{Room}
 use Rattle.cov_grammar.specs.declared.place.Standing.{Standing}
 use Rattle.cov_grammar.specs.declared.place.Standing.TheVariants.{Plain}

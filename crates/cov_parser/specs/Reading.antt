@@ -1,6 +1,6 @@
 -- A reader's text and tokens in the rules of the grammar.
 use Rattle.std.specs.Prelude.{ℕ, List, Option, Result}
-use Rattle.cov_grammar.specs.declared.kind.Marked.{Marked}
+use Rattle.cov_grammar.specs.declared.marked.Marked.{Marked}
 use Rattle.cov_grammar.specs.declared.place.Place.{Place}
 use Rattle.cov_grammar.specs.declared.place.Room.{Room}
 use Rattle.cov_grammar.specs.declared.place.Stop.{Stop}

@@ -1,6 +1,6 @@
 -- What a fault tells of where a reading stopped.
 use Rattle.std.specs.Prelude.{ℕ, List, cond}
-use Rattle.cov_grammar.specs.declared.kind.Marked.{Marked}
+use Rattle.cov_grammar.specs.declared.marked.Marked.{Marked}
 use Rattle.cov_grammar.specs.declared.place.Stop.{Stop}
 use Rattle.cov_grammar.specs.declared.place.Stop.TheVariants as stop
 use Rattle.cov_grammar.specs.Fault.{is_foreign}

@@ -1,6 +1,6 @@
 //! Covergroups (IEEE 1800-2017, 19.3 and 19.8.1).
 ghost use Rattle.std.specs.Prelude.{◌≡◌, List, [], ◌∷◌, ◌++◌, IfOk, IfErr};
-ghost use Rattle.cov_grammar.specs.declared.kind.Kind.TheVariants.{Ident, CoverpointWord, CrossWord, OptionWord, TypeOptionWord};
+ghost use Rattle.cov_lexer.specs.declared.kind.Kind.TheVariants.{Ident, CoverpointWord, CrossWord, OptionWord, TypeOptionWord};
 ghost use Rattle.cov_grammar.specs.Rule.{In, same_word};
 ghost use Rattle.cov_grammar.specs.Parses.{Reads, Fails, Parses};
 ghost use Rattle.cov_grammar.specs.Expressions.{spelled};

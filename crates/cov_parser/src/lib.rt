@@ -18,7 +18,6 @@ mod points;
 mod ranges;
 mod reader;
 mod selections;
-mod spellings;
 mod steps;
 mod types;
 

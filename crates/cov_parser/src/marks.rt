@@ -1,28 +1,24 @@
 //! The tokens of a text with their kinds.
-ghost use Rattle.std.specs.Prelude.{◌≡◌, IfOk};
-ghost use Rattle.cov_grammar.specs.Marking.{alone, next_begins, with_neighbours, marked};
+ghost use Rattle.std.specs.Prelude.{◌≡◌, ℕ, List, IfOk};
+ghost use Rattle.cov_lexer.specs.Lexes.{AllSpelled};
+ghost use Rattle.cov_grammar.specs.Marking.{next_begins, with_neighbours, marked};
 
-use crate::reader::piece;
-use crate::spellings::kind_spelled;
 use cov_grammar::{Kind, Marked};
-use cov_lexer::{Token, TokenKind};
+use cov_lexer::Token;
 use std::alloc::{AllocFailed, Global};
 
 /// The tokens with their kinds. It takes the time of one pass.
-pub(crate) fn marks(
-    alloc: Global,
-    text: &[u8],
-    tokens: &[Token],
-) -> Result<Vec<Marked>, AllocFailed<Marked>>
-    ensures { IfOk result (λ found. found.items ≡ marked text.now tokens.now) }
+pub(crate) fn marks(alloc: Global, tokens: &[Token]) -> Result<Vec<Marked>, AllocFailed<Marked>>
+    ensures { (text : List ℕ) → AllSpelled text tokens.now →
+        IfOk result (λ found. found.items ≡ marked text tokens.now) }
 {
     let mut found = Vec::new(alloc);
     let mut named = false;
     let mut rest = tokens;
     while let Some((token, later)) = rest.split_first() {
-        let kind = alone(text, *token);
+        let kind = token.spelled;
         found.push(Marked {
-            kind: with_neighbours(text, named, kind, later),
+            kind: with_neighbours(named, kind, later),
             at: token.at,
             len: token.len,
         })?;
@@ -33,12 +29,13 @@ pub(crate) fn marks(
 }
 
 /// The kind of a token before these and behind a name or not.
-fn with_neighbours(text: &[u8], named: bool, kind: Kind, later: &[Token]) -> Kind
-    ensures { result ≡ with_neighbours named kind (next_begins text.now later.now) }
+fn with_neighbours(named: bool, kind: Kind, later: &[Token]) -> Kind
+    ensures { (text : List ℕ) → AllSpelled text later.now →
+        result ≡ with_neighbours named kind (next_begins text later.now) }
 {
     match kind {
         Kind::OpenSquare => {
-            if named && next_begins(text, later) {
+            if named && next_begins(later) {
                 Kind::OpenIndex
             } else {
                 Kind::OpenSquare
@@ -49,11 +46,11 @@ fn with_neighbours(text: &[u8], named: bool, kind: Kind, later: &[Token]) -> Kin
 }
 
 /// Whether an expression can begin with the first of these tokens.
-fn next_begins(text: &[u8], tokens: &[Token]) -> bool
-    ensures { result ≡ next_begins text.now tokens.now }
+fn next_begins(tokens: &[Token]) -> bool
+    ensures { (text : List ℕ) → AllSpelled text tokens.now → result ≡ next_begins text tokens.now }
 {
     match tokens.first() {
-        Some(token) => alone(text, *token).is_one_of(&[
+        Some(token) => token.spelled.is_one_of(&[
             Kind::PlusSign,
             Kind::Minus,
             Kind::Bang,
@@ -70,21 +67,5 @@ fn next_begins(text: &[u8], tokens: &[Token]) -> bool
             Kind::OpenBrace,
         ]),
         None => false,
-    }
-}
-
-/// The kind of a token by itself.
-fn alone(text: &[u8], token: Token) -> Kind
-    ensures { result ≡ alone text.now token }
-{
-    match token.kind {
-        TokenKind::Ident => Kind::Ident,
-        TokenKind::Keyword => kind_spelled(piece(text, token.at, token.len)),
-        TokenKind::System => Kind::System,
-        TokenKind::Decimal => Kind::Numeral,
-        TokenKind::Based => Kind::Numeral,
-        TokenKind::Text => Kind::Quoted,
-        TokenKind::Operator => kind_spelled(piece(text, token.at, token.len)),
-        TokenKind::NotSupported => Kind::NotSupported,
     }
 }

@@ -1,6 +1,6 @@
 //! The operators of expressions (IEEE 1800-2017, 11.3.2).
 ghost use Rattle.std.specs.Prelude.{◌≡◌, ◌≤◌, ◌<◌, ℕ, true, false, IfSome, IfNone};
-ghost use Rattle.cov_grammar.specs.Kinds.{code, has};
+ghost use Rattle.cov_lexer.specs.Kinds.{code, has};
 ghost use Rattle.cov_grammar.specs.Rule.{In};
 ghost use Rattle.cov_grammar.specs.Operators.{level_kinds, unary_of, binary_of};
 ghost use Rattle.cov_parser.specs.Operating.{AllOperate, KindAt, level_of};

@@ -40,7 +40,7 @@ pub fn parse(alloc: Global, text: &[u8], tokens: &[Token]) -> Result<DesignText,
     ensures none { IfErr result (λ fault. fault ≢ Memory →
         (decls : _) → DerivesWithin limits text.now (marked text.now tokens.now) decls → ⊥) }
 {
-    let Ok(found) = marks(alloc, text, tokens) else {
+    let Ok(found) = marks(alloc, tokens) else {
         return Err(ParseFault::Memory);
     };
     let marked = found.as_slice();

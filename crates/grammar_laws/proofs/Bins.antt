@@ -3,17 +3,17 @@ use Rattle.std.proofs.Common.{◌≡◌, ℕ, ◌+◌, List, [], ◌∷◌, Opti
 use Rattle.cov_tree.specs.declared.expr.Expr.{Expr}
 use Rattle.cov_tree.specs.declared.bins.Size.{Size}
 use Rattle.cov_lexer.specs.declared.token.TokenKind.TheVariants as lexed
-use Rattle.cov_grammar.specs.declared.kind.Kind.{Kind}
-use Rattle.cov_grammar.specs.declared.kind.Kind.TheVariants.{Ident, BinsWord, OptionWord, TypeOptionWord, OpenSquare, CloseSquare, Colon, Star, ThinArrow, Assign}
-use Rattle.cov_grammar.specs.declared.kind.Marked.{Marked}
+use Rattle.cov_lexer.specs.declared.kind.Kind.{Kind}
+use Rattle.cov_lexer.specs.declared.kind.Kind.TheVariants.{Ident, BinsWord, OptionWord, TypeOptionWord, OpenSquare, CloseSquare, Colon, Star, ThinArrow, Assign}
+use Rattle.cov_grammar.specs.declared.marked.Marked.{Marked}
 use Rattle.cov_grammar.specs.declared.place.Place.{Place}
 use Rattle.cov_grammar.specs.declared.place.Room.{Room}
 use Rattle.cov_grammar.specs.declared.place.Standing.{Standing}
 use Rattle.cov_grammar.specs.declared.place.Standing.TheVariants.{Plain, StepEnd}
-use Rattle.cov_grammar.specs.Kinds.{has}
+use Rattle.cov_lexer.specs.Kinds.{has}
 use Rattle.cov_grammar.specs.Rule.{one, word, bind, give, map_to, both, maybe, ◌▸◌, ◌◂◌}
 use Rattle.cov_grammar.specs.Expressions.{spelled, pair, expr}
-use Rattle.cov_grammar.specs.Marking.{kind_spelled, spellings}
+use Rattle.cov_lexer.specs.Spellings.{words, operators}
 use Rattle.cov_grammar.specs.Bins.{squares, bins_words, size_of, is_scalar, is_fixed, is_some, BinsHead, repeated, ident, guard, range_end, span, elem, elems, repetition, step, seq, seqs, keep, values, size, bins_word, bins_head, default_right, right, bins, option_value, optset}
 use Rattle.grammar_laws.specs.Tables.{repetition_kinds}
 use Rattle.grammar_laws.specs.Continuations.{AreAlike}
@@ -98,7 +98,7 @@ module _ {S : Type 0} {R : Likeness S} where
   elems_produces s r = fold_produces _ (mapped_produces _ (elem_produces s r)) (ahead_completes comma.begun (elem_produces s r))
 
   repeats : Produces true R any (λ s text ts. one ts (Star ∷ ThinArrow ∷ Assign ∷ []))
-  unfolding kind_spelled spellings
+  unfolding words operators
   repeats = one_produces (Star ∷ ThinArrow ∷ Assign ∷ []) Star (codes "*") lexed.Operator refl refl refl refl
 
   repeated_to : (r : Room) → Produces true R any (λ s text ts. both repeated (one ts repetition_kinds) (both pair (expr text ts r) (maybe (word ts Colon ▸ expr text ts r))) ◂ word ts CloseSquare)
@@ -148,7 +148,7 @@ module _ {S : Type 0} {R : Likeness S} where
       (ahead_completes (one_completes squares (λ e. refl)) (behind_produces (optional (seen is_some) (λ a b h. refl) (expr_produces r).begun) close_square)))
 
   pub one_bins_word : Produces true R any (λ s text ts. one ts bins_words)
-  unfolding kind_spelled spellings
+  unfolding words operators
   one_bins_word = one_produces bins_words BinsWord (codes "bins") lexed.Keyword refl refl refl refl
 
   bins_word_produces : Produces true R any (λ s text ts. bins_word text ts)
@@ -186,7 +186,7 @@ module _ {S : Type 0} {R : Likeness S} where
   option_value_produces r = left_produces (mapped_produces _ quoted) (mapped_completes _ (expr_produces r).begun)
 
   options : Produces true R any (λ s text ts. one ts (OptionWord ∷ TypeOptionWord ∷ []))
-  unfolding kind_spelled spellings
+  unfolding words operators
   options = one_produces (OptionWord ∷ TypeOptionWord ∷ []) OptionWord (codes "option") lexed.Keyword refl refl refl refl
 
   pub optset_produces : (r : Room) → Produces true R any (λ s text ts. optset text ts r)

@@ -1,6 +1,6 @@
 -- The same of the rules that are made of those: a tree changed, one rule and another, repetitions, what may be left out, words.
 use Rattle.std.proofs.Common.{ℕ, List, Option, Some, None, Bool}
-use Rattle.cov_grammar.specs.declared.kind.Marked.{Marked}
+use Rattle.cov_grammar.specs.declared.marked.Marked.{Marked}
 use Rattle.cov_grammar.specs.Rule.{Rule, give, many, map_to, both, fold, ahead, behind, maybe}
 use Rattle.grammar_laws.proofs.Keeps.{Likeness, any, pairs}
 use Rattle.grammar_laws.proofs.Completes.{Completes, Produces, give_produces, completes_by, produces_by, bind_completes, bind_produces, left_produces, many_produces}

@@ -2,10 +2,10 @@
 use Rattle.std.proofs.Common.{◌≡◌, ℕ, zero, suc, ◌+◌, ◌<◌, ◌≤◌, List, [], ◌∷◌, ◌++◌, Bool, true, false, inl, inr, length, refl, sym, subst, arith, length-append}
 use Rattle.std.proofs.lemmas.Bool.{cases_lt}
 use Rattle.cov_lexer.specs.declared.token.TokenKind.{TokenKind}
-use Rattle.cov_grammar.specs.declared.kind.Kind.{Kind}
-use Rattle.cov_grammar.specs.declared.kind.Marked.{Marked}
+use Rattle.cov_lexer.specs.declared.kind.Kind.{Kind}
+use Rattle.cov_grammar.specs.declared.marked.Marked.{Marked}
 use Rattle.cov_grammar.specs.declared.place.Place.{Place}
-use Rattle.cov_grammar.specs.Kinds.{has}
+use Rattle.cov_lexer.specs.Kinds.{has}
 use Rattle.cov_grammar.specs.Bins.{squares}
 use Rattle.cov_grammar.specs.Marking.{kind_of}
 use Rattle.cov_grammar.specs.Rule.{Rule, one, same_word, counted, afresh, give, here, offset, after, never, bind, either, times, many, allow}

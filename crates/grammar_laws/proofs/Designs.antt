@@ -1,10 +1,10 @@
 -- Begun declarations, and so begun designs, can be completed.
 use Rattle.std.proofs.Common.{◌≡◌, ℕ, List, [], ◌∷◌, true, refl, codes}
 use Rattle.cov_lexer.specs.declared.token.TokenKind.TheVariants as lexed
-use Rattle.cov_grammar.specs.declared.kind.Kind.TheVariants.{Ident, OtherWord, BitWord, SignedWord, UnsignedWord, InputWord, RefWord, PosedgeWord, NegedgeWord, EdgeWord, OrWord, Comma}
-use Rattle.cov_grammar.specs.declared.kind.Marked.{Marked}
+use Rattle.cov_lexer.specs.declared.kind.Kind.TheVariants.{Ident, OtherWord, BitWord, SignedWord, UnsignedWord, InputWord, RefWord, PosedgeWord, NegedgeWord, EdgeWord, OrWord, Comma}
+use Rattle.cov_grammar.specs.declared.marked.Marked.{Marked}
 use Rattle.cov_grammar.specs.declared.place.Room.{Room}
-use Rattle.cov_grammar.specs.Marking.{kind_spelled, spellings}
+use Rattle.cov_lexer.specs.Spellings.{words, operators}
 use Rattle.cov_grammar.specs.Rule.{one}
 use Rattle.cov_grammar.specs.Bins.{squares}
 use Rattle.cov_grammar.specs.Designs.{vector_words, fixed_words, sign, vector_span, vector, fixed, built_in, type_text, enum_name, enum_names, enum_decl, built_in_decl, arguments, instance_rest, variables_rest, named_decl, formal, formal_list, formals, edge, event, argument, argument_list, argument_parens, sampled, sampling, members, group_end, group, decl, design}
@@ -26,7 +26,7 @@ module _ {S : Type 0} {R : Likeness S} where
   span_completes r = ahead_completes (one_completes squares (λ e. refl)) (behind_produces (pair_produces _ (expr_produces r) (ahead_produces colon (expr_produces r))) close_square)
 
   vector_words_produce : Produces true R any (λ (_ : S) text ts. one ts vector_words)
-  unfolding kind_spelled spellings
+  unfolding words operators
   vector_words_produce = one_produces vector_words BitWord (codes "bit") lexed.Keyword refl refl refl refl
 
   vector_produces : (r : Room) → Produces true R any (λ (_ : S) text ts. vector text ts r)
@@ -122,7 +122,7 @@ module _ {S : Type 0} {R : Likeness S} where
   parens_produce r = mapped_produces _ (ahead_produces open_paren (behind_produces (maybe_produces (argument_list_produces r).begun) close_paren))
 
   sampled_completes : (r : Room) → Completes true R any (λ (_ : S) text ts. sampled text ts r)
-  unfolding sampled kind_spelled spellings
+  unfolding sampled words operators
   sampled_completes r = ahead_completes with_word.begun
       (ahead_produces (same_word_produces OtherWord (λ s. codes "function") lexed.Keyword refl (λ s. refl) refl (λ s z e. refl) refl)
       (ahead_produces (same_word_produces Ident (λ s. codes "sample") lexed.Ident refl (λ s. refl) refl (λ s z e. refl) refl) (parens_produce r)))

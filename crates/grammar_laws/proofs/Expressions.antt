@@ -1,16 +1,16 @@
 -- Begun expressions can be completed, and where one can begin, one can stand.
 use Rattle.std.proofs.Common.{◌≡◌, ℕ, ◌+◌, inl, inr, ap, ◌∙◌, arith, slice_get, zero, suc, List, Some, Bool, true, false, refl}
 use Rattle.cov_tree.specs.declared.expr.Expr.{Expr}
-use Rattle.cov_grammar.specs.declared.kind.Kind.{Kind}
-use Rattle.cov_grammar.specs.declared.kind.Kind.TheVariants.{OpenIndex, Colon, CloseSquare}
-use Rattle.cov_grammar.specs.declared.kind.Marked.{Marked}
+use Rattle.cov_lexer.specs.declared.kind.Kind.{Kind}
+use Rattle.cov_lexer.specs.declared.kind.Kind.TheVariants.{OpenIndex, Colon, CloseSquare}
+use Rattle.cov_grammar.specs.declared.marked.Marked.{Marked}
 use Rattle.cov_grammar.specs.declared.place.Place.{Place}
 use Rattle.cov_grammar.specs.declared.place.Room.{Room}
 use Rattle.cov_grammar.specs.declared.place.Standing.{Standing}
 use Rattle.cov_grammar.specs.declared.place.Standing.TheVariants.{Plain, StepEnd}
 use Rattle.cov_grammar.specs.Rule.{Rule, after, one, map_to, bind, give, word, never, both, maybe, ◌▸◌, ◌◂◌, allow}
 use Rattle.std.proofs.lemmas.Bool.{cases_lt}
-use Rattle.cov_grammar.specs.Kinds.{has}
+use Rattle.cov_lexer.specs.Kinds.{has}
 use Rattle.cov_grammar.specs.Marking.{expr_kinds}
 use Rattle.cov_grammar.proofs.Lawful.{facts_of}
 use Rattle.cov_grammar.proofs.ExprLaws.{part_expr_lawful}

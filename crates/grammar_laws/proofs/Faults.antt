@@ -3,10 +3,10 @@ use Rattle.std.proofs.Common.{false, Bool, ◌≡◌, ℕ, zero, suc, ◌+◌, �
 use Rattle.cov_lexer.specs.declared.token.Token.{Token}
 use Rattle.cov_lexer.specs.Lexes.{Lexes, Ascend}
 use Rattle.cov_lexer.proofs.Covering.{covers_ascend}
-use Rattle.cov_grammar.specs.declared.kind.Kind.{Kind}
-use Rattle.cov_grammar.specs.declared.kind.Kind.TheVariants.{Ident}
+use Rattle.cov_lexer.specs.declared.kind.Kind.{Kind}
+use Rattle.cov_lexer.specs.declared.kind.Kind.TheVariants.{Ident}
 use Rattle.cov_grammar.specs.declared.place.Room.{Room}
-use Rattle.cov_grammar.specs.Kinds.{has}
+use Rattle.cov_lexer.specs.Kinds.{has}
 use Rattle.cov_grammar.specs.Bins.{squares}
 use Rattle.cov_grammar.specs.Marking.{alone, expr_kinds, next_begins, marked}
 use Rattle.cov_grammar.specs.Fault.{IsViableWithin, IsSyntaxFault}

@@ -1,8 +1,8 @@
 -- Begun selections, points, crosses and members can be completed.
 use Rattle.std.proofs.Common.{◌≡◌, ℕ, zero, suc, List, [], ◌∷◌, Option, Bool, true, false, refl}
 use Rattle.cov_tree.specs.declared.groups.Sel.{Sel}
-use Rattle.cov_grammar.specs.declared.kind.Kind.TheVariants.{AndAnd, OrOr}
-use Rattle.cov_grammar.specs.declared.kind.Marked.{Marked}
+use Rattle.cov_lexer.specs.declared.kind.Kind.TheVariants.{AndAnd, OrOr}
+use Rattle.cov_grammar.specs.declared.marked.Marked.{Marked}
 use Rattle.cov_grammar.specs.declared.place.Room.{Room}
 use Rattle.cov_grammar.specs.declared.place.Standing.TheVariants.{Plain}
 use Rattle.cov_grammar.specs.Rule.{Rule, never}

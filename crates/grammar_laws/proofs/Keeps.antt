@@ -1,10 +1,10 @@
 -- What a rule over the tokens of one text derives and begins within first tokens, it does over alike tokens of another.
 use Rattle.std.proofs.Common.{◌≡◌, ℕ, zero, suc, ◌+◌, ◌≤◌, List, [], ◌∷◌, Some, true, false, ◌⊎◌, inl, inr, refl, sym, ◌∙◌, ap, subst, arith, slice_get}
-use Rattle.cov_grammar.specs.declared.kind.Kind.{Kind}
-use Rattle.cov_grammar.specs.declared.kind.Kind.TheVariants.{OpenIndex, OpenSquare}
-use Rattle.cov_grammar.specs.declared.kind.Marked.{Marked}
+use Rattle.cov_lexer.specs.declared.kind.Kind.{Kind}
+use Rattle.cov_lexer.specs.declared.kind.Kind.TheVariants.{OpenIndex, OpenSquare}
+use Rattle.cov_grammar.specs.declared.marked.Marked.{Marked}
 use Rattle.cov_grammar.specs.declared.place.Place.{Place}
-use Rattle.cov_grammar.specs.Kinds.{has}
+use Rattle.cov_lexer.specs.Kinds.{has}
 use Rattle.cov_grammar.specs.Expressions.{spelled}
 use Rattle.cov_grammar.specs.Rule.{Rule, one, same_word, counted, afresh, give, here, offset, never, bind, either, times, many, map_to, both, after, ahead}
 use Rattle.cov_grammar.specs.Marking.{expr_kinds}

@@ -2,11 +2,11 @@
 use Rattle.std.proofs.Common.{◌≡◌, ℕ, zero, suc, ◌+◌, ◌<◌, ◌≤◌, List, [], ◌∷◌, ◌++◌, Some, Bool, true, false, ◌⊎◌, inl, inr, length, take, refl, sym, ◌∙◌, ap, subst, arith, slice_get, length-append}
 use Rattle.cov_lexer.specs.declared.token.Token.{Token}
 use Rattle.cov_lexer.specs.declared.token.TokenKind.{TokenKind}
-use Rattle.cov_grammar.specs.declared.kind.Kind.{Kind}
-use Rattle.cov_grammar.specs.declared.kind.Kind.TheVariants.{Ident, OpenIndex, OpenSquare, Star, ThinArrow, Assign}
-use Rattle.cov_grammar.specs.declared.kind.Marked.{Marked}
+use Rattle.cov_lexer.specs.declared.kind.Kind.{Kind}
+use Rattle.cov_lexer.specs.declared.kind.Kind.TheVariants.{Ident, OpenIndex, OpenSquare, Star, ThinArrow, Assign}
+use Rattle.cov_grammar.specs.declared.marked.Marked.{Marked}
 use Rattle.cov_grammar.specs.declared.place.Room.{Room}
-use Rattle.cov_grammar.specs.Kinds.{has}
+use Rattle.cov_lexer.specs.Kinds.{has}
 use Rattle.cov_grammar.specs.Expressions.{spelled}
 use Rattle.cov_grammar.specs.Bins.{squares}
 use Rattle.cov_grammar.specs.Marking.{kind_of, alone, expr_kinds, next_begins, with_neighbours, marked_from, marked}
@@ -140,7 +140,7 @@ plain_rest k text t ts h = record { plain = λ i x l e. h.plain (suc i) x (omega
 -- plain tokens as they were before they were marked
 abbrev pub before_marks : (text : List ℕ) (ts : List Marked) → ArePlainFrom 0 text ts → List Token
 before_marks text [] h = []
-before_marks text (t ∷ ts) h = record { kind = (h.plain 0 t (omega arith) refl).lexed; «at» = t.at; len = t.len } ∷ before_marks text ts (plain_rest 0 text t ts h)
+before_marks text (t ∷ ts) h = record { kind = (h.plain 0 t (omega arith) refl).lexed; spelled = t.kind; «at» = t.at; len = t.len } ∷ before_marks text ts (plain_rest 0 text t ts h)
 
 pub plain_marks : (text : List ℕ) (named : Bool) (ts : List Marked) (h : ArePlainFrom 0 text ts) → marked_from text named (before_marks text ts h) ≡ ts
 unfolding alone
@@ -148,7 +148,7 @@ plain_marks text named [] h = refl
 plain_marks text named (t ∷ ts) h =
     let p = h.plain 0 t (omega arith) refl in
     let rest = before_marks text ts (plain_rest 0 text t ts h) in
-    let own : Token = record { kind = p.lexed; «at» = t.at; len = t.len } in
+    let own : Token = record { kind = p.lexed; spelled = t.kind; «at» = t.at; len = t.len } in
     let e : with_neighbours named (alone text own) (next_begins text rest) ≡ t.kind =
     unmarked named (alone text own) (next_begins text rest) (ap (λ (z : Kind). has z squares) p.kind ∙ p.no_square) ∙ p.kind in
     ap (λ (z : Kind). mark z t.at t.len ∷ marked_from text (has (alone text own) (Ident ∷ [])) rest) e

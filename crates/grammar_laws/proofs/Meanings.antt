@@ -8,9 +8,9 @@ use Rattle.cov_lexer.specs.declared.token.TokenKind.TheVariants as lexed
 use Rattle.cov_lexer.specs.Literals.{literal_of}
 use Rattle.cov_lexer.specs.Lexes.{Lexes, IsWithin, AllWithin}
 use Rattle.cov_lexer.proofs.Covering.{covers_within}
-use Rattle.cov_grammar.specs.declared.kind.Kind.{Kind}
-use Rattle.cov_grammar.specs.declared.kind.Kind.TheVariants.{PlusSign, Minus, Star, Slash, Percent, Tilde, Bang, Ampersand, AndAnd, Bar, OrOr, Caret, TildeAnd, TildeOr, TildeCaret, Less, LessEqual, Greater, GreaterEqual, EqualEqual, NotEqual, ShiftLeft, ShiftRight, SignedLeft, SignedRight, ThinArrow, Assign, BinsWord, IllegalBinsWord, IgnoreBinsWord, ByteWord, ShortintWord, IntWord, LongintWord, IntegerWord, PosedgeWord, NegedgeWord, EdgeWord}
-use Rattle.cov_grammar.specs.Kinds.{has}
+use Rattle.cov_lexer.specs.declared.kind.Kind.{Kind}
+use Rattle.cov_lexer.specs.declared.kind.Kind.TheVariants.{PlusSign, Minus, Star, Slash, Percent, Tilde, Bang, Ampersand, AndAnd, Bar, OrOr, Caret, TildeAnd, TildeOr, TildeCaret, Less, LessEqual, Greater, GreaterEqual, EqualEqual, NotEqual, ShiftLeft, ShiftRight, SignedLeft, SignedRight, ThinArrow, Assign, BinsWord, IllegalBinsWord, IgnoreBinsWord, ByteWord, ShortintWord, IntWord, LongintWord, IntegerWord, PosedgeWord, NegedgeWord, EdgeWord}
+use Rattle.cov_lexer.specs.Kinds.{has}
 use Rattle.cov_grammar.specs.Operators.{unary_kinds, unary_of, level_kinds, binary_of}
 use Rattle.cov_grammar.specs.Bins.{times_of, bins_words, bins_word_of}
 use Rattle.cov_grammar.specs.Designs.{fixed_words, width_of, edge_kind}

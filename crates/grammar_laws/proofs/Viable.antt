@@ -1,7 +1,7 @@
 -- Viable first tokens are the first tokens of a design text, and are so by their kinds and spellings alone.
 use Rattle.std.proofs.Common.{◌≡◌, ℕ, zero, suc, ◌<◌, ◌≤◌, List, [], ◌∷◌, ◌++◌, Some, true, inl, inr, length, take, refl, sym, ◌∙◌, subst, arith, slice_get, length-append}
 use Rattle.std.proofs.lemmas.Bool.{cases_lt}
-use Rattle.cov_grammar.specs.declared.kind.Marked.{Marked}
+use Rattle.cov_grammar.specs.declared.marked.Marked.{Marked}
 use Rattle.cov_grammar.specs.declared.place.Room.{Room}
 use Rattle.cov_grammar.specs.Designs.{design}
 use Rattle.cov_grammar.specs.Fault.{start, DerivesWithin, IsViableWithin}

@@ -2,9 +2,9 @@
 use Rattle.std.specs.Prelude.{◌≡◌, ℕ, ◌+◌, ◌<◌, ◌≤◌, List, ◌++◌, length, take, Some, false, slice_get}
 use Rattle.cov_tree.specs.declared.declarations.Decl.{Decl}
 use Rattle.cov_lexer.specs.declared.token.TokenKind.{TokenKind}
-use Rattle.cov_grammar.specs.declared.kind.Marked.{Marked}
+use Rattle.cov_grammar.specs.declared.marked.Marked.{Marked}
 use Rattle.cov_grammar.specs.declared.place.Room.{Room}
-use Rattle.cov_grammar.specs.Kinds.{has}
+use Rattle.cov_lexer.specs.Kinds.{has}
 use Rattle.cov_grammar.specs.Expressions.{spelled}
 use Rattle.cov_grammar.specs.Bins.{squares}
 use Rattle.cov_grammar.specs.Marking.{kind_of}

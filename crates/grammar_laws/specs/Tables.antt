@@ -11,8 +11,8 @@ use Rattle.cov_tree.specs.declared.bins.Word.{Word}
 use Rattle.cov_tree.specs.declared.bins.Word.TheVariants.{Bins, Illegal, Ignore}
 use Rattle.cov_tree.specs.declared.groups.EdgeKind.{EdgeKind}
 use Rattle.cov_tree.specs.declared.groups.EdgeKind.TheVariants.{Pos, Negative, Both}
-use Rattle.cov_grammar.specs.declared.kind.Kind.{Kind}
-use Rattle.cov_grammar.specs.declared.kind.Kind.TheVariants.{PlusSign, Minus, Star, Slash, Percent, Tilde, Bang, Ampersand, AndAnd, Bar, OrOr, Caret, TildeAnd, TildeOr, TildeCaret, Less, LessEqual, Greater, GreaterEqual, EqualEqual, NotEqual, ShiftLeft, ShiftRight, SignedLeft, SignedRight, ThinArrow, Assign, BinsWord, IllegalBinsWord, IgnoreBinsWord, ByteWord, ShortintWord, IntWord, LongintWord, IntegerWord, PosedgeWord, NegedgeWord, EdgeWord}
+use Rattle.cov_lexer.specs.declared.kind.Kind.{Kind}
+use Rattle.cov_lexer.specs.declared.kind.Kind.TheVariants.{PlusSign, Minus, Star, Slash, Percent, Tilde, Bang, Ampersand, AndAnd, Bar, OrOr, Caret, TildeAnd, TildeOr, TildeCaret, Less, LessEqual, Greater, GreaterEqual, EqualEqual, NotEqual, ShiftLeft, ShiftRight, SignedLeft, SignedRight, ThinArrow, Assign, BinsWord, IllegalBinsWord, IgnoreBinsWord, ByteWord, ShortintWord, IntWord, LongintWord, IntegerWord, PosedgeWord, NegedgeWord, EdgeWord}
 use Rattle.cov_tree.specs.declared.declarations.FixedWidth.{FixedWidth}
 use Rattle.cov_tree.specs.declared.declarations.FixedWidth.TheVariants.{Bits8, Bits16, Bits32, Bits64}
 

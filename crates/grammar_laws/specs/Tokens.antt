@@ -2,9 +2,9 @@
 use Rattle.std.specs.Prelude.{Bool, ◌≡◌, ◌⊎◌, ℕ, zero, suc, [], ◌∷◌, ◌+◌, ◌<◌, ◌≤◌, List, ◌++◌, length, take, drop, Some, false, slice_get, slice_range}
 use Rattle.cov_tree.specs.declared.declarations.Decl.{Decl}
 use Rattle.cov_lexer.specs.declared.token.Token.{Token}
-use Rattle.cov_grammar.specs.declared.kind.Kind.TheVariants.{Ident}
+use Rattle.cov_lexer.specs.declared.kind.Kind.TheVariants.{Ident}
 use Rattle.cov_grammar.specs.declared.place.Room.{Room}
-use Rattle.cov_grammar.specs.Kinds.{has}
+use Rattle.cov_lexer.specs.Kinds.{has}
 use Rattle.cov_grammar.specs.Bins.{squares}
 use Rattle.cov_grammar.specs.Marking.{alone, next_begins, marked}
 use Rattle.cov_grammar.specs.Fault.{DerivesWithin}

@@ -27,11 +27,11 @@ loop-at-preserved-in_ok-push c =
     let e : c.loop-at.«at» + (c.in_ok-found.found.«end» - c.loop-at.«at») ≡ c.in_ok-found.found.«end» = omega arith in
     record {
       so_far = λ d rest k h. rw (c.in_ok-push.ensures.items, append_assoc)
-          (c.loop-at.invariant.so_far (suc d) (record { kind = c.in-Some.kind; «at» = c.loop-at.«at»; len = c.in_ok-found.found.«end» - c.loop-at.«at» } ∷ rest) k (
+          (c.loop-at.invariant.so_far (suc d) (record { kind = c.in-Some.sort.kind; spelled = c.in-Some.sort.spelled; «at» = c.loop-at.«at»; len = c.in_ok-found.found.«end» - c.loop-at.«at» } ∷ rest) k (
             c.in_ok-found.found.«end»,
             m,
             c.in_ok-found.ensures.inside,
-            inr (_, rest, refl, refl, e, subst (λ o. MayStand c.args.text.now c.loop-at.«at» o c.in_ok-found.found.«end») c.in-Some.is c.in_ok-found.ensures.stands, h),
+            (let stands = subst (λ o. MayStand c.args.text.now c.loop-at.«at» o c.in_ok-found.found.«end») c.in-Some.is c.in_ok-found.ensures.stands in inr (_, rest, refl, refl, e, stands.0, stands.1, h)),
           ));
       inside = c.in_ok-found.ensures.inside;
     }

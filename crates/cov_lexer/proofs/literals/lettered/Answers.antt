@@ -1,4 +1,4 @@
-use Rattle.std.proofs.Common.{◌≡◌, ◌≢◌, ◌+◌, ◌-◌, ◌∙◌, Some, true, false, sym, ap, take, drop, length, length-drop, get_or, arith}
+use Rattle.std.proofs.Common.{◌≡◌, ◌-◌, ◌∙◌, Some, true, false, sym, ap, take, drop, length, length-drop, get_or, arith}
 use Rattle.std.proofs.lemmas.List.{take_all}
 use Rattle.cov_lexer.specs.Bytes.{is_base_digit}
 use Rattle.cov_lexer.specs.Literals.{base_of, meaning}

@@ -1,7 +1,7 @@
 use Rattle.std.proofs.Common.{nat_le}
 use Rattle.std.proofs.lemmas.Bool.{and_parts}
-use Rattle.cov_grammar.specs.declared.kind.Kind.TheVariants.{PlusSign, SignedRight}
-use Rattle.cov_grammar.specs.Kinds.{code}
+use Rattle.cov_lexer.specs.declared.kind.Kind.TheVariants.{PlusSign, SignedRight}
+use Rattle.cov_lexer.specs.Kinds.{code}
 use Rattle.cov_parser.proofs.Operating.{one_operates}
 use Rattle.cov_parser.proofs.operators.operates.Goals as goal
 

@@ -1,5 +1,5 @@
 use Rattle.std.proofs.Common.{◌-◌, ◌+◌, ◌≤◌, arith, refl}
-use Rattle.cov_grammar.specs.declared.kind.Kind.TheVariants.{CloseParen, CloseSquare, CloseBrace, Colon}
+use Rattle.cov_lexer.specs.declared.kind.Kind.TheVariants.{CloseParen, CloseSquare, CloseBrace, Colon}
 use Rattle.cov_grammar.specs.declared.place.Standing.TheVariants.{Plain}
 use Rattle.cov_grammar.specs.Expressions.{pair}
 use Rattle.cov_grammar.proofs.Lawful.{lawful_word, lawful_maybe}

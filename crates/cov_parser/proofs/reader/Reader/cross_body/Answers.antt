@@ -1,5 +1,5 @@
 use Rattle.std.proofs.Common.{refl, sym, ◌∙◌, [], ◌∷◌}
-use Rattle.cov_grammar.specs.declared.kind.Kind.TheVariants.{BinsWord, IllegalBinsWord, IgnoreBinsWord, OptionWord, TypeOptionWord, CloseBrace}
+use Rattle.cov_lexer.specs.declared.kind.Kind.TheVariants.{BinsWord, IllegalBinsWord, IgnoreBinsWord, OptionWord, TypeOptionWord, CloseBrace}
 use Rattle.cov_grammar.specs.Groups.{cross_bins}
 use Rattle.cov_grammar.proofs.Sets.{In_apart}
 use Rattle.cov_grammar.proofs.Steps.{exits}

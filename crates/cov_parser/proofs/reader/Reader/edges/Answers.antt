@@ -1,6 +1,6 @@
 use Rattle.cov_grammar.proofs.Steps.{exits, item_falls}
 use Rattle.std.proofs.Common.{refl, [], ◌∷◌}
-use Rattle.cov_grammar.specs.declared.kind.Kind.TheVariants.{OrWord, Comma}
+use Rattle.cov_lexer.specs.declared.kind.Kind.TheVariants.{OrWord, Comma}
 use Rattle.cov_grammar.proofs.DesignLaws.{edge_lawful}
 use Rattle.cov_parser.proofs.CovergroupWalks.{no_edge, first_edge, edge_fails, edge_read, edges_end}
 use Rattle.cov_parser.proofs.reader.Reader.edges.Goals as goal

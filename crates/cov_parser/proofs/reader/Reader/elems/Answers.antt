@@ -1,5 +1,5 @@
 use Rattle.std.proofs.Common.{[], ◌∷◌}
-use Rattle.cov_grammar.specs.declared.kind.Kind.TheVariants.{Comma}
+use Rattle.cov_lexer.specs.declared.kind.Kind.TheVariants.{Comma}
 use Rattle.cov_grammar.proofs.Steps.{exits}
 use Rattle.cov_grammar.proofs.BinsLaws.{elem_lawful, no_comma}
 use Rattle.cov_parser.proofs.Chains.{chain_first, chain_next, chain_falls}

@@ -1,5 +1,5 @@
 use Rattle.std.proofs.Common.{refl}
-use Rattle.cov_grammar.specs.declared.kind.Kind.TheVariants.{Comma}
+use Rattle.cov_lexer.specs.declared.kind.Kind.TheVariants.{Comma}
 use Rattle.std.proofs.Common.{[], ◌∷◌}
 use Rattle.cov_grammar.proofs.Steps.{exits, item_falls}
 use Rattle.cov_grammar.proofs.DesignLaws.{formal_lawful}

@@ -1,5 +1,5 @@
 use Rattle.std.proofs.Common.{arith, refl, sym, ◌∙◌, [], ◌∷◌}
-use Rattle.cov_grammar.specs.declared.kind.Kind.TheVariants.{Semi, OptionWord, TypeOptionWord, Ident, CoverpointWord, CrossWord}
+use Rattle.cov_lexer.specs.declared.kind.Kind.TheVariants.{Semi, OptionWord, TypeOptionWord, Ident, CoverpointWord, CrossWord}
 use Rattle.cov_grammar.proofs.Sets.{In_more}
 use Rattle.cov_grammar.proofs.Steps.{exits, one_next}
 use Rattle.cov_grammar.proofs.GroupLaws.{member_firsts, member_lawful}

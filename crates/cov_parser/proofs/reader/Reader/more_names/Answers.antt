@@ -1,5 +1,5 @@
 use Rattle.std.proofs.Common.{[], ◌∷◌, refl}
-use Rattle.cov_grammar.specs.declared.kind.Kind.TheVariants.{Ident, Comma}
+use Rattle.cov_lexer.specs.declared.kind.Kind.TheVariants.{Ident, Comma}
 use Rattle.cov_grammar.specs.declared.place.Room.{Room}
 use Rattle.cov_grammar.proofs.Lawful.{lawful_word}
 use Rattle.cov_grammar.proofs.Steps.{exits, item_falls}

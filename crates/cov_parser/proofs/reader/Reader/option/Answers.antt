@@ -1,5 +1,5 @@
 use Rattle.std.proofs.Common.{refl}
-use Rattle.cov_grammar.specs.declared.kind.Kind.TheVariants.{Dot, Assign, Semi}
+use Rattle.cov_lexer.specs.declared.kind.Kind.TheVariants.{Dot, Assign, Semi}
 use Rattle.cov_grammar.proofs.Lawful.{lawful_word}
 use Rattle.cov_grammar.proofs.Compose.{both_reads, both_fails, both_then_fails}
 use Rattle.cov_grammar.proofs.Steps.{exits}

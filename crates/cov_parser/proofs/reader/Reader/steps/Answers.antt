@@ -1,5 +1,5 @@
 use Rattle.std.proofs.Common.{refl, [], ◌∷◌}
-use Rattle.cov_grammar.specs.declared.kind.Kind.TheVariants.{FatArrow}
+use Rattle.cov_lexer.specs.declared.kind.Kind.TheVariants.{FatArrow}
 use Rattle.cov_grammar.proofs.Steps.{exits}
 use Rattle.cov_grammar.proofs.BinsLaws.{step_lawful}
 use Rattle.cov_parser.proofs.Chains.{chain_first, chain_fails, chain_next, chain_breaks, chain_ends, chain_falls}

@@ -1,5 +1,5 @@
 use Rattle.std.proofs.Common.{◌-◌, length, refl, [], ◌∷◌}
-use Rattle.cov_grammar.specs.declared.kind.Kind.TheVariants.{FatArrow}
+use Rattle.cov_lexer.specs.declared.kind.Kind.TheVariants.{FatArrow}
 use Rattle.cov_grammar.proofs.BinsLaws.{step_lawful}
 use Rattle.cov_parser.proofs.Chains.{Chain}
 use Rattle.cov_parser.proofs.reader.Reader.steps.Given as goal

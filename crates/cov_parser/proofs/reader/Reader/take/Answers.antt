@@ -1,5 +1,5 @@
 use Rattle.std.proofs.Common.{refl}
-use Rattle.cov_grammar.specs.declared.kind.Kind.TheVariants.{Ident}
+use Rattle.cov_lexer.specs.declared.kind.Kind.TheVariants.{Ident}
 use Rattle.cov_grammar.proofs.Steps.{one_reads, one_here}
 use Rattle.cov_parser.proofs.reader.Reader.take.Goals as goal
 

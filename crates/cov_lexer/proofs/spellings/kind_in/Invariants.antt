@@ -1,7 +1,7 @@
 use Rattle.std.proofs.Common.{◌≡◌, map, drop}
-use Rattle.cov_grammar.specs.Marking.{kind_among}
-use Rattle.cov_parser.specs.Spelled.{seen}
-use Rattle.cov_parser.proofs.spellings.kind_in.Given as goal
+use Rattle.cov_lexer.specs.Spellings.{kind_among}
+use Rattle.cov_lexer.specs.Reading.{seen}
+use Rattle.cov_lexer.proofs.spellings.kind_in.Given as goal
 
 abbrev pub invariant-loop-spelling : goal.invariant-loop-spelling
 invariant-loop-spelling l = kind_among l.text (map seen l.table) ≡ kind_among l.text (map seen (drop l.spelling-index l.table))

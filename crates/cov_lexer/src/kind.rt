@@ -1,4 +1,4 @@
-//! The kinds of tokens, as the grammar tells them apart.
+//! The kinds of tokens, as a grammar tells them apart.
 ghost use Rattle.std.specs.Prelude.{◌≡◌};
 
 /// What a token is to the grammar.
@@ -174,7 +174,7 @@ pub enum Kind {
 
 impl Kind {
     ghost use Rattle.std.specs.Prelude.{◌≡◌};
-    ghost use Rattle.cov_grammar.specs.Kinds.{code, has};
+    ghost use Rattle.cov_lexer.specs.Kinds.{code, has};
 
     fn code(self) -> u8
         ensures { result ≡ code self }
@@ -194,15 +194,4 @@ impl Kind {
         }
         false
     }
-}
-
-/// A token of a text with its kind.
-#[derive(Clone, Copy, PartialEq, Eq)]
-pub struct Marked {
-    /// What it is to the grammar.
-    pub kind: Kind,
-    /// Where it begins, in bytes from the beginning of the text.
-    pub at: u32,
-    /// How many bytes it has, 1 at least.
-    pub len: u32,
 }
