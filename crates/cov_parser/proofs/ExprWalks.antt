@@ -1,5 +1,5 @@
 -- Where a reader of expressions stands, from one part of a rule to the next.
-use Rattle.std.proofs.Common.{◌≡◌, ℕ, zero, suc, ◌+◌, ◌-◌, ◌<◌, ◌≤◌, List, [], ◌∷◌, ◌++◌, Option, Some, None, Result, IfSome, IfNone, true, false, inl, inr, length, refl, sym, ◌∙◌, subst, arith, append-nil}
+use Rattle.std.proofs.Common.{◌≡◌, ℕ, zero, suc, ◌+◌, ◌-◌, ◌<◌, ◌≤◌, List, [], ◌∷◌, ◌++◌, Option, Some, None, IfSome, IfNone, true, false, inl, inr, length, refl, sym, ◌∙◌, subst, arith, append-nil}
 use Rattle.std.proofs.lemmas.Bool.{cases_lt}
 use Rattle.cov_tree.specs.declared.expr.Expr.{Expr}
 use Rattle.cov_tree.specs.Exprs.{number, concatenation, choice}
@@ -14,7 +14,7 @@ use Rattle.cov_grammar.specs.declared.place.Standing.TheVariants.{Plain}
 use Rattle.cov_grammar.specs.declared.place.Stop.{Stop}
 use Rattle.cov_grammar.specs.declared.place.Stop.TheVariants.{Syntax, TooDeep}
 use Rattle.cov_grammar.specs.Rule.{In, one, word, counted, offset, both, either, many, ahead, behind, maybe}
-use Rattle.cov_grammar.specs.Parses.{Reads, Fails, Parses}
+use Rattle.cov_grammar.specs.Parses.{Reads, Fails}
 use Rattle.cov_grammar.specs.Operators.{unary_kinds, level_kinds}
 use Rattle.cov_grammar.specs.Expressions.{index_kinds, number_rule, index_in, named_in, paren_in, list_in, concat_in, primary_in, signed_in, unary_in, binary_in, branches_in, expr_in, inner_at, part_expr, whole_expr, pair, snoc, spelled, literal_or, selected, before_one, joined, test_or_choice}
 use Rattle.cov_grammar.proofs.Sets.{disjoint}

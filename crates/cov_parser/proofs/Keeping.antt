@@ -1,5 +1,5 @@
 -- Tokens that keep what they spell are marked by it.
-use Rattle.std.proofs.Common.{◌≡◌, ℕ, ◌+◌, List, [], ◌∷◌, ◌++◌, Bool, Some, None, Option, false, sym, ◌∙◌, ap, subst, refl, append_assoc, slice_get}
+use Rattle.std.proofs.Common.{◌≡◌, ℕ, ◌+◌, List, [], ◌∷◌, ◌++◌, Bool, Some, None, false, ◌∙◌, ap, subst, refl, append_assoc, slice_get}
 use Rattle.cov_lexer.specs.declared.kind.Kind.{Kind}
 use Rattle.cov_lexer.specs.declared.kind.Kind.TheVariants.{Ident}
 use Rattle.cov_lexer.specs.declared.token.Token.{Token}

@@ -1,5 +1,5 @@
 -- Where a reader of selections stands, from one part of a rule to the next.
-use Rattle.std.proofs.Common.{◌≡◌, ℕ, ◌+◌, ◌-◌, ◌<◌, List, [], ◌∷◌, Option, Some, None, IfSome, IfNone, length, refl, sym, ap, subst, inl, arith}
+use Rattle.std.proofs.Common.{◌≡◌, ℕ, ◌+◌, ◌-◌, ◌<◌, List, [], ◌∷◌, Option, Some, None, IfSome, IfNone, length, refl, sym, subst, inl, arith}
 use Rattle.cov_tree.specs.declared.bins.Elem.{Elem}
 use Rattle.cov_tree.specs.declared.groups.Sel.{Sel}
 use Rattle.cov_tree.specs.Exprs.{none_of, both_of, either_of}

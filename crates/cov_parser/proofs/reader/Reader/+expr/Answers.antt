@@ -1,4 +1,4 @@
-use Rattle.std.proofs.Common.{◌-◌, ◌+◌, ◌≤◌, arith, refl}
+use Rattle.std.proofs.Common.{◌+◌, arith, refl}
 use Rattle.cov_lexer.specs.declared.kind.Kind.TheVariants.{CloseParen, CloseSquare, CloseBrace, Colon}
 use Rattle.cov_grammar.specs.declared.place.Standing.TheVariants.{Plain}
 use Rattle.cov_grammar.specs.Expressions.{pair}

@@ -1,4 +1,3 @@
-use Rattle.std.proofs.Common.{arith}
 use Rattle.cov_grammar.proofs.Steps.{exits, leads_parses}
 use Rattle.cov_grammar.proofs.GroupLaws.{sunary_lawful, sand_lawful}
 use Rattle.cov_parser.proofs.Walks.{too_deep}
