@@ -1,5 +1,6 @@
 //! The tokens of a text.
 ghost use Rattle.std.specs.Prelude.{◌≡◌, ◌≤◌, ◌≢◌, length, IfOk, IfErr};
+ghost use Rattle.cov_ground.specs.Limits.{longest_design};
 ghost use Rattle.cov_lexer.specs.declared.token.LexFault.TheVariants.{Memory};
 ghost use Rattle.cov_lexer.specs.Lexes.{Lexes, IsFault, Ascend, AllWithin};
 
@@ -11,7 +12,7 @@ use std::alloc::Global;
 ///
 /// Blanks and comments stand between tokens. The first fault of the text is answered in place of the tokens.
 pub fn lex(alloc: Global, text: &[u8]) -> Result<Vec<Token>, LexFault>
-    requires { length text.now ≤ 1048576 }
+    requires { length text.now ≤ longest_design }
     ensures read { IfOk result (λ tokens. Lexes text.now tokens.items) }
     ensures only { IfOk result
         (λ tokens. (others : _) → Lexes text.now others → others ≡ tokens.items) }

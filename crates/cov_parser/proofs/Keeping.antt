@@ -38,6 +38,8 @@ mark_next text tokens named t later rest found grown k ident i e m n g =
     let kept = kept_alone text t all.0 in
     let before : found ++ marked_from text named (t ∷ later) ≡ marked text tokens = subst (λ (xs : List Token). found ++ marked_from text named xs ≡ marked text tokens) e i.1 in
     let own : k ≡ with_neighbours named (alone text t) (next_begins text later) = m ∙ ap (λ (z : Kind). with_neighbours named z (next_begins text later)) kept in
-    let flag : ident ≡ has (alone text t) (Ident ∷ []) = n ∙ ap (λ (z : Kind). has z (Ident ∷ [])) kept in
-    (all.1, rw (g, append_assoc) (ap (λ (z : Kind). found ++ mark t z ∷ marked_from text ident later) own
-    ∙ ap (λ (b : Bool). found ++ mark t (with_neighbours named (alone text t) (next_begins text later)) ∷ marked_from text b later) flag ∙ before))
+    let flag : ident ≡ has (alone text t) (Ident ∷ []) = n ∙ ap (λ (z : Kind). has z (Ident ∷ [])) kept in (
+      all.1,
+      rw (g, append_assoc) (ap (λ (z : Kind). found ++ mark t z ∷ marked_from text ident later) own
+          ∙ ap (λ (b : Bool). found ++ mark t (with_neighbours named (alone text t) (next_begins text later)) ∷ marked_from text b later) flag ∙ before),
+    )

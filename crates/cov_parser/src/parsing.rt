@@ -1,5 +1,6 @@
 //! A whole design text.
 ghost use Rattle.std.specs.Prelude.{◌≡◌, ◌≢◌, ◌≤◌, length, IfOk, IfErr};
+ghost use Rattle.cov_ground.specs.Limits.{longest_design};
 ghost use Rattle.cov_lexer.specs.Lexes.{Lexes};
 ghost use Rattle.cov_grammar.specs.Marking.{marked};
 ghost use Rattle.cov_grammar.specs.Parses.{Parses};
@@ -27,7 +28,7 @@ const LIMITS: Room = Room {
 /// The syntax tree of a text of these tokens, or its first fault. The text has 1 MiB at most. At most 64 levels of an
 /// expression or a selection may be open at once, and each has 1,024 operators at most.
 pub fn parse(alloc: Global, text: &[u8], tokens: &[Token]) -> Result<DesignText, ParseFault>
-    requires short { length text.now ≤ 1048576 }
+    requires short { length text.now ≤ longest_design }
     requires tokens { Lexes text.now tokens.now }
     ensures read { IfOk result (λ design.
         DerivesWithin limits text.now (marked text.now tokens.now) design.decls) }
@@ -91,7 +92,7 @@ impl Reader<'_> {
 
     /// The fault of the text, by what stopped its reading.
     fn fault(self, stop: Stop) -> ParseFault
-        requires { length self.text.now ≤ 1048576 }
+        requires { length self.text.now ≤ longest_design }
         ensures { result ≡ told self.entry.text.now self.entry.tokens.now stop }
     {
         match stop {
@@ -112,7 +113,7 @@ impl Reader<'_> {
 
     /// The byte at which token k begins, or the text's length where there is none.
     fn byte_at(self, k: usize) -> u32
-        requires { length self.text.now ≤ 1048576 }
+        requires { length self.text.now ≤ longest_design }
         ensures { result ≡ place_of self.entry.text.now self.entry.tokens.now k }
     {
         match self.tokens.get(k) {
