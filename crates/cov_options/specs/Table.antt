@@ -2,6 +2,7 @@
 use Rattle.std.specs.Prelude.{◌≡◌, ℕ, ◌-◌, ◌^◌, pos, List, [], ◌∷◌, codes, Bool, true, false, Option, Some, None, Result, Err, is_ok, if◌then◌else◌}
 use Rattle.std.specs.List.{find}
 use Rattle.std.specs.Str.{bytes_eq}
+use Rattle.cov_ground.specs.Limits.{most_bins}
 use Rattle.cov_options.specs.declared.options.Options.{Options}
 use Rattle.cov_options.specs.declared.values.Level.{Level}
 use Rattle.cov_options.specs.declared.values.OptValue.{OptValue}
@@ -51,7 +52,7 @@ options =
     (λ o. o.at_least) (λ o. o.at_least_set) (λ n o. record o { at_least = n; at_least_set = true }) ∷
     number (codes "detect_overlap") 0 0 1 true false
     (λ o. o.detect_overlap) (λ o. o.detect_overlap_set) (λ n o. record o { detect_overlap = n; detect_overlap_set = true }) ∷
-    number (codes "auto_bin_max") 64 1 65536 true false
+    number (codes "auto_bin_max") 64 1 most_bins true false
     (λ o. o.auto_bin_max) (λ o. o.auto_bin_max_set) (λ n o. record o { auto_bin_max = n; auto_bin_max_set = true }) ∷
     number (codes "cross_num_print_missing") 0 0 most false true
     (λ o. o.cross_num_print_missing) (λ o. o.cross_num_print_missing_set) (λ n o. record o { cross_num_print_missing = n; cross_num_print_missing_set = true }) ∷

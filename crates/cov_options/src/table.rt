@@ -4,6 +4,7 @@ ghost use Rattle.std.specs.Prelude.{◌≡◌, true, is_ok, if◌then◌else◌}
 ghost use Rattle.cov_options.specs.Values.{numbers, texts, allows, accepts, number_of, text_of, number_in, refusal};
 
 use crate::values::{Level, OptFault, OptValue};
+use cov_ground::limits::MOST_BINS;
 use cov_tree::Name;
 
 /// An option that is a number.
@@ -76,7 +77,7 @@ pub(crate) const AUTO_BIN_MAX: NumberOption = NumberOption {
     point: true,
     cross: false,
     least: 1,
-    most: 65_536,
+    most: MOST_BINS as u32,
 };
 
 pub(crate) const CROSS_NUM_PRINT_MISSING: NumberOption = NumberOption {
