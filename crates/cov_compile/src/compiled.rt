@@ -34,7 +34,8 @@ impl Model for Compiled {
 
     ghost view = { λ c. record { text = c.text.items; design = arc_value c.design } };
 
-    ghost invariant = { λ c. (length c.text.items ≤ longest_design) × Compiles c.text.items (Ok (arc_value c.design)) };
+    ghost invariant = { λ c. (length c.text.items ≤ longest_design)
+        × Compiles c.text.items (Ok (arc_value c.design)) };
 }
 
 /// Want of memory while a text is kept.

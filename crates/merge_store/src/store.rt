@@ -38,7 +38,11 @@ pub struct Store {
     pub(crate) rows: u64,
     /// The point after the last revision, and 0 where there is none.
     pub(crate) revised: u64,
-    ghost keeps: { Keeps (arc_value opening) (arc_value design) branches (map entry_of entries.items) (map (λ e. (e.0.items, test_of e.1)) tests.entries) (map (λ e. arc_value e.1.tally) tests.entries) counts.items (map (λ p. option_map arc_value p) out.items) outs bytes rows revised } by { Prim.hlevel (props, IsWithinLimits-prop, IsDesign-prop) },
-    ghost marked: { HasMarks branches counts.items (map (λ p. option_map arc_value p) out.items) (λ bin. true) runs },
+    ghost keeps: { Keeps (arc_value opening) (arc_value design) branches
+        (map entry_of entries.items) (map (λ e. (e.0.items, test_of e.1)) tests.entries)
+        (map (λ e. arc_value e.1.tally) tests.entries) counts.items
+        (map (λ p. option_map arc_value p) out.items) outs bytes rows revised } by { Prim.hlevel (props, IsWithinLimits-prop, IsDesign-prop) },
+    ghost marked: { HasMarks branches counts.items
+        (map (λ p. option_map arc_value p) out.items) (λ bin. true) runs },
     ghost room: { vec_len entries + outs ≤ vec_capacity entries },
 }

@@ -25,7 +25,27 @@ pub struct Record {
     /// What happened, in order, at most 1,048,576 events. Their signals and instances are numbers of rows, and a known
     /// value has no more bits than its signal or argument. All of the record's bytes are at most 8,388,608.
     pub events: List<Event>,
-    pub ghost within: { IsWithinLimits (record { version = version; id = id; status = status; seed = seed; time = time; user = user; signals = signals; instances = instances; events = events }) } by { IsWithinLimits-prop (record { version = version; id = id; status = status; seed = seed; time = time; user = user; signals = signals; instances = instances; events = events }) },
+    pub ghost within: { IsWithinLimits (record {
+      version = version;
+      id = id;
+      status = status;
+      seed = seed;
+      time = time;
+      user = user;
+      signals = signals;
+      instances = instances;
+      events = events;
+    }) } by { IsWithinLimits-prop (record {
+      version = version;
+      id = id;
+      status = status;
+      seed = seed;
+      time = time;
+      user = user;
+      signals = signals;
+      instances = instances;
+      events = events;
+    }) },
 }
 
 /// The fields of a record, before they are known to be within its limits.
