@@ -29,8 +29,8 @@ pub struct Formals {
 }
 
 /// A number cut to the type of a formal.
-fn constant(shape: Shape, number: Int) -> Meaning
-    ensures { result ≡ Const (cut_to_typ shape.typ number) shape.typ (Some shape.low) }
+fn constant(shape: &Shape, number: Int) -> Meaning
+    ensures { result ≡ Const (cut_to_typ shape.now.typ number) shape.now.typ (Some shape.now.low) }
 {
     Meaning::Const {
         value: cut_to(shape.typ, number),
@@ -45,10 +45,10 @@ fn formal_meaning(
     alloc: Global,
     outside: &Outside,
     by_ref: bool,
-    shape: Shape,
+    shape: &Shape,
     expr: &Expr,
 ) -> Result<Meaning, ElabFault>
-    ensures { Gives result (formal_meant outside.now by_ref shape expr.now) }
+    ensures { Gives result (formal_meant outside.now by_ref shape.now expr.now) }
 {
     if by_ref {
         bind_in(alloc, &outside.scope, expr)?;
@@ -73,11 +73,11 @@ fn given_meaning(
     alloc: Global,
     outside: &Outside,
     by_ref: bool,
-    shape: Shape,
+    shape: &Shape,
     given: Option<&Expr>,
     at: u32,
 ) -> Result<Meaning, ElabFault>
-    ensures { Gives result (given_meant outside.now by_ref shape (option_copied given.entry) at) }
+    ensures { Gives result (given_meant outside.now by_ref shape.now (option_copied given.entry) at) }
 {
     match given {
         None => Err(ElabKind::ArgCount.at(at)),
@@ -89,11 +89,11 @@ fn given_meaning(
 fn keep_formal(
     alloc: Global,
     formal: &Formal,
-    shape: Shape,
+    shape: &Shape,
     meaning: Meaning,
     all: &mut Formals,
 ) -> Result<(), Memory>
-    ensures { OnOk result (all.new ≡ with_formal formal.now.by_ref formal.now.name shape meaning all.old) }
+    ensures { OnOk result (all.new ≡ with_formal formal.now.by_ref formal.now.name shape.now meaning all.old) }
 {
     let what = What::Formal {
         by_ref: formal.by_ref,
@@ -119,8 +119,8 @@ fn add_formal(
     check_unused(&all.names, &formal.name, formal.at)?;
     let shape = read_shape(alloc, outside, &formal.typ, formal.at)?;
     let given = argument(args, place, &formal.default);
-    let meaning = given_meaning(alloc, outside, formal.by_ref, shape, given, at)?;
-    keep_formal(alloc, formal, shape, meaning, all)?;
+    let meaning = given_meaning(alloc, outside, formal.by_ref, &shape, given, at)?;
+    keep_formal(alloc, formal, &shape, meaning, all)?;
     Ok(())
 }
 

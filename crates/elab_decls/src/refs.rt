@@ -36,8 +36,8 @@ fn is_enumerated_alike(enumeration: Option<u32>, other: Option<u32>) -> bool
     }
 }
 
-fn is_alike(shape: Shape, typ: Typ, enumeration: Option<u32>) -> bool
-    ensures { result ≡ is_alike_meant shape typ enumeration }
+fn is_alike(shape: &Shape, typ: Typ, enumeration: Option<u32>) -> bool
+    ensures { result ≡ is_alike_meant shape.now typ enumeration }
 {
     typ.width() == shape.typ.width()
         && is_signed_alike(typ.is_signed(), shape.typ.is_signed())
@@ -46,20 +46,20 @@ fn is_alike(shape: Shape, typ: Typ, enumeration: Option<u32>) -> bool
 
 #[tactic(auto, unfolding(elab_base::specs::Gives::needs))]
 fn variable(
-    shape: Shape,
+    shape: &Shape,
     meaning: Option<Meaning>,
     named: Option<What>,
     at: u32,
 ) -> Result<Meaning, ElabFault>
-    ensures { Gives result (variable_meant shape meaning named at) }
+    ensures { Gives result (variable_meant shape.now meaning named at) }
 {
-    match meaning {
+    match &meaning {
         Some(Meaning::Signal { index, typ, .. }) => {
-            if !is_alike(shape, typ, enumeration_of(named)) {
+            if !is_alike(shape, *typ, enumeration_of(named)) {
                 return Err(ElabKind::RefNotVariable.at(at));
             }
             Ok(Meaning::Signal {
-                index,
+                index: *index,
                 typ: shape.typ,
                 low: shape.low,
             })
@@ -79,10 +79,10 @@ fn what_is(outside: &Outside, name: &Name) -> Option<What>
 /// sign and enumeration. Another expression is RefNotVariable.
 pub(crate) fn ref_meaning(
     outside: &Outside,
-    shape: Shape,
+    shape: &Shape,
     expr: &Expr,
 ) -> Result<Meaning, ElabFault>
-    ensures { Gives result (ref_meant outside.now shape expr.now) }
+    ensures { Gives result (ref_meant outside.now shape.now expr.now) }
 {
     match expr {
         Expr::Name { name, at } => variable(

@@ -55,13 +55,7 @@ fn range_text(alloc: Global, low: Int, high: Int) -> Result<Vec<u8>, Memory>
 }
 
 /// The bin `auto[index]` of these numbers, of a point that stands there.
-fn auto_made(
-    alloc: Global,
-    at: u32,
-    index: &[u8],
-    low: Int,
-    high: Int,
-) -> Result<Made, Memory>
+fn auto_made(alloc: Global, at: u32, index: &[u8], low: Int, high: Int) -> Result<Made, Memory>
     ensures { IfOk result (λ made. made ≡ value_bin (auto_head at) (indexed (codes "auto") index.now) (set_of (written ((low, high) ∷ [])))) }
 {
     let name = indexed_name(alloc, b"auto".as_slice(), index)?;
