@@ -14,10 +14,10 @@ use Rattle.cross_select.proofs.select.Select.TheLaws.TheKnot as select_knot
 use Rattle.cross_select.specs.contracts.select.Select as select
 
 pub typed_field_send : IsSend (typed.the_field).row
-typed_field_send = search (sendable, crosses, typed_knot.crosses, typ.the_field_send, meaning.the_field_send, unary.the_field_send, binary.the_field_send) depth 30
+typed_field_send = search (sendable, crosses, typed_knot.crosses, typ.the_send, meaning.the_field_send, unary.the_field_send, binary.the_field_send) depth 30
 
 pub typed_field_sync : IsSync (typed.the_field).row
-typed_field_sync = search (sendable, crosses, typed_knot.crosses, typ.the_field_sync, meaning.the_field_sync, unary.the_field_sync, binary.the_field_sync) depth 30
+typed_field_sync = search (sendable, crosses, typed_knot.crosses, typ.the_sync, meaning.the_field_sync, unary.the_field_sync, binary.the_field_sync) depth 30
 
 pub bound_send : IsSend bound.the_row
 bound_send = search (sendable, crosses, typed_field_send) depth 30
