@@ -8,3 +8,4 @@ pub mod Stops
 pub mod Lawful
 pub mod Watching
 pub mod Scoped
+pub mod Numbered
