@@ -9,12 +9,12 @@ ghost use Rattle.merge_store.specs.Now.{nodes_now, outs_now};
 ghost use Rattle.merge_store.specs.Told.{Gives, Makes, excluded, not_excluded, included};
 ghost use Rattle.merge_store.specs.Stores.{opening_of, entries_of};
 
-use crate::amounts::MOST_HISTORY;
 use crate::held::{Held, HeldEvent};
 use crate::marks::mark_bin;
 use crate::room::{is_some_at, put, put_at, take_at};
 use crate::{ExcludeFault, IncludeFault, Store};
 use cov_base::Memory;
+use cov_ground::limits::MOST_HISTORY;
 use cov_tree::Name;
 use std::alloc::Global;
 use std::sync::Arc;
