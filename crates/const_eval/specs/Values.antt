@@ -88,6 +88,12 @@ both_true x y = if is_false x || is_false y then Some (pos 0) else on_both (λ _
 abbrev pub either_true : (x y : Option ℤ) → Option ℤ
 either_true x y = if is_true x || is_true y then Some (pos 1) else on_both (λ _ _. Some (pos 0)) x y
 
+-- the left operand decides by itself, whatever the right one is
+abbrev pub is_decided : BinOp → (left : Option ℤ) → Bool
+is_decided binary.LogAnd left = is_false left
+is_decided binary.LogOr left = is_true left
+is_decided op left = false
+
 -- a number divided by another, if that isn't 0
 abbrev pub unless_zero : ℤ → ℤ → Option ℤ
 unless_zero y result = if is_zero y then None else Some result

@@ -2,7 +2,7 @@
 ghost use Rattle.std.specs.Prelude.{◌≡◌, ◌≤◌, ℤ, ℕ, Option, Some, true, false};
 ghost use Rattle.cov_base.specs.Sets.{IsInt};
 ghost use Rattle.const_eval.specs.Typs.{Typ as Whole};
-ghost use Rattle.const_eval.specs.Values.{combined, both_true as both_true_of, either_true as either_true_of, single, given, truth as truth_of, is_zero as tests_zero};
+ghost use Rattle.const_eval.specs.Values.{combined, both_true as both_true_of, either_true as either_true_of, is_decided, is_false, is_true, single, given, truth as truth_of, is_zero as tests_zero};
 
 use crate::Typ;
 use crate::bits::{cut, low_bits, ones};
@@ -38,32 +38,28 @@ pub(crate) fn put(out: &mut i128, value: i128) -> bool
     true
 }
 
-/// Puts the value of `&&` on two values that may be missing into `out`, which holds the first.
+/// Puts the value of `&&` on two values that may be missing into `out`, which holds the first. The first isn't 0.
 #[inline(always)]
 fn both_true(first: bool, second: bool, right: i128, out: &mut i128) -> bool
-    requires { IsInt out.old }
+    requires before { IsInt out.old }
+    requires undecided { is_false (given first out.old) ≡ false }
     ensures value { given result out.new ≡ both_true_of (given first out.old) (given second right) }
     ensures range { IsInt out.new }
 {
-    if first && is_zero(*out) {
-        return put(out, 0);
-    }
     if second && is_zero(right) {
         return put(out, 0);
     }
     first && second && put(out, 1)
 }
 
-/// Puts the value of `||` on two values that may be missing into `out`, which holds the first.
+/// Puts the value of `||` on two values that may be missing into `out`, which holds the first. The first is 0, or missing.
 #[inline(always)]
 fn either_true(first: bool, second: bool, right: i128, out: &mut i128) -> bool
-    requires { IsInt out.old }
+    requires before { IsInt out.old }
+    requires undecided { is_true (given first out.old) ≡ false }
     ensures value { given result out.new ≡ either_true_of (given first out.old) (given second right) }
     ensures range { IsInt out.new }
 {
-    if first && !is_zero(*out) {
-        return put(out, 1);
-    }
     if second && !is_zero(right) {
         return put(out, 1);
     }
@@ -77,6 +73,7 @@ pub(crate) fn decide(op: BinOp, left: bool, out: &mut i128) -> bool
     requires { IsInt out.old }
     ensures decided { result ≡ true → (whole : Whole) (amount : ℕ) (y : Option ℤ)
         → Some out.new ≡ combined op whole amount (given left out.old) y }
+    ensures undecided { result ≡ false → is_decided op (given left out.new) ≡ false }
     ensures kept { result ≡ false → out.new ≡ out.old }
     ensures range { IsInt out.new }
 {
@@ -93,8 +90,8 @@ pub(crate) fn decide(op: BinOp, left: bool, out: &mut i128) -> bool
     }
 }
 
-/// Puts the value of an operation on two values that may be missing into `out`, which holds the first. The right operand
-/// has the type `right_typ`.
+/// Puts the value of an operation on two values that may be missing into `out`, which holds the first, where that doesn't
+/// decide by itself. The right operand has the type `right_typ`.
 #[inline(always)]
 pub(crate) fn combine(
     op: BinOp,
@@ -107,6 +104,7 @@ pub(crate) fn combine(
 ) -> bool
     requires operand { IsInt y }
     requires before { IsInt out.old }
+    requires undecided { is_decided op (given left out.old) ≡ false }
     ensures value { given result out.new ≡ combined op whole right_typ.width (given left out.old) (given right y) }
     ensures range { IsInt out.new }
 {
@@ -123,12 +121,14 @@ pub(crate) fn combine(
     }
 }
 
-/// Puts the value of an operation on two known values into `out`, which holds the first; the whole has the type `whole`,
-/// and the right operand of a shift has `amount` bits. Answers whether there is one.
+/// Puts the value of an operation on two known values into `out`, which holds the first, where that doesn't decide by
+/// itself; the whole has the type `whole`, and the right operand of a shift has `amount` bits. Answers whether there is
+/// one.
 #[inline(always)]
 fn operate(op: BinOp, whole: Typ, amount: Width, y: i128, out: &mut i128) -> bool
     requires right { IsInt y }
     requires before { IsInt out.old }
+    requires undecided { is_decided op (Some out.old) ≡ false }
     ensures value { given result out.new ≡ combined op whole amount (Some out.old) (Some y) }
     ensures range { IsInt out.new }
 {
