@@ -1,5 +1,5 @@
 //! Street: definitions.
 //!
-//! Definitions that the crates of value bins cite: the numbers of a type, and how a list is spread over bins. It has
-//! no code.
+//! Definitions that the crates of value bins cite: the numbers of a type and their bits, and how a list is spread over
+//! bins. It has no code.
 #![tactic(auto)]

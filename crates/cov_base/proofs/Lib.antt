@@ -3,6 +3,7 @@ pub mod Cuts
 pub mod Finds
 pub mod Joins
 pub mod Laws
+pub mod Masks
 pub mod Members
 pub mod Merges
 pub mod Normal

@@ -1,3 +1,4 @@
+pub mod Amounts
 pub mod Intervals
 pub mod Kept
 pub mod Loads

@@ -1,7 +1,7 @@
 -- What the objects in memory hold.
-use Rattle.std.specs.Prelude.{◌≡◌, ℕ, List, length, map, min, string_bytes, String, Option, Result, Ok, IfOk, is_ok, is_err, false, if◌then◌else◌}
+use Rattle.std.specs.Prelude.{◌≡◌, ◌⊎◌, ℕ, List, [], ◌∷◌, length, map, min, string_bytes, String, Option, Result, Ok, IfOk, is_err, true, false}
 use Rattle.std.specs.Global.{Vec, Global}
-use Rattle.cov_base.specs.Plan.{Plan, called, refused, is_due}
+use Rattle.cov_base.specs.Plan.{Plan, called, answered, is_due}
 use Rattle.cov_base.specs.declared.failed.Failed.{Failed}
 
 -- a source: the bytes still to come, and the most that it hands over in one call
@@ -50,7 +50,7 @@ pub record Takes (old : Store) (bytes : ℕ) (result : Result ℕ Failed) (new :
 -- the same where calls fail by a plan, and where memory runs out
 pub record TakesByPlan (old : PlannedStore) (bytes : ℕ) (result : Result ℕ Failed) (new : PlannedStore) : Type 0 where
   pub due : IfOk result (λ _. is_due old.plan ≡ false)
-  pub plan : new.plan ≡ (if is_ok result then called old.plan else refused old.plan)
+  pub plan : new.plan ≡ answered result old.plan
   pub count : IfOk result (λ n. n ≡ min old.piece bytes)
   pub piece : new.piece ≡ old.piece
 
@@ -78,3 +78,11 @@ pub record PlannedLinks : Type 0 where
   pub links : List PlannedWire
   pub handed : ℕ
   pub plan : Plan
+
+-- a call of a door hands out the first link that is left
+abbrev pub HandsOut : PlannedLinks → PlannedWire → PlannedLinks → Type 0
+HandsOut old link new = (is_due old.plan ≡ false) × (old.links ≡ link ∷ new.links)
+
+-- a call of a door fails, by the plan or since no link is left, and the links stay
+abbrev pub HandsOutNone : PlannedLinks → PlannedLinks → Type 0
+HandsOutNone old new = (new.links ≡ old.links) × ((is_due old.plan ≡ true) ⊎ (old.links ≡ []))

@@ -1,5 +1,5 @@
 -- Which calls of an object in memory are to fail.
-use Rattle.std.specs.Prelude.{ℕ, ◌+◌, ◌-◌, ◌^◌, ◌==◌, min, List, Bool, if◌then◌else◌}
+use Rattle.std.specs.Prelude.{ℕ, ◌+◌, ◌-◌, ◌^◌, ◌==◌, min, List, Bool, Result, is_ok, if◌then◌else◌}
 use Rattle.std.specs.List.{list_any}
 
 -- the calls so far, the numbers of the calls that are to fail, the first call being 0, and how many failed
@@ -20,6 +20,10 @@ is_due plan = list_any (λ call. call == plan.calls) plan.failing
 abbrev pub one_more : ℕ → ℕ
 one_more n = min (n + 1) (2 ^ 64 - 1)
 
+-- one more where the call succeeded
+abbrev pub one_more_at_ok : {T E : Type 0} → Result T E → ℕ → ℕ
+one_more_at_ok result n = if is_ok result then one_more n else n
+
 -- after one more call
 abbrev pub called : Plan → Plan
 called plan = record { calls = one_more plan.calls; failing = plan.failing; faults = if is_due plan then one_more plan.faults else plan.faults }
@@ -27,3 +31,7 @@ called plan = record { calls = one_more plan.calls; failing = plan.failing; faul
 -- after one more call that memory made fail
 abbrev pub refused : Plan → Plan
 refused plan = record { calls = one_more plan.calls; failing = plan.failing; faults = one_more plan.faults }
+
+-- after one more call with this answer, which may have failed for another cause than the plan
+abbrev pub answered : {T E : Type 0} → Result T E → Plan → Plan
+answered result plan = if is_ok result then called plan else refused plan

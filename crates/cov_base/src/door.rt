@@ -1,7 +1,7 @@
 //! Where links come from.
-ghost use Rattle.std.specs.Prelude.{◌≡◌, ℕ, is_ok, if◌then◌else◌};
+ghost use Rattle.std.specs.Prelude.{◌≡◌, ℕ};
 ghost use Rattle.cov_spec.specs.Causes.{HasCause};
-ghost use Rattle.cov_base.specs.Plan.{one_more};
+ghost use Rattle.cov_base.specs.Plan.{one_more_at_ok};
 
 use crate::{Failed, Link};
 
@@ -17,7 +17,6 @@ pub trait Door {
 
     /// The next link. It may wait for one.
     fn accept(&mut self) -> Result<Self::Wire, Failed>
-        ensures handed { handed self.new
-            ≡ (if is_ok result then one_more (handed self.old) else handed self.old) }
+        ensures handed { handed self.new ≡ one_more_at_ok result (handed self.old) }
         ensures cause { HasCause (faults self.old) (faults self.new) result };
 }

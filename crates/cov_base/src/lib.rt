@@ -31,7 +31,7 @@ pub use memory::link::{MemLink, SureLink};
 pub use memory::shelf::{MemShelf, SureShelf};
 pub use memory::sink::{MemSink, SureSink};
 pub use memory::source::{MemSource, SureSource};
-pub use numbers::{highest_of, lowest_of, power_of_two, size_of};
+pub use numbers::{highest_of, lowest_of, ones, power_of_two, read_bits, size_of};
 pub use sets::ValueSet;
 pub use shelf::{Shelf, ShelfRefusal};
 pub use sink::Sink;

@@ -1,8 +1,9 @@
 //! Both ways at once: bytes in and bytes out.
-ghost use Rattle.std.specs.Prelude.{◌≡◌, ℕ, ◌<◌, ◌≤◌, List, Option, length, IfOk};
+ghost use Rattle.std.specs.Prelude.{◌≡◌, ℕ, ◌<◌, List, Option, length};
 ghost use Rattle.std.specs.Io.{ReadsAtMost};
 ghost use Rattle.cov_spec.specs.Causes.{HasCause};
 ghost use Rattle.cov_spec.specs.Told.{Reads, Writes};
+ghost use Rattle.cov_base.specs.Amounts.{WritesSome};
 
 use crate::{Failed, Sink, Source};
 
@@ -32,7 +33,7 @@ pub trait Link {
     /// Writes as a `Sink` does. What is left stays.
     fn write(&mut self, bytes: &[u8]) -> Result<usize, Failed>
         requires { 0 < length bytes.now }
-        ensures bound { IfOk result (λ n. (0 < n) × (n ≤ length bytes.now)) }
+        ensures bound { WritesSome result bytes.now }
         ensures bytes { Writes (written self.old) (written self.new) result bytes.now }
         ensures cause { HasCause (write_faults self.old) (write_faults self.new) result }
         ensures same_left { left self.new ≡ left self.old }
@@ -58,9 +59,12 @@ impl<S: Source, K: Sink> Link for Pair<'_, S, K> {
     fn read(&mut self, into: &mut [u8]) -> Result<usize, Failed>
         requires { 0 < length into.old }
         ensures bound { ReadsAtMost result into.new }
-        ensures bytes { Reads (S.left self.old.source.now) (S.left self.new.source.now) result into.new }
-        ensures cause { HasCause (S.faults self.old.source.now) (S.faults self.new.source.now) result }
-        ensures call { S.read_gives self.old.source.now into.old result self.new.source.now into.new }
+        ensures bytes { Reads (S.left self.old.source.now) (S.left self.new.source.now)
+            result into.new }
+        ensures cause { HasCause (S.faults self.old.source.now) (S.faults self.new.source.now)
+            result }
+        ensures call { S.read_gives self.old.source.now into.old
+            result self.new.source.now into.new }
         ensures sink { self.new.sink.now ≡ self.old.sink.now }
     {
         self.source.read(into)
@@ -68,8 +72,9 @@ impl<S: Source, K: Sink> Link for Pair<'_, S, K> {
 
     fn write(&mut self, bytes: &[u8]) -> Result<usize, Failed>
         requires { 0 < length bytes.now }
-        ensures bound { IfOk result (λ n. (0 < n) × (n ≤ length bytes.now)) }
-        ensures bytes { Writes (K.written self.old.sink.now) (K.written self.new.sink.now) result bytes.now }
+        ensures bound { WritesSome result bytes.now }
+        ensures bytes { Writes (K.written self.old.sink.now) (K.written self.new.sink.now)
+            result bytes.now }
         ensures cause { HasCause (K.faults self.old.sink.now) (K.faults self.new.sink.now) result }
         ensures call { K.write_gives self.old.sink.now bytes.now result self.new.sink.now }
         ensures source { self.new.source.now ≡ self.old.source.now }

@@ -1,10 +1,11 @@
-//! How many numbers a range and a type have, and the ends of a type.
-ghost use Rattle.std.specs.Prelude.{◌≡◌, ℕ, ◌<◌, ◌≤◌, ◌*◌, ◌^◌, pos, ◌+ℤ◌, ◌≤ℤ◌};
-ghost use Rattle.bin_spec.specs.Types.{lowest, highest};
+//! How many numbers a range and a type have, the ends of a type, and numbers of bits.
+ghost use Rattle.std.specs.Prelude.{◌≡◌, ℕ, ◌<◌, ◌≤◌, ◌-◌, ◌*◌, ◌^◌, pos, ◌+ℤ◌, ◌≤ℤ◌};
+ghost use Rattle.bin_spec.specs.Types.{lowest, highest, number_of};
 ghost use Rattle.cov_ground.specs.Limits.{most_bits};
 ghost use Rattle.cov_base.specs.Sets.{size, greatest};
 
 use crate::Int;
+use cov_ground::limits::MOST_BITS;
 
 /// How many numbers stand from the low to the high end: none where the ends are the wrong way round, and at most
 /// 2^64 + 2^63.
@@ -28,6 +29,16 @@ pub fn power_of_two(bits: u8) -> u128
     ensures { result ≡ 2 ^ bits }
 {
     1 << bits
+}
+
+/// So many ones: the greatest number of so many bits.
+#[inline(always)]
+pub fn ones(bits: u8) -> u64
+    requires narrowest { 1 ≤ bits }
+    requires widest { bits ≤ most_bits }
+    ensures { result ≡ 2 ^ bits - 1 }
+{
+    u64::MAX >> (MOST_BITS - bits)
 }
 
 /// The least number of a type of so many bits, in two's complement where it is signed (IEEE 1800-2017, 6.11).
@@ -55,5 +66,22 @@ pub fn highest_of(width: u8, signed: bool) -> Int
         Int::of((1 << (width - 1)) - 1)
     } else {
         Int::of((1 << width) - 1)
+    }
+}
+
+/// The number that bits stand for: they are read without a sign, or in two's complement where it is signed (IEEE
+/// 1800-2017, 6.11.3).
+#[inline(always)]
+pub fn read_bits(width: u8, signed: bool, bits: u64) -> Int
+    requires narrowest { 1 ≤ width }
+    requires widest { width ≤ most_bits }
+    ensures { result ≡ number_of width signed bits }
+{
+    let number = i128::from(bits);
+    let half = 1u64 << (width - 1);
+    if signed && half <= bits {
+        Int::of(number - 2 * i128::from(half))
+    } else {
+        Int::of(number)
     }
 }

@@ -1,5 +1,6 @@
 //! Whole files by name.
-ghost use Rattle.std.specs.Prelude.{◌≡◌, ℕ, ◌≤◌, List, Option, length, IfOk};
+ghost use Rattle.std.specs.Prelude.{◌≡◌, ℕ, ◌≤◌, List, Option};
+ghost use Rattle.cov_base.specs.Amounts.{LoadsAtMost};
 ghost use Rattle.cov_base.specs.Loads.{Loads};
 
 use std::alloc::Global;
@@ -34,7 +35,7 @@ pub trait Shelf {
     fn load(&mut self, alloc: Global, name: &str, most: u64) -> Result<Vec<u8>, ShelfRefusal>
         ensures same { files self.new ≡ files self.old }
         ensures later { faults self.old ≤ faults self.new }
-        ensures bound { IfOk result (λ bytes. length bytes.items ≤ most) }
+        ensures bound { LoadsAtMost result most }
         ensures loads { Loads (files self.old) (faults self.old) (faults self.new)
             name.now most result };
 }

@@ -1,7 +1,8 @@
 //! Where bytes go to.
-ghost use Rattle.std.specs.Prelude.{ℕ, ◌<◌, ◌≤◌, List, Option, Result, length, IfOk};
+ghost use Rattle.std.specs.Prelude.{ℕ, ◌<◌, List, Option, Result, length};
 ghost use Rattle.cov_spec.specs.Told.{Writes};
 ghost use Rattle.cov_spec.specs.Causes.{HasCause};
+ghost use Rattle.cov_base.specs.Amounts.{WritesSome};
 ghost use Rattle.cov_base.specs.declared.failed.Failed.{Failed};
 
 use crate::Failed;
@@ -21,7 +22,7 @@ pub trait Sink {
     /// Appends the first n bytes, at least one of them, at `Ok(n)`, and none where it fails.
     fn write(&mut self, bytes: &[u8]) -> Result<usize, Failed>
         requires { 0 < length bytes.now }
-        ensures bound { IfOk result (λ n. (0 < n) × (n ≤ length bytes.now)) }
+        ensures bound { WritesSome result bytes.now }
         ensures bytes { Writes (written self.old) (written self.new) result bytes.now }
         ensures cause { HasCause (faults self.old) (faults self.new) result }
         ensures gives { write_gives self.old bytes.now result self.new };

@@ -1,7 +1,8 @@
 //! A door in memory.
-ghost use Rattle.std.specs.Prelude.{◌≡◌, ◌∷◌, [], ◌⊎◌, IfOk, OnErr, is_ok, if◌then◌else◌, true, false, length};
+ghost use Rattle.std.specs.Prelude.{◌≡◌, IfOk, OnErr};
 ghost use Rattle.cov_spec.specs.Causes.{HasCause};
-ghost use Rattle.cov_base.specs.Plan.{planned, called, refused, is_due, one_more};
+ghost use Rattle.cov_base.specs.Memory.{HandsOut, HandsOutNone};
+ghost use Rattle.cov_base.specs.Plan.{planned, answered, one_more_at_ok};
 
 use crate::memory::plan::Failing;
 use crate::{Door, Failed, MemLink};
@@ -47,11 +48,11 @@ impl Door for MemDoor {
     ghost faults = { λ door. door.plan.faults };
 
     fn accept(&mut self) -> Result<MemLink, Failed>
-        ensures handed { self.new.handed ≡ (if is_ok result then one_more self.old.handed else self.old.handed) }
+        ensures handed { self.new.handed ≡ one_more_at_ok result self.old.handed }
         ensures cause { HasCause self.old.plan.faults self.new.plan.faults result }
-        ensures plan { self.new.plan ≡ (if is_ok result then called self.old.plan else refused self.old.plan) }
-        ensures link { IfOk result (λ link. (is_due self.old.plan ≡ false) × (self.old.links ≡ link ∷ self.new.links)) }
-        ensures failed { OnErr result ((self.new.links ≡ self.old.links) × ((is_due self.old.plan ≡ true) ⊎ (self.old.links ≡ []))) }
+        ensures plan { self.new.plan ≡ answered result self.old.plan }
+        ensures link { IfOk result (λ link. HandsOut self.old link self.new) }
+        ensures failed { OnErr result (HandsOutNone self.old self.new) }
     {
         self.plan.call()?;
         match self.links.next() {

@@ -1,8 +1,9 @@
 //! Links in memory.
-ghost use Rattle.std.specs.Prelude.{◌≡◌, ◌<◌, ◌≤◌, [], length, Some, IfOk, option_map};
+ghost use Rattle.std.specs.Prelude.{◌≡◌, ◌<◌, [], length, Some, option_map};
 ghost use Rattle.std.specs.Io.{ReadsAtMost};
 ghost use Rattle.cov_spec.specs.Causes.{HasCause};
 ghost use Rattle.cov_spec.specs.Told.{Reads, Writes};
+ghost use Rattle.cov_base.specs.Amounts.{WritesSome};
 ghost use Rattle.cov_base.specs.Memory.{Feeds, FeedsByPlan, Takes, TakesByPlan};
 ghost use Rattle.cov_base.specs.Plan.{planned};
 
@@ -60,7 +61,8 @@ impl Link for SureLink {
     fn read(&mut self, into: &mut [u8]) -> Result<usize, Failed>
         requires { 0 < length into.old }
         ensures bound { ReadsAtMost result into.new }
-        ensures bytes { Reads (Some self.old.source.left) (Some self.new.source.left) result into.new }
+        ensures bytes { Reads (Some self.old.source.left) (Some self.new.source.left)
+            result into.new }
         ensures cause { HasCause 0 0 result }
         ensures call { Feeds self.old.source (length into.old) result self.new.source }
         ensures sink { self.new.sink ≡ self.old.sink }
@@ -70,7 +72,7 @@ impl Link for SureLink {
 
     fn write(&mut self, bytes: &[u8]) -> Result<usize, Failed>
         requires { 0 < length bytes.now }
-        ensures bound { IfOk result (λ n. (0 < n) × (n ≤ length bytes.now)) }
+        ensures bound { WritesSome result bytes.now }
         ensures bytes { Writes self.old.sink.written self.new.sink.written result bytes.now }
         ensures cause { HasCause 0 0 result }
         ensures call { Takes self.old.sink (length bytes.now) result self.new.sink }
@@ -138,7 +140,8 @@ impl Link for MemLink {
     fn read(&mut self, into: &mut [u8]) -> Result<usize, Failed>
         requires { 0 < length into.old }
         ensures bound { ReadsAtMost result into.new }
-        ensures bytes { Reads (Some self.old.source.left) (Some self.new.source.left) result into.new }
+        ensures bytes { Reads (Some self.old.source.left) (Some self.new.source.left)
+            result into.new }
         ensures cause { HasCause self.old.source.plan.faults self.new.source.plan.faults result }
         ensures call { FeedsByPlan self.old.source (length into.old) result self.new.source }
         ensures sink { self.new.sink ≡ self.old.sink }
@@ -148,8 +151,9 @@ impl Link for MemLink {
 
     fn write(&mut self, bytes: &[u8]) -> Result<usize, Failed>
         requires { 0 < length bytes.now }
-        ensures bound { IfOk result (λ n. (0 < n) × (n ≤ length bytes.now)) }
-        ensures bytes { Writes (Some self.old.sink.written) (Some self.new.sink.written) result bytes.now }
+        ensures bound { WritesSome result bytes.now }
+        ensures bytes { Writes (Some self.old.sink.written) (Some self.new.sink.written)
+            result bytes.now }
         ensures cause { HasCause self.old.sink.plan.faults self.new.sink.plan.faults result }
         ensures call { TakesByPlan self.old.sink (length bytes.now) result self.new.sink }
         ensures source { self.new.source ≡ self.old.source }

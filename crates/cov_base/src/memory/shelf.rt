@@ -1,6 +1,7 @@
 //! Shelves in memory.
-ghost use Rattle.std.specs.Prelude.{◌≡◌, ◌≤◌, ℕ, length, Some, IfOk, option_map, List, Err, true};
+ghost use Rattle.std.specs.Prelude.{◌≡◌, ◌≤◌, ℕ, Some, option_map, List, Err, true};
 ghost use Rattle.cov_spec.specs.Files.{file_of};
+ghost use Rattle.cov_base.specs.Amounts.{LoadsAtMost};
 ghost use Rattle.cov_base.specs.Loads.{Loads};
 ghost use Rattle.cov_base.specs.Memory.{told};
 ghost use Rattle.cov_base.specs.Plan.{planned, called, is_due};
@@ -51,7 +52,7 @@ impl Shelf for SureShelf {
     fn load(&mut self, alloc: Global, name: &str, most: u64) -> Result<Vec<u8>, ShelfRefusal>
         ensures same { Some self.new ≡ Some self.old }
         ensures later { 0 ≤ 0 }
-        ensures bound { IfOk result (λ bytes. length bytes.items ≤ most) }
+        ensures bound { LoadsAtMost result most }
         ensures loads { Loads (Some self.old) 0 0 name.now most result }
         ensures files { self.new ≡ self.old }
     {
@@ -101,8 +102,9 @@ impl Shelf for MemShelf {
     fn load(&mut self, alloc: Global, name: &str, most: u64) -> Result<Vec<u8>, ShelfRefusal>
         ensures same { Some self.new.files ≡ Some self.old.files }
         ensures later { self.old.plan.faults ≤ self.new.plan.faults }
-        ensures bound { IfOk result (λ bytes. length bytes.items ≤ most) }
-        ensures loads { Loads (Some self.old.files) self.old.plan.faults self.new.plan.faults name.now most result }
+        ensures bound { LoadsAtMost result most }
+        ensures loads { Loads (Some self.old.files) self.old.plan.faults self.new.plan.faults
+            name.now most result }
         ensures plan { self.new.plan ≡ called self.old.plan }
         ensures due { is_due self.old.plan ≡ true → result ≡ Err ShelfRefusal.Failed }
         ensures failed { result ≡ Err ShelfRefusal.Failed → is_due self.old.plan ≡ true }

@@ -1,7 +1,8 @@
 //! Sinks in memory.
-ghost use Rattle.std.specs.Prelude.{◌≡◌, ◌<◌, ◌≤◌, [], length, Some, IfOk, option_map};
+ghost use Rattle.std.specs.Prelude.{◌≡◌, ◌<◌, [], length, Some, option_map};
 ghost use Rattle.cov_spec.specs.Causes.{HasCause};
 ghost use Rattle.cov_spec.specs.Told.{Writes};
+ghost use Rattle.cov_base.specs.Amounts.{WritesSome};
 ghost use Rattle.cov_base.specs.Memory.{Takes, TakesByPlan};
 ghost use Rattle.cov_base.specs.Plan.{planned};
 
@@ -63,7 +64,7 @@ impl Sink for SureSink {
 
     fn write(&mut self, bytes: &[u8]) -> Result<usize, Failed>
         requires { 0 < length bytes.now }
-        ensures bound { IfOk result (λ n. (0 < n) × (n ≤ length bytes.now)) }
+        ensures bound { WritesSome result bytes.now }
         ensures bytes { Writes self.old.written self.new.written result bytes.now }
         ensures cause { HasCause 0 0 result }
         ensures gives { Takes self.old (length bytes.now) result self.new }
@@ -126,7 +127,7 @@ impl Sink for MemSink {
 
     fn write(&mut self, bytes: &[u8]) -> Result<usize, Failed>
         requires { 0 < length bytes.now }
-        ensures bound { IfOk result (λ n. (0 < n) × (n ≤ length bytes.now)) }
+        ensures bound { WritesSome result bytes.now }
         ensures bytes { Writes (Some self.old.written) (Some self.new.written) result bytes.now }
         ensures cause { HasCause self.old.plan.faults self.new.plan.faults result }
         ensures gives { TakesByPlan self.old (length bytes.now) result self.new }
