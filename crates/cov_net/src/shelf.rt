@@ -2,6 +2,7 @@
 ghost use Rattle.std.specs.Prelude.{◌≡◌, ◌≢◌, ◌+◌, ◌<◌, ◌≤◌, ℕ, List, Option, None, IfOk, IfErr, OnOk, length, ◌++◌, vec_len};
 ghost use Rattle.std.specs.IoError.{error_kind};
 ghost use Rattle.std.specs.Io.KnownBytes.{Consumes, IsAtEnd};
+ghost use Rattle.cov_base.specs.Amounts.{LoadsAtMost};
 ghost use Rattle.cov_base.specs.Loads.{Loads};
 ghost use Rattle.cov_net.specs.Sizes.{IsSize, IsReadRefusal, IsFileRefusal};
 ghost use Rattle.cov_net.specs.Counted.{CountedLoad, IsUntoldRefusal};
@@ -79,7 +80,7 @@ pub(crate) fn read_whole<F: Read>(
     size: u64,
     most: u64,
 ) -> Result<Vec<u8>, ShelfRefusal>
-    ensures bound { IfOk result (λ bytes. length bytes.items ≤ most) }
+    ensures bound { LoadsAtMost result most }
     ensures refusal { IfErr result (IsReadRefusal (F.remaining file.old) (F.remaining file.new) 0 most PIECE) }
     ensures bytes { IfOk result (λ bytes. Consumes (F.remaining file.old) (F.remaining file.new) bytes.items) }
     ensures end { OnOk result (IsAtEnd (F.remaining file.new)) }
@@ -105,7 +106,7 @@ fn read_file<D: Disk>(
     name: &str,
     most: u64,
 ) -> Result<Vec<u8>, ShelfRefusal>
-    ensures bound { IfOk result (λ bytes. length bytes.items ≤ most) }
+    ensures bound { LoadsAtMost result most }
     ensures refusal { IfErr result (IsFileRefusal (D.opens disk.now name.now) D.tells most PIECE) }
 {
     let mut file = match disk.open(name) {
@@ -152,7 +153,7 @@ impl<R: Files> Shelf for FileShelf<'_, R> {
     fn load(&mut self, alloc: Global, name: &str, most: u64) -> Result<Vec<u8>, ShelfRefusal>
         ensures same { ◌≡◌ {A = Option (List (List ℕ × List ℕ))} None None }
         ensures later { self.old ≤ self.new }
-        ensures bound { IfOk result (λ bytes. length bytes.items ≤ most) }
+        ensures bound { LoadsAtMost result most }
         ensures loads { Loads None self.old self.new name.now most result }
         ensures count { CountedLoad self.old self.new result }
         ensures refusal { IfErr result (λ cause. IsUntoldRefusal most cause) }

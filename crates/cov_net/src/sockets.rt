@@ -1,10 +1,11 @@
 //! Connections of a network, or any other streams that go both ways, and where they come from.
-ghost use Rattle.std.specs.Prelude.{◌≡◌, ◌≢◌, ◌<◌, ◌≤◌, None, IfOk, IfErr, length, is_ok, if◌then◌else◌};
+ghost use Rattle.std.specs.Prelude.{◌≡◌, ◌≢◌, ◌<◌, None, IfOk, IfErr, length};
 ghost use Rattle.std.specs.Io.{ReadsAtMost};
 ghost use Rattle.std.specs.Io.KnownBytes.{ReadConsumes, WriteAppends};
 ghost use Rattle.std.specs.IoError.{error_kind};
+ghost use Rattle.cov_base.specs.Amounts.{WritesSome};
 ghost use Rattle.cov_base.specs.Causes.{HasCause};
-ghost use Rattle.cov_base.specs.Plan.{one_more};
+ghost use Rattle.cov_base.specs.Plan.{one_more_at_ok};
 ghost use Rattle.cov_base.specs.Told.{Reads, Writes};
 ghost use Rattle.cov_net.specs.Counted.{Counted};
 
@@ -64,7 +65,8 @@ impl<S: Read + Write> Link for TcpLink<S> {
         ensures cause { HasCause self.old.read_faults self.new.read_faults result }
         ensures count { Counted self.old.read_faults self.new.read_faults result }
         ensures same_faults { self.new.write_faults ≡ self.old.write_faults }
-        ensures inner { ReadConsumes (S.remaining self.old.inner) (S.remaining self.new.inner) result into.new }
+        ensures inner { ReadConsumes (S.remaining self.old.inner) (S.remaining self.new.inner)
+            result into.new }
     {
         match read_again(&mut self.inner, into) {
             Ok(count) => Ok(count),
@@ -77,12 +79,13 @@ impl<S: Read + Write> Link for TcpLink<S> {
 
     fn write(&mut self, bytes: &[u8]) -> Result<usize, Failed>
         requires { 0 < length bytes.now }
-        ensures bound { IfOk result (λ n. (0 < n) × (n ≤ length bytes.now)) }
+        ensures bound { WritesSome result bytes.now }
         ensures bytes { Writes None None result bytes.now }
         ensures cause { HasCause self.old.write_faults self.new.write_faults result }
         ensures count { Counted self.old.write_faults self.new.write_faults result }
         ensures same_faults { self.new.read_faults ≡ self.old.read_faults }
-        ensures inner { WriteAppends (S.contents self.old.inner) (S.contents self.new.inner) result bytes.now }
+        ensures inner { WriteAppends (S.contents self.old.inner) (S.contents self.new.inner)
+            result bytes.now }
     {
         match write_again(&mut self.inner, bytes) {
             Ok(count) if count > 0 => Ok(count),
@@ -152,7 +155,7 @@ where
     ghost faults = { λ d. d.faults };
 
     fn accept(&mut self) -> Result<TcpLink<L::Stream>, Failed>
-        ensures handed { self.new.handed ≡ (if is_ok result then one_more self.old.handed else self.old.handed) }
+        ensures handed { self.new.handed ≡ one_more_at_ok result self.old.handed }
         ensures cause { HasCause self.old.faults self.new.faults result }
         ensures count { Counted self.old.faults self.new.faults result }
         ensures read_faults { IfOk result (λ link. link.read_faults ≡ 0) }

@@ -1,7 +1,8 @@
 //! Standard input and standard output, or any other reader and writer.
-ghost use Rattle.std.specs.Prelude.{◌≡◌, ◌<◌, ◌≤◌, ℕ, List, None, IfOk, length};
+ghost use Rattle.std.specs.Prelude.{◌≡◌, ◌<◌, ℕ, List, None, length};
 ghost use Rattle.std.specs.Io.{ReadsAtMost};
 ghost use Rattle.std.specs.Io.KnownBytes.{ReadConsumes, WriteAppends};
+ghost use Rattle.cov_base.specs.Amounts.{WritesSome};
 ghost use Rattle.cov_base.specs.Causes.{HasCause};
 ghost use Rattle.cov_base.specs.Told.{Reads, Writes};
 ghost use Rattle.cov_net.specs.Counted.{Counted};
@@ -49,7 +50,8 @@ impl<R: Read> Source for StdSource<R> {
         ensures bytes { Reads None None result into.new }
         ensures cause { HasCause self.old.faults self.new.faults result }
         ensures count { Counted self.old.faults self.new.faults result }
-        ensures inner { ReadConsumes (R.remaining self.old.inner) (R.remaining self.new.inner) result into.new }
+        ensures inner { ReadConsumes (R.remaining self.old.inner) (R.remaining self.new.inner)
+            result into.new }
     {
         match read_again(&mut self.inner, into) {
             Ok(count) => Ok(count),
@@ -95,11 +97,12 @@ impl<W: Write> Sink for StdSink<W> {
 
     fn write(&mut self, bytes: &[u8]) -> Result<usize, Failed>
         requires { 0 < length bytes.now }
-        ensures bound { IfOk result (λ n. (0 < n) × (n ≤ length bytes.now)) }
+        ensures bound { WritesSome result bytes.now }
         ensures bytes { Writes None None result bytes.now }
         ensures cause { HasCause self.old.faults self.new.faults result }
         ensures count { Counted self.old.faults self.new.faults result }
-        ensures inner { WriteAppends (W.contents self.old.inner) (W.contents self.new.inner) result bytes.now }
+        ensures inner { WriteAppends (W.contents self.old.inner) (W.contents self.new.inner)
+            result bytes.now }
     {
         match write_again(&mut self.inner, bytes) {
             Ok(count) if count > 0 => Ok(count),
