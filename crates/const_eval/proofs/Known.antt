@@ -6,7 +6,7 @@ use Rattle.std.proofs.lemmas.Nat.{pow-add}
 use Rattle.std.proofs.lemmas.Bool.Decides.{nat_tests}
 use Rattle.std.proofs.Math.Pow.{pow_pos}
 use Rattle.std.proofs.Math.Nat.{pow-le-pow_right}
-use Rattle.bin_spec.specs.Types.{lowest, highest}
+use Rattle.bin_spec.specs.Types.{lowest, highest, number_of}
 use Rattle.cov_tree.specs.declared.expr.UnOp.{UnOp}
 use Rattle.cov_tree.specs.declared.expr.UnOp.TheVariants as unary
 use Rattle.cov_tree.specs.declared.expr.BinOp.{BinOp}
@@ -15,7 +15,7 @@ use Rattle.const_eval.specs.Typs.{Typ}
 use Rattle.const_eval.specs.Typs.{one_bit, plain, common, kind_of, typ_by, unary_by}
 use Rattle.const_eval.specs.Terms as term
 use Rattle.const_eval.specs.Terms.{Term, typ_in, typ_of}
-use Rattle.const_eval.specs.Values.{bits_of, read, cut, cut_to, truth, is_zero, single, on_known, on_both, is_false, is_true, unless_zero, combined, chosen, value_in, value_of, value, IsNumberOf}
+use Rattle.const_eval.specs.Values.{bits_of, cut, cut_to, truth, is_zero, single, on_known, on_both, is_false, is_true, unless_zero, combined, chosen, value_in, value_of, value, IsNumberOf}
 use Rattle.const_eval.proofs.Words.{bits_below}
 
 -- ---- numbers of a type
@@ -30,7 +30,7 @@ half_power (suc w) = next (omega arith)
     next : suc w - 1 ≡ w → 2 ^ suc w ≤ 2 * 2 ^ (suc w - 1)
     next e = rw e (omega (arith, pow-suc 2 w))
 
-read_is : (w : ℕ) (s : Bool) (b : ℕ) → b < 2 ^ w → Within w s (read w s b)
+read_is : (w : ℕ) (s : Bool) (b : ℕ) → b < 2 ^ w → Within w s (number_of w s b)
 read_is w false b lt = (omega (arith, ints), omega (arith, ints))
 read_is w true b lt = by (nat_le (2 ^ w) (2 * b)) refl
   where

@@ -3,14 +3,14 @@ use Rattle.std.proofs.Common.{◌≡◌, ℕ, zero, suc, ◌+◌, ◌-◌, ◌*�
 use mir.Syntax.{w128}
 use Rattle.std.proofs.Math.Facts.{sfits_to_z}
 use Rattle.std.proofs.lemmas.Nat.{and_mask, pow-add}
-use Rattle.std.proofs.lemmas.Nat.Bits.{ones_shr}
 use Rattle.std.proofs.Math.Pow.{mod-mod-pow, low, pow_pos}
 use Rattle.std.proofs.Math.Nat.{pow-le-pow_right, div-eq_of_lt}
 use Rattle.std.proofs.lemmas.Int.{ints, of_z-to_z}
 use Rattle.std.proofs.lemmas.Bool.Decides.{nat_tests}
 use Rattle.std.specs.Int.{int_shr, int_wrap}
 use Rattle.cov_base.specs.Sets.{IsInt}
-use Rattle.const_eval.specs.Values.{bits_of, read, cut}
+use Rattle.bin_spec.specs.Types.{number_of}
+use Rattle.const_eval.specs.Values.{bits_of, cut}
 
 complement : (P q r d : ℕ) → r < P → (q + 1 + d) * P - suc (P * q + r) ≡ d * P + (P - 1 - r)
 complement P q r d lt = grind arith
@@ -38,9 +38,6 @@ mod_of_z w (negsuc n) le fits =
     let up : (128 - w) + w ≡ 128 = omega arith in
     let below : n < 2 ^ ((128 - w) + w) = subst (λ k. n < 2 ^ k) (sym up) (omega (arith, fits.sfits)) in
     ap (λ k. (2 ^ k - suc n) % 2 ^ w) (sym up) ∙ complement_mod (128 - w) w n below
-
-pub ones_is : (w : ℕ) → 1 ≤ w → w ≤ 64 → 18446744073709551615 / 2 ^ (64 - w) ≡ 2 ^ w - 1
-ones_is w least most = let back : 64 - (64 - w) ≡ w = omega arith in ones_shr 64 (64 - w) (omega arith) ∙ ap (λ k. 2 ^ k - 1) back
 
 pub low_word : (w n m : ℕ) → w ≤ 64 → m ≡ 2 ^ w - 1 → bit_and (bit_and n 18446744073709551615) m ≡ n % 2 ^ w
 low_word w n m most is =
@@ -84,9 +81,9 @@ bits_of_wrapped w (negsuc n) le =
 
 pub cut_wrapped : (w : ℕ) (signed : Bool) (z : ℤ) → w ≤ 64 → cut w signed (int_wrap w128 z) ≡ cut w signed z
 unfolding cut
-cut_wrapped w signed z le = ap (read w signed) (bits_of_wrapped w z le)
+cut_wrapped w signed z le = ap (number_of w signed) (bits_of_wrapped w z le)
 
-read_zero : (w : ℕ) (signed : Bool) → read w signed 0 ≡ pos 0
+read_zero : (w : ℕ) (signed : Bool) → number_of w signed 0 ≡ pos 0
 read_zero w false = refl
 read_zero w true = let above : 0 < 2 ^ w = pow_pos w in grind (arith, nat_tests)
 
@@ -132,7 +129,7 @@ bits_left w k (negsuc n) le =
 
 pub none_left : (w k : ℕ) (signed : Bool) (x : ℤ) → w ≤ k → pos 0 ≡ cut w signed (x *ℤ pos (2 ^ k))
 unfolding cut
-none_left w k signed x le = sym (ap (read w signed) (bits_left w k x le) ∙ read_zero w signed)
+none_left w k signed x le = sym (ap (number_of w signed) (bits_left w k x le) ∙ read_zero w signed)
 
 -- ---- bits side by side
 

@@ -1,5 +1,6 @@
 -- Expressions bound to what their names stand for, or the first fault.
 use Rattle.std.specs.Prelude.{◌≡◌, ℕ, ◌+◌, nat_eq, nat_le, nat_lt, ℤ, pos, ◌-ℤ◌, int_lt, unsigned_abs, Bool, true, false, not, ◌&&◌, ◌||◌, if◌then◌else◌, List, [], ◌∷◌, Option, Some, None, Result, Ok, Err}
+use Rattle.cov_ground.specs.Limits.{most_bits}
 use Rattle.cov_tree.specs.declared.literal.Literal.{Literal}
 use Rattle.cov_tree.specs.declared.expr.Expr.{Expr}
 use Rattle.cov_tree.specs.declared.expr.Expr.TheViews.{out-Expr}
@@ -30,9 +31,9 @@ abbrev pub Gives : {X : Type 0} → Result X BindFault → Result X BindFault �
 Gives (Ok x) answer = answer ≡ Ok x
 Gives (Err error) answer = Fails error answer
 
--- a width of 1 to 64 bits
+-- a width that a type may have
 abbrev pub has_width : ℕ → Bool
-has_width width = nat_le 1 width && nat_le width 64
+has_width width = nat_le 1 width && nat_le width most_bits
 
 -- ---- names and literals
 
@@ -132,7 +133,7 @@ any_unsized (part ∷ parts) = part.unsized || any_unsized parts
 -- a concatenation of its parts
 abbrev pub concatenated : Option Term → (unsized : Bool) → (at : ℕ) → Result Term BindFault
 concatenated None unsized at = Err (fault.TooWide at)
-concatenated (Some whole) unsized at = if nat_lt 64 (typ_of whole).width then Err (fault.TooWide at) else (if unsized then Err (fault.BadConcat at) else Ok whole)
+concatenated (Some whole) unsized at = if nat_lt most_bits (typ_of whole).width then Err (fault.TooWide at) else (if unsized then Err (fault.BadConcat at) else Ok whole)
 
 abbrev pub concatenation : Result (Option Term) BindFault → (unsized : Bool) → (at : ℕ) → Result Term BindFault
 concatenation parts unsized at = do

@@ -1,17 +1,18 @@
 -- How the code keeps the parts of a concatenation. Public contracts cite none of it.
 use Rattle.std.specs.Prelude.{◌≡◌, ◌<◌, ◌≤◌, Option, Some, None, Result, Ok, Err}
+use Rattle.cov_ground.specs.Limits.{most_bits}
 use Rattle.const_eval.specs.declared.binding.Front.{Front}
 use Rattle.const_eval.specs.declared.binding.Front.TheVariants.{Empty, Fits, Wide}
 use Rattle.const_eval.specs.declared.fault.BindFault.{BindFault}
 use Rattle.const_eval.specs.Terms.{Term, typ_of}
 use Rattle.const_eval.specs.Binding.{Fails}
 
--- up to 64 bits are kept, more aren't
+-- up to the bits of a type are kept, more aren't
 abbrev pub IsFront : Front → Option Term → Type 0
 IsFront Empty terms = terms ≡ None
-IsFront (Fits bound) terms = (terms ≡ Some bound) × ((typ_of bound).width ≤ 64)
+IsFront (Fits bound) terms = (terms ≡ Some bound) × ((typ_of bound).width ≤ most_bits)
 IsFront Wide None = ⊥
-IsFront Wide (Some term) = 64 < (typ_of term).width
+IsFront Wide (Some term) = most_bits < (typ_of term).width
 
 abbrev pub FrontIs : Front → Result (Option Term) BindFault → Type 0
 FrontIs front (Err error) = ⊥

@@ -1,7 +1,7 @@
 -- Values of expressions (IEEE 1800-2017, clause 11): whole numbers, or none where a value is unknown.
 use Rattle.std.specs.Prelude.{ℕ, ◌+◌, ◌-◌, ◌*◌, ◌/◌, ◌%◌, ◌^◌, nat_eq, nat_le, ℤ, pos, negsuc, ◌+ℤ◌, ◌-ℤ◌, ◌*ℤ◌, ◌≤ℤ◌, neg_ℤ, int_lt, int_le, int_div, int_rem, bit_and, bit_or, bit_xor, count_ones, Bool, true, false, not, ◌&&◌, ◌||◌, if◌then◌else◌, List, Option, Some, None, slice_index_or}
 use Rattle.std.specs.Int.{int_shr}
-use Rattle.bin_spec.specs.Types.{lowest, highest}
+use Rattle.bin_spec.specs.Types.{lowest, highest, number_of}
 use Rattle.cov_tree.specs.declared.expr.UnOp.{UnOp}
 use Rattle.cov_tree.specs.declared.expr.UnOp.TheVariants as unary
 use Rattle.cov_tree.specs.declared.expr.BinOp.{BinOp}
@@ -20,13 +20,9 @@ abbrev pub bits_of : (width : ℕ) → ℤ → ℕ
 bits_of width (pos n) = n % 2 ^ width
 bits_of width (negsuc n) = 2 ^ width - 1 - n % 2 ^ width
 
--- bits read without a sign, or in two's complement
-abbrev pub read : (width : ℕ) → (signed : Bool) → (bits : ℕ) → ℤ
-read width signed bits = if signed && nat_le (2 ^ width) (2 * bits) then pos bits -ℤ pos (2 ^ width) else pos bits
-
 -- the number modulo 2 to the width, read by the sign
 unfoldable pub cut : (width : ℕ) → (signed : Bool) → ℤ → ℤ
-cut width signed z = read width signed (bits_of width z)
+cut width signed z = number_of width signed (bits_of width z)
 
 abbrev pub cut_to : Typ → ℤ → ℤ
 cut_to typ z = cut typ.width typ.signed z

@@ -2,6 +2,7 @@
 ghost use Rattle.cov_base.specs.Sets.{IsInt};
 ghost use Rattle.std.specs.Prelude.{◌≡◌, ◌<◌, ◌≤ℤ◌, ◌<ℤ◌, ◌+ℤ◌, ◌-ℤ◌, pos, unsigned_abs, IfOk, Option, Some, None, map};
 ghost use Rattle.std.specs.List.{list_any};
+ghost use Rattle.cov_ground.specs.Limits.{most_bits};
 ghost use Rattle.const_eval.specs.Scopes.{names_of, names_with};
 ghost use Rattle.const_eval.specs.Terms.{Term};
 ghost use Rattle.const_eval.specs.Fronts.{IsFront, GivesFront};
@@ -10,6 +11,7 @@ ghost use Rattle.const_eval.specs.Binding.{Gives, literal, found as found_of, co
 use crate::{BindFault, Bound, Meaning, Scope, Typ, eval, first_signal, typ};
 use bit_width::Width;
 use cov_base::{Int, Memory};
+use cov_ground::limits::MOST_BITS;
 use cov_tree::{Expr, Literal, Name};
 use std::alloc::Global;
 
@@ -165,10 +167,10 @@ fn is_outside(low: u8, width: u8, index: Int) -> bool
 /// How far the second number is above the first.
 fn distance(from: i128, to: i128) -> u8
     requires ordered { from ≤ℤ to }
-    requires near { to <ℤ (from +ℤ pos 64) }
+    requires near { to <ℤ (from +ℤ pos most_bits) }
     requires range { IsInt from }
     ensures value { result ≡ unsigned_abs (to -ℤ from) }
-    ensures near { result < 64 }
+    ensures near { result < most_bits }
 {
     (to - from) as u8
 }
@@ -195,9 +197,9 @@ fn select(alloc: Global, meaning: Meaning, high: Int, low: Int, at: u32) -> Resu
 enum Front {
     /// None.
     Empty,
-    /// Parts of up to 64 bits.
+    /// Parts of as many bits as a type may have.
     Fits(Bound),
-    /// Parts of more than 64 bits, of which none is kept.
+    /// Parts of more bits, of which none is kept.
     Wide,
 }
 
@@ -209,7 +211,7 @@ fn extended(alloc: Global, front: Front, part: Bound) -> Result<Front, Memory>
         Front::Empty => Ok(Front::Fits(Bound::alone(alloc, part)?)),
         Front::Wide => Ok(Front::Wide),
         Front::Fits(bound) => {
-            if 64 - typ(&bound).width().get() < typ(&part).width().get() {
+            if MOST_BITS - typ(&bound).width().get() < typ(&part).width().get() {
                 return Ok(Front::Wide);
             }
             Ok(Front::Fits(Bound::joined(alloc, bound, part)?))

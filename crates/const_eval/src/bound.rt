@@ -1,5 +1,6 @@
 //! Expressions whose names are replaced by what they stand for.
 ghost use Rattle.std.specs.Prelude.{◌≡◌, ◌+◌, ◌≤◌, IfOk};
+ghost use Rattle.cov_ground.specs.Limits.{most_bits};
 ghost use Rattle.const_eval.specs.Terms as term;
 ghost use Rattle.const_eval.specs.Terms.{typ_in};
 ghost use Rattle.const_eval.specs.Nodes.{IsWithin, IsTyped, term_of};
@@ -121,7 +122,7 @@ impl Bound {
     /// A concatenation of one part.
     pub(crate) fn alone(alloc: Global, part: Bound) -> Result<Bound, Memory>
         ensures value { IfOk result (λ bound. bound ≡ term.alone part) }
-        ensures width { IfOk result (λ bound. (term.typ_of bound).width ≤ 64) }
+        ensures width { IfOk result (λ bound. (term.typ_of bound).width ≤ most_bits) }
     {
         let typed = part.into_typed();
         let typ = Typ::of(typed.own_typ().width(), false);
@@ -131,7 +132,7 @@ impl Bound {
 
     /// A concatenation with one part more.
     pub(crate) fn joined(alloc: Global, front: Bound, part: Bound) -> Result<Bound, Memory>
-        requires { (term.typ_of front).width + (term.typ_of part).width ≤ 64 }
+        requires { (term.typ_of front).width + (term.typ_of part).width ≤ most_bits }
         ensures { IfOk result (λ bound. bound ≡ term.joined front part) }
     {
         let left = front.into_typed();

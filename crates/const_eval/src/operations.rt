@@ -5,9 +5,10 @@ ghost use Rattle.const_eval.specs.Typs.{Typ as Whole};
 ghost use Rattle.const_eval.specs.Values.{combined, both_true as both_true_of, either_true as either_true_of, is_decided, is_false, is_true, single, given, truth as truth_of, is_zero as tests_zero};
 
 use crate::Typ;
-use crate::bits::{cut, low_bits, ones};
+use crate::bits::{cut, low_bits};
 use crate::shifts::{bits_shifted_right, product, shifted_left, shifted_right};
 use bit_width::Width;
+use cov_base::ones;
 use cov_tree::{BinOp, UnOp};
 
 /// 1 for true, 0 for false.
@@ -202,10 +203,10 @@ pub(crate) fn operate_alone(op: UnOp, whole: Typ, own: Width, x: i128) -> i128
         UnOp::Neg => cut(whole.width(), whole.is_signed(), -x),
         UnOp::Not => cut(whole.width(), whole.is_signed(), -x - 1),
         UnOp::LogNot => truth(is_zero(x)),
-        UnOp::And => truth(low_bits(own, x) == ones(own)),
+        UnOp::And => truth(low_bits(own, x) == ones(own.get())),
         UnOp::Or => truth(low_bits(own, x) != 0),
         UnOp::Xor => truth(low_bits(own, x).count_ones() % 2 == 1),
-        UnOp::Nand => truth(low_bits(own, x) != ones(own)),
+        UnOp::Nand => truth(low_bits(own, x) != ones(own.get())),
         UnOp::Nor => truth(low_bits(own, x) == 0),
         UnOp::Xnor => truth(low_bits(own, x).count_ones() % 2 != 1),
     }

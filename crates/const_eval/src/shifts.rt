@@ -6,6 +6,7 @@ ghost use Rattle.const_eval.specs.Values.{cut as cut_of};
 
 use crate::bits::cut;
 use bit_width::Width;
+use cov_ground::limits::MOST_BITS;
 
 /// The product.
 #[inline(always)]
@@ -34,7 +35,11 @@ pub(crate) fn shifted_left(width: Width, signed: bool, x: i128, amount: u64) -> 
 pub(crate) fn bits_shifted_right(bits: u64, amount: u64) -> u64
     ensures { result ≡ bits / 2 ^ amount }
 {
-    if amount < 64 { bits >> amount } else { 0 }
+    if amount < u64::from(MOST_BITS) {
+        bits >> amount
+    } else {
+        0
+    }
 }
 
 /// The number divided by 2 to the amount, rounded down.
@@ -43,7 +48,7 @@ pub(crate) fn shifted_right(x: i128, amount: u64) -> i128
     requires { IsInt x }
     ensures { result ≡ int_shr x amount }
 {
-    if amount < 64 {
+    if amount < u64::from(MOST_BITS) {
         x >> amount
     } else if x < 0 {
         -1

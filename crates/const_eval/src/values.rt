@@ -1,5 +1,6 @@
 //! Values of bound expressions.
 ghost use Rattle.std.specs.Prelude.{◌≡◌, ◌≤◌, ◌<◌, ◌+◌, ◌*◌, ◌/◌, ◌%◌, ◌^◌, pos, Some};
+ghost use Rattle.cov_ground.specs.Limits.{most_bits};
 ghost use Rattle.cov_base.specs.Sets.{IsInt};
 ghost use Rattle.const_eval.specs.Terms.{typ_in, typ_of as typ_of_term};
 ghost use Rattle.const_eval.specs.Nodes.{term_of, IsTyped, IsWithin};
@@ -190,7 +191,7 @@ fn bits_from(own: Width, skip: u8, width: Width, number: i128) -> i128
 /// Bits before other bits.
 #[inline(always)]
 fn beside(front: Width, last: Width, left: u64, right: u64) -> u64
-    requires most { front + last ≤ 64 }
+    requires most { front + last ≤ most_bits }
     requires left_below { left < 2 ^ front }
     requires right_below { right < 2 ^ last }
     ensures { result ≡ left * 2 ^ last + right }
@@ -201,7 +202,7 @@ fn beside(front: Width, last: Width, left: u64, right: u64) -> u64
 /// The bits of `front` before those of `last`.
 #[inline(always)]
 fn joined(front: Width, last: Width, x: i128, y: i128) -> i128
-    requires most { front + last ≤ 64 }
+    requires most { front + last ≤ most_bits }
     ensures value { result ≡ pos (bits_of front x * 2 ^ last + bits_of last y) }
     ensures range { IsInt result }
 {
@@ -232,7 +233,7 @@ fn keep_bits(width: Width, out: &mut i128) -> bool
 /// Puts the bits of the number in `out` there, with those of `y` behind them.
 #[inline(always)]
 fn join(front: Width, last: Width, y: i128, out: &mut i128) -> bool
-    requires most { front + last ≤ 64 }
+    requires most { front + last ≤ most_bits }
     ensures value { given result out.new ≡ Some (pos (bits_of front out.old * 2 ^ last + bits_of last y)) }
     ensures range { IsInt out.new }
 {
