@@ -6,7 +6,7 @@ use Rattle.std.specs.Int.{bit_at, trailing_ones}
 use Rattle.std.proofs.lemmas.Grind.{common_steps}
 use Rattle.std.proofs.lemmas.Int.{ints}
 use Rattle.std.proofs.lemmas.Bool.Decides.{nat_tests}
-use Rattle.std.proofs.lemmas.Nat.Bits.{bit_at-lt, bit_at_and, bit_at_xor, bit_at_not, bit_at_ones, bit_at_ones_above, bit_at-zero, ones_shr, same_from_bits, bit_at-trailing_ones}
+use Rattle.std.proofs.lemmas.Nat.Bits.{bit_at-lt, bit_at_and, bit_at_xor, bit_at_not, bit_at_ones, bit_at_ones_above, bit_at-zero, same_from_bits, bit_at-trailing_ones}
 use Rattle.cov_base.specs.Sets.{is_within}
 use Rattle.bin_spec.specs.Parts.{places}
 use Rattle.bin_spec.specs.Types.{lowest, highest}
@@ -17,18 +17,15 @@ use Rattle.wildcard_bins.proofs.Bits.{each_of_all, all_of_each}
 
 -- the bits that differ at places that aren't free
 abbrev pub differing : Pattern → ℕ → ℕ
-differing p bits = bit_and (bit_xor bits p.bits) (bit_and (18446744073709551615 - p.free) (18446744073709551615 / 2 ^ (64 - p.width)))
-
-mask_is : (w : ℕ) → w ≤ 64 → 18446744073709551615 / 2 ^ (64 - w) ≡ 2 ^ w - 1
-mask_is w h = ones_shr 64 (64 - w) (omega arith) ∙ ap (λ (n : ℕ). 2 ^ n - 1) (omega arith)
+differing p bits = bit_and (bit_xor bits p.bits) (bit_and (18446744073709551615 - p.free) (2 ^ p.width - 1))
 
 -- one bit of them
 differs_at : (p : Pattern) (bits i : ℕ) → p.width ≤ 64 → p.free < 2 ^ 64 → i < p.width → bit_at (differing p bits) i ≡ min ((bit_at bits i + bit_at p.bits i) % 2) (1 - bit_at p.free i)
 differs_at p bits i h f lt =
     let fixed : bit_at (18446744073709551615 - p.free) i ≡ 1 - bit_at p.free i = bit_at_not w64 p.free i f (omega arith) in
-    let low : bit_at (18446744073709551615 / 2 ^ (64 - p.width)) i ≡ 1 = ap (λ (n : ℕ). bit_at n i) (mask_is p.width h) ∙ bit_at_ones p.width i lt in
-    bit_at_and (bit_xor bits p.bits) (bit_and (18446744073709551615 - p.free) (18446744073709551615 / 2 ^ (64 - p.width))) i
-    ∙ (both (bit_at_xor bits p.bits i) (bit_at_and (18446744073709551615 - p.free) (18446744073709551615 / 2 ^ (64 - p.width)) i)
+    let low : bit_at (2 ^ p.width - 1) i ≡ 1 = bit_at_ones p.width i lt in
+    bit_at_and (bit_xor bits p.bits) (bit_and (18446744073709551615 - p.free) (2 ^ p.width - 1)) i
+    ∙ (both (bit_at_xor bits p.bits i) (bit_at_and (18446744073709551615 - p.free) (2 ^ p.width - 1) i)
     ∙ ap (λ (n : ℕ). min ((bit_at bits i + bit_at p.bits i) % 2) n) (both fixed low ∙ one (bit_at p.free i)))
   where
     both : {a b c d : ℕ} → a ≡ c → b ≡ d → min a b ≡ min c d
@@ -39,9 +36,9 @@ differs_at p bits i h f lt =
 
 differs_above : (p : Pattern) (bits i : ℕ) → p.width ≤ 64 → p.width ≤ i → bit_at (differing p bits) i ≡ 0
 differs_above p bits i h le =
-    let none : bit_at (18446744073709551615 / 2 ^ (64 - p.width)) i ≡ 0 = ap (λ (n : ℕ). bit_at n i) (mask_is p.width h) ∙ bit_at_ones_above p.width i le in
-    bit_at_and (bit_xor bits p.bits) (bit_and (18446744073709551615 - p.free) (18446744073709551615 / 2 ^ (64 - p.width))) i
-    ∙ (ap (λ (n : ℕ). min (bit_at (bit_xor bits p.bits) i) n) (bit_at_and (18446744073709551615 - p.free) (18446744073709551615 / 2 ^ (64 - p.width)) i ∙ ap (λ (n : ℕ). min (bit_at (18446744073709551615 - p.free) i) n) none) ∙ nothing (bit_at (bit_xor bits p.bits) i) (bit_at (18446744073709551615 - p.free) i))
+    let none : bit_at (2 ^ p.width - 1) i ≡ 0 = bit_at_ones_above p.width i le in
+    bit_at_and (bit_xor bits p.bits) (bit_and (18446744073709551615 - p.free) (2 ^ p.width - 1)) i
+    ∙ (ap (λ (n : ℕ). min (bit_at (bit_xor bits p.bits) i) n) (bit_at_and (18446744073709551615 - p.free) (2 ^ p.width - 1) i ∙ ap (λ (n : ℕ). min (bit_at (18446744073709551615 - p.free) i) n) none) ∙ nothing (bit_at (bit_xor bits p.bits) i) (bit_at (18446744073709551615 - p.free) i))
   where
     nothing : (a b : ℕ) → min a (min b 0) ≡ 0
     nothing a b = omega arith

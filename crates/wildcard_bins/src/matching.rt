@@ -4,7 +4,7 @@ ghost use Rattle.bin_spec.specs.Types.{lowest, highest};
 ghost use Rattle.wildcard_bins.specs.Patterns.{agrees, bits_of};
 
 use crate::Pattern;
-use cov_base::{Int, highest_of, lowest_of, power_of_two};
+use cov_base::{Int, highest_of, lowest_of, ones, power_of_two};
 
 impl Pattern {
     /// The least number of the pattern's width and sign.
@@ -51,7 +51,7 @@ impl Pattern {
         if number > high {
             return false;
         }
-        let fixed = !self.free & (u64::MAX >> (64 - width));
+        let fixed = !self.free & ones(width);
         (self.bits_of(v) ^ self.bits) & fixed == 0
     }
 }
