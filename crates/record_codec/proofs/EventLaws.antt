@@ -1,5 +1,5 @@
 -- Events, over the rows whose numbers they name.
-use Rattle.std.proofs.Common.{◌≡◌, ℕ, zero, suc, ◌^◌, ◌<◌, ◌≤◌, Bool, true, false, cond, eqb, ltb, List, [], ◌∷◌, ◌++◌, length, Option, Some, None, Ok, refl, sym, ap, subst, ◌∙◌, append_assoc, arith, inl, inr, ◌⊎◌}
+use Rattle.std.proofs.Common.{◌≡◌, ℕ, zero, suc, ◌-◌, ◌^◌, ◌<◌, ◌≤◌, Bool, true, false, cond, eqb, ltb, List, [], ◌∷◌, ◌++◌, length, Option, Some, None, Ok, refl, sym, ap, subst, ◌∙◌, append_assoc, arith, inl, inr, ◌⊎◌}
 use Rattle.std.specs.Prelude.{slice_get, ok_or, IsSomeAnd}
 use Rattle.std.specs.List.{flat_map, AllByRecursion}
 use Rattle.std.proofs.lemmas.List.Concat.{flat_map-cons}
@@ -29,26 +29,33 @@ chosen false x y z e = inr (refl, e)
 
 -- ---- values
 
-powers : (width : ℕ) → width ≤ 64 → 2 ^ width ≤ 2 ^ 64
-powers width le = pow-le-pow_right (omega arith) le
+powers : (width : ℕ) → width ≤ 64 → 2 ^ width - 1 < 2 ^ 64
+powers width le = let power : 2 ^ width ≤ 2 ^ 64 = pow-le-pow_right (omega arith) le in omega (arith, power)
+
+pub below_power : (width n : ℕ) → n ≤ 2 ^ width - 1 → n < 2 ^ width
+below_power width n le =
+    let base : 1 ≤ 2 = omega arith in
+    let low : 0 ≤ width = omega arith in
+    let some : 2 ^ 0 ≤ 2 ^ width = pow-le-pow_right base low in
+    omega (arith, some, le)
 
 known_takes : (width : ℕ) → width ≤ 64 → (bytes : List ℕ) (x : Option ℕ × List ℕ) → IsBytes bytes → known_at width bytes ≡ Ok x → Takes (1 ∷ bytes) (set_value x.0) x.1 × IsBits width x.0
 unfolding known_at
 known_takes width le bytes x fits e =
-    let a = bind_ok (number_within w64 0 (2 ^ width) bytes) _ x e in
-    let bits = (within_field wide64 0 (2 ^ width) (powers width le)).takes bytes a.0 fits a.1 in
-    subst (λ (y : Option ℕ × List ℕ). Takes (1 ∷ bytes) (set_value y.0) y.1 × IsBits width y.0) {x = (Some a.0.0, a.0.1)} (ok_is (Some a.0.0, a.0.1) x a.2) (record { parts = ap (λ (l : List ℕ). 1 ∷ l) bits.takes.parts; rest_fits = bits.takes.rest_fits }, bits.fits.high)
+    let a = bind_ok (number_within w64 0 (2 ^ width - 1) bytes) _ x e in
+    let bits = (within_field wide64 0 (2 ^ width - 1) (powers width le)).takes bytes a.0 fits a.1 in
+    subst (λ (y : Option ℕ × List ℕ). Takes (1 ∷ bytes) (set_value y.0) y.1 × IsBits width y.0) {x = (Some a.0.0, a.0.1)} (ok_is (Some a.0.0, a.0.1) x a.2) (record { parts = ap (λ (l : List ℕ). 1 ∷ l) bits.takes.parts; rest_fits = bits.takes.rest_fits }, below_power width a.0.0 bits.fits.high)
 
-one_is : (n : ℕ) → n < 2 → eqb n 0 ≡ false → n ≡ 1
-one_is zero lt e = absurd cc
-one_is (suc zero) lt e = refl
-one_is (suc (suc n)) lt e = absurd (omega arith)
+one_is : (n : ℕ) → n ≤ 1 → eqb n 0 ≡ false → n ≡ 1
+one_is zero le e = absurd cc
+one_is (suc zero) le e = refl
+one_is (suc (suc n)) le e = absurd (omega arith)
 
 value_takes : (width : ℕ) → width ≤ 64 → (bytes : List ℕ) (x : Option ℕ × List ℕ) → IsBytes bytes → value_at width bytes ≡ Ok x → Read set_value (IsBits width) bytes x
 unfolding value_at
 value_takes width le bytes x fits e =
-    let a = bind_ok (number_within w8 0 2 bytes) _ x e in
-    let known = (within_field wide8 0 2 (omega arith)).takes bytes a.0 fits a.1 in
+    let a = bind_ok (number_within w8 0 1 bytes) _ x e in
+    let known = (within_field wide8 0 1 (omega arith)).takes bytes a.0 fits a.1 in
     elim (chosen (eqb a.0.0 0) (Ok (None, a.0.1)) (known_at width a.0.1) (Ok x) a.2) [
       | inl h ↦
           let same : a.0.0 ≡ 0 = eqb-true _ _ h.0 in
@@ -63,10 +70,10 @@ value_takes width le bytes x fits e =
 
 value_again : (width : ℕ) → width ≤ 64 → (value : Option ℕ) (rest : List ℕ) → IsBits width value → value_at width (set_value value ++ rest) ≡ Ok (value, rest)
 unfolding value_at known_at
-value_again width le None rest fits = last (within_field wide8 0 2 (omega arith)) 0 rest _ (record { low = omega arith; high = omega arith })
+value_again width le None rest fits = last (within_field wide8 0 1 (omega arith)) 0 rest _ (record { low = omega arith; high = omega arith })
 value_again width le (Some bits) rest fits =
-    step (within_field wide8 0 2 (omega arith)) 1 (to_be_bytes w64 bits) rest _ (record { low = omega arith; high = omega arith })
-    ∙ last (within_field wide64 0 (2 ^ width) (powers width le)) bits rest _ (record { low = omega arith; high = fits })
+    step (within_field wide8 0 1 (omega arith)) 1 (to_be_bytes w64 bits) rest _ (record { low = omega arith; high = omega arith })
+    ∙ last (within_field wide64 0 (2 ^ width - 1) (powers width le)) bits rest _ (record { low = omega arith; high = omega (arith, fits) })
 
 pub value_field : (width : ℕ) → width ≤ 64 → IsField (value_at width) set_value (IsBits width)
 value_field width le = record { takes = value_takes width le; again = value_again width le }
@@ -178,17 +185,17 @@ module _ (signals : List SignalRow) (version : ℕ) (instances : List InstRow) (
       let spelled : n ∷ body x.0 ≡ event x.0 = ap (λ (t : ℕ). t ∷ body x.0) (sym second.fits.tagged) ∙ tag_and_body x.0 in
       record { takes = subst (λ (l : List ℕ). Takes bytes l x.1) spelled all; fits = second.fits.fits }
 
-  two_is : (n : ℕ) → 1 ≤ n → n < 3 → eqb n 1 ≡ false → n ≡ 2
-  two_is zero low lt e = absurd (omega arith)
-  two_is (suc zero) low lt e = absurd cc
-  two_is (suc (suc zero)) low lt e = refl
-  two_is (suc (suc (suc n))) low lt e = absurd (omega arith)
+  two_is : (n : ℕ) → 1 ≤ n → n ≤ 2 → eqb n 1 ≡ false → n ≡ 2
+  two_is zero low le e = absurd (omega arith)
+  two_is (suc zero) low le e = absurd cc
+  two_is (suc (suc zero)) low le e = refl
+  two_is (suc (suc (suc n))) low le e = absurd (omega arith)
 
   event_takes : (bytes : List ℕ) (x : Event × List ℕ) → IsBytes bytes → event_at signals instances bytes ≡ Ok x → Read event (IsEvent signals instances) bytes x
   unfolding event_at
   event_takes bytes x fits e =
-      let a = bind_ok (number_within w8 1 3 bytes) _ x e in
-      let first = (within_field wide8 1 3 (omega arith)).takes bytes a.0 fits a.1 in
+      let a = bind_ok (number_within w8 1 2 bytes) _ x e in
+      let first = (within_field wide8 1 2 (omega arith)).takes bytes a.0 fits a.1 in
       elim (chosen (eqb a.0.0 1) (set_at signals a.0.1) (sample_at instances a.0.1) (Ok x) a.2) [
         | inl h ↦
             let same : a.0.0 ≡ 1 = eqb-true _ _ h.0 in
@@ -203,13 +210,13 @@ module _ (signals : List SignalRow) (version : ℕ) (instances : List InstRow) (
   event_again (Set signal value) rest fits =
       let row = is_some_and (slice_get signals signal) (λ (r : SignalRow). IsBits r.width value) fits in
       let below : signal < 2 ^ 16 = omega (arith, slice_get_within signals signal row.0 row.1, are.count) in
-      step (within_field wide8 1 3 (omega arith)) 1 (to_be_bytes w16 signal ++ set_value value) rest _ (record { low = omega arith; high = omega arith })
+      step (within_field wide8 1 2 (omega arith)) 1 (to_be_bytes w16 signal ++ set_value value) rest _ (record { low = omega arith; high = omega arith })
       ∙ step (number_field wide16) signal (set_value value) rest _ below
       ∙ rw (row.1, value_again row.0.width (width_at signals signal row.0 are row.1) value rest row.2) refl
   event_again (Sample instance args) rest fits =
       let row = is_some_and (slice_get instances instance) (λ (r : InstRow). AreArgs r.args args) fits in
       let below : instance < 2 ^ 16 = omega (arith, slice_get_within instances instance row.0 row.1, have.count) in
-      step (within_field wide8 1 3 (omega arith)) 2 (to_be_bytes w16 instance ++ flat_map set_value args) rest _ (record { low = omega arith; high = omega arith })
+      step (within_field wide8 1 2 (omega arith)) 2 (to_be_bytes w16 instance ++ flat_map set_value args) rest _ (record { low = omega arith; high = omega arith })
       ∙ step (number_field wide16) instance (flat_map set_value args) rest _ below
       ∙ rw (row.1, values_again row.0.args (args_at_number version instances instance row.0 have row.1) args rest row.2) refl
 

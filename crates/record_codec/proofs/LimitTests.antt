@@ -1,8 +1,8 @@
 -- What tests of the parts of a record have shown.
-use Rattle.std.proofs.Common.{◌≡◌, ◌↔◌, ℕ, ◌+◌, ◌^◌, ◌<◌, ◌≤◌, zero, suc, Bool, true, false, leb, ltb, eqb, cond, List, [], ◌∷◌, ◌++◌, length, get_or, take, Option, Some, None, refl, ap, sym, subst, ◌∙◌, arith}
+use Rattle.std.proofs.Common.{◌≡◌, ◌↔◌, ℕ, ◌+◌, ◌-◌, ◌^◌, ◌<◌, ◌≤◌, zero, suc, Bool, true, false, leb, eqb, cond, List, [], ◌∷◌, ◌++◌, length, get_or, take, Option, Some, None, refl, sym, ◌∙◌, arith}
 use Rattle.std.specs.Prelude.{slice_get, IsSomeAnd}
 use Rattle.std.specs.List.{AllByRecursion, position}
-use Rattle.std.proofs.lemmas.Bool.{leb-true, le-leb, lt-ltb, ltb-true}
+use Rattle.std.proofs.lemmas.Bool.{leb-true, le-leb}
 use Rattle.std.proofs.lemmas.List.{take_more, take_all}
 use Rattle.cov_ground.specs.Limits.{most_arguments}
 use Rattle.record_codec.specs.declared.record.Start.{Start}
@@ -15,6 +15,7 @@ use Rattle.record_codec.specs.Limits.{IsText, IsSignalRow, IsInstRow, IsBits, Ar
 use Rattle.record_codec.specs.Starts.{with_events, IsTest}
 use Rattle.record_codec.specs.Reading.{is_bad}
 use Rattle.record_codec.specs.Under.{greatest}
+use Rattle.record_codec.proofs.EventLaws.{below_power}
 use Rattle.record_codec.proofs.Under.{below_same}
 use Rattle.record_codec.proofs.Texts.{no_bad, good_none}
 
@@ -34,7 +35,7 @@ module _ (least most low : ℕ) (text : List ℕ) (long : least ≤ length text)
 
 pub bits_test : (width n : ℕ) → n < 2 ^ 64 → (leb n (greatest width) ≡ true) ↔ n < 2 ^ width
 bits_test width n lt =
-    (λ e. ltb-true n (2 ^ width) (sym (below_same width n lt) ∙ lt-ltb n (greatest width + 1) (omega (arith, leb-true n (greatest width) e))), λ h. le-leb n (greatest width) (omega (arith, ltb-true n (greatest width + 1) (below_same width n lt ∙ lt-ltb n (2 ^ width) h))))
+    (λ e. below_power width n (leb-true n (2 ^ width - 1) (sym (below_same width n lt) ∙ e)), λ h. below_same width n lt ∙ le-leb n (2 ^ width - 1) (omega (arith, h)))
 
 pub args_length : (rows : List ArgRow) (args : List (Option ℕ)) → AreArgs rows args → length rows ≡ length args
 args_length [] [] h = refl

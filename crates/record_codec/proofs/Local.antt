@@ -1,8 +1,7 @@
 -- What a reader does with bytes doesn't depend on those behind what it looked at.
-use Rattle.std.proofs.Common.{◌≡◌, ℕ, zero, suc, ◌+◌, ◌-◌, ◌<◌, ◌≤◌, Bool, true, false, cond, eqb, ltb, leb, List, [], ◌∷◌, ◌++◌, length, take, drop, Option, Some, None, Result, Ok, Err, refl, sym, ap, subst, ◌∙◌, append_assoc, arith, length-append}
+use Rattle.std.proofs.Common.{◌≡◌, ℕ, zero, suc, ◌+◌, ◌<◌, ◌≤◌, Bool, true, false, cond, ltb, leb, List, [], ◌∷◌, ◌++◌, length, take, drop, Option, Some, None, Result, Ok, Err, refl, sym, ap, subst, ◌∙◌, append_assoc, arith, length-append}
 use Rattle.std.specs.Prelude.{ok_or, option_map}
-use Rattle.std.specs.Int.{Width, w8, w16, w32, w64, byte_len, from_be_bytes}
-use Rattle.std.specs.List.{position}
+use Rattle.std.specs.Int.{Width, byte_len, from_be_bytes}
 use mathlib.Core.Bool.{◌&&◌}
 use Rattle.std.proofs.lemmas.Bool.{ltb-false, le-ltb}
 use Rattle.std.proofs.lemmas.List.{take_at, drop_at, take-append-drop, length-take}
@@ -270,12 +269,12 @@ module _ (w : Width) (some : 0 < byte_len w) (few : byte_len w ≤ 8) where
   by_test true d n = refl
   by_test false d n = refl
 
-  by_range : (least limit : ℕ) (d : Fault) (r : Result (ℕ × List ℕ) Fault) → (r >>= λ n. ok_or (cond (leb least n.0 && ltb n.0 limit) (Some n.0) None) d >>= λ v. Ok (v, n.1)) ≡ (r >>= λ n. cond (leb least n.0 && ltb n.0 limit) (Ok n) (Err d))
-  by_range least limit d (Ok n) = by_test (leb least n.0 && ltb n.0 limit) d n
-  by_range least limit d (Err f) = refl
+  by_range : (least most : ℕ) (d : Fault) (r : Result (ℕ × List ℕ) Fault) → (r >>= λ n. ok_or (cond (leb least n.0 && leb n.0 most) (Some n.0) None) d >>= λ v. Ok (v, n.1)) ≡ (r >>= λ n. cond (leb least n.0 && leb n.0 most) (Ok n) (Err d))
+  by_range least most d (Ok n) = by_test (leb least n.0 && leb n.0 most) d n
+  by_range least most d (Err f) = refl
 
-  pub within_local : (least limit : ℕ) → IsLocal (number_within w least limit)
+  pub within_local : (least most : ℕ) → IsLocal (number_within w least most)
   unfolding number_within
-  within_local least limit =
-      local_same {read = judged (λ n. cond (leb least n && ltb n limit) (Some n) None)} {other = number_within w least limit}
-      (λ bytes. by_range least limit (BadField (length bytes)) (number_at w bytes)) (judged_local (λ n. cond (leb least n && ltb n limit) (Some n) None))
+  within_local least most =
+      local_same {read = judged (λ n. cond (leb least n && leb n most) (Some n) None)} {other = number_within w least most}
+      (λ bytes. by_range least most (BadField (length bytes)) (number_at w bytes)) (judged_local (λ n. cond (leb least n && leb n most) (Some n) None))

@@ -2,7 +2,7 @@
 use Rattle.std.proofs.Common.{◌≡◌, ℕ, ◌^◌, ◌<◌, ◌≤◌, Bool, true, false, ltb, leb, List, [], ◌∷◌, ◌++◌, length, take, drop, Ok, refl, sym, ap, subst, arith}
 use mathlib.Core.Bool.{◌&&◌}
 use Rattle.std.specs.Int.{Width, w8, w16, w32, w64, byte_len, from_be_bytes, to_be_bytes}
-use Rattle.std.proofs.lemmas.Bool.{ltb-false, ltb-true, leb-true, le-ltb, le-leb, lt-ltb}
+use Rattle.std.proofs.lemmas.Bool.{ltb-false, leb-true, le-ltb, le-leb}
 use Rattle.std.proofs.lemmas.List.{take_at, drop_at, take-append-drop, length-append, length-take}
 use Rattle.std.proofs.lemmas.Nat.{be_bytes_2, be_bytes_4, be_bytes_8, from_be_bytes-to_be_bytes_2, from_be_bytes-to_be_bytes_4, from_be_bytes-to_be_bytes_8}
 use Rattle.record_codec.specs.declared.fault.Fault.TheVariants.{Short, BadField}
@@ -77,30 +77,30 @@ number_again {w = w} {spelled = spelled} wide n rest lt =
 pub number_field : {w : Width} {spelled : ℕ → List ℕ} {limit : ℕ} → IsWide w spelled limit → IsField (number_at w) spelled (λ n. n < limit)
 number_field wide = record { takes = number_takes wide; again = number_again wide }
 
--- from least on and below the limit
-pub record IsWithin (least limit n : ℕ) : Type 0 where
+-- from least to most, both included
+pub record IsWithin (least most n : ℕ) : Type 0 where
   pub low : least ≤ n
-  pub high : n < limit
+  pub high : n ≤ most
 
 pub both : (a b : Bool) → (a && b) ≡ true → (a ≡ true) × (b ≡ true)
 both true b e = (refl, e)
 both false b e = absurd cc
 
-within_takes : {w : Width} {spelled : ℕ → List ℕ} {most : ℕ} → IsWide w spelled most → (least limit : ℕ) (bytes : List ℕ) (x : ℕ × List ℕ) → IsBytes bytes → number_within w least limit bytes ≡ Ok x → Read spelled (IsWithin least limit) bytes x
+within_takes : {w : Width} {spelled : ℕ → List ℕ} {limit : ℕ} → IsWide w spelled limit → (least most : ℕ) (bytes : List ℕ) (x : ℕ × List ℕ) → IsBytes bytes → number_within w least most bytes ≡ Ok x → Read spelled (IsWithin least most) bytes x
 unfolding number_within
-within_takes {w = w} {spelled = spelled} wide least limit bytes x fits e =
+within_takes {w = w} {spelled = spelled} wide least most bytes x fits e =
     let b = bind_ok (number_at w bytes) _ x e in
-    let g = let_pass (leb least b.0.0 && ltb b.0.0 limit) (BadField (length bytes)) (Ok b.0) x b.2 in
+    let g = let_pass (leb least b.0.0 && leb b.0.0 most) (BadField (length bytes)) (Ok b.0) x b.2 in
     let t = both _ _ g.0 in
     let found = number_takes wide bytes b.0 fits b.1 in
-    subst (λ (y : ℕ × List ℕ). Read spelled (IsWithin least limit) bytes y) (ok_is _ _ g.1) (record { takes = found.takes; fits = record { low = leb-true _ _ t.0; high = ltb-true _ _ t.1 } })
+    subst (λ (y : ℕ × List ℕ). Read spelled (IsWithin least most) bytes y) (ok_is _ _ g.1) (record { takes = found.takes; fits = record { low = leb-true _ _ t.0; high = leb-true _ _ t.1 } })
 
-within_again : {w : Width} {spelled : ℕ → List ℕ} {most : ℕ} → IsWide w spelled most → (least limit : ℕ) → limit ≤ most → (n : ℕ) (rest : List ℕ) → IsWithin least limit n → number_within w least limit (spelled n ++ rest) ≡ Ok (n, rest)
+within_again : {w : Width} {spelled : ℕ → List ℕ} {limit : ℕ} → IsWide w spelled limit → (least most : ℕ) → most < limit → (n : ℕ) (rest : List ℕ) → IsWithin least most n → number_within w least most (spelled n ++ rest) ≡ Ok (n, rest)
 unfolding number_within
-within_again wide least limit le n rest within =
+within_again wide least most lt n rest within =
     let low : leb least n ≡ true = le-leb _ _ within.low in
-    let high : ltb n limit ≡ true = lt-ltb _ _ within.high in
+    let high : leb n most ≡ true = le-leb _ _ within.high in
     rw (number_again wide n rest (omega (arith, within.high)), low, high) refl
 
-pub within_field : {w : Width} {spelled : ℕ → List ℕ} {most : ℕ} → IsWide w spelled most → (least limit : ℕ) → limit ≤ most → IsField (number_within w least limit) spelled (IsWithin least limit)
-within_field wide least limit le = record { takes = within_takes wide least limit; again = within_again wide least limit le }
+pub within_field : {w : Width} {spelled : ℕ → List ℕ} {limit : ℕ} → IsWide w spelled limit → (least most : ℕ) → most < limit → IsField (number_within w least most) spelled (IsWithin least most)
+within_field wide least most lt = record { takes = within_takes wide least most; again = within_again wide least most lt }

@@ -1,5 +1,5 @@
 -- Where the faults of a whole record stand.
-use Rattle.std.proofs.Common.{◌≡◌, ℕ, zero, suc, ◌+◌, ◌-◌, ◌<◌, ◌≤◌, Bool, true, false, cond, eqb, List, [], ◌∷◌, ◌++◌, length, take, drop, Result, Ok, Err, refl, sym, ap, subst, ◌∙◌, append_assoc, arith, length-append}
+use Rattle.std.proofs.Common.{◌≡◌, ℕ, ◌+◌, ◌-◌, ◌<◌, Bool, false, cond, eqb, List, [], ◌∷◌, ◌++◌, length, take, drop, Result, Ok, Err, refl, sym, ap, subst, ◌∙◌, append_assoc, arith, length-append}
 use Rattle.std.specs.Prelude.{IfSome}
 use Rattle.std.proofs.lemmas.Bool.{ne_eqb}
 use Rattle.std.proofs.lemmas.List.{take_at, take-append-drop, append-nil, length-drop}
@@ -14,7 +14,7 @@ use Rattle.record_codec.specs.Reading.{◌>>=◌, record_at, whole, told, from_f
 use Rattle.record_codec.specs.Laws.{place_of, IsCut, IsFieldEnd, IsDecided, IsDecidedEarly, IsNoCut}
 use Rattle.record_codec.proofs.Readers.{ok_is}
 use Rattle.record_codec.proofs.RecordLaws.{of_any_length, front_again}
-use Rattle.record_codec.proofs.Local.{moved, IsMended, IsLasting, Stops, first, later, bind_err}
+use Rattle.record_codec.proofs.Local.{moved, IsMended, IsLasting, first, later, bind_err}
 use Rattle.record_codec.proofs.LocalFields.{record_local}
 
 abbrev ends_there : Fields × List ℕ → Result Fields Fault

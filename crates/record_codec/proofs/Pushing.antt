@@ -1,17 +1,16 @@
 -- One more event of a record.
-use Rattle.std.proofs.Common.{◌≡◌, ◌↔◌, ℕ, ◌+◌, ◌-◌, ◌^◌, ◌<◌, ◌≤◌, min, Bool, true, false, cond, List, [], ◌∷◌, ◌++◌, length, refl, ap, sym, subst, ◌∙◌, arith, length-append, append-nil}
+use Rattle.std.proofs.Common.{◌≡◌, ◌↔◌, ℕ, ◌+◌, ◌-◌, ◌^◌, ◌≤◌, min, Bool, true, false, cond, List, [], ◌∷◌, ◌++◌, length, refl, ap, sym, subst, ◌∙◌, arith, length-append, append-nil}
 use Rattle.std.proofs.lemmas.Bool.{false≢true}
 use Rattle.std.specs.Int.{w32, to_be_bytes}
-use Rattle.std.specs.List.{AllByRecursion, flat_map}
+use Rattle.std.specs.List.{flat_map}
 use Rattle.std.proofs.lemmas.Grind.{flat_map-append}
 use Rattle.cov_ground.specs.Limits.{longest_record, most_events}
 use Rattle.record_codec.specs.declared.record.Start.{Start}
 use Rattle.record_codec.specs.declared.record.Event.{Event}
-use Rattle.record_codec.specs.declared.builder.RecordBuilder.{RecordBuilder}
-use Rattle.record_codec.specs.Bytes.{event, front, signal_table, instance_table, event_list, tables, bytes_of}
-use Rattle.record_codec.specs.Limits.{IsStart, IsEvent, IsWithinLimits}
+use Rattle.record_codec.specs.Bytes.{event, front, signal_table, instance_table, event_list, tables}
+use Rattle.record_codec.specs.Limits.{IsEvent}
 use Rattle.record_codec.specs.Starts.{with_events, size_with, IsSound}
-use Rattle.record_codec.specs.Builders.{told, HasPushed}
+use Rattle.record_codec.specs.Builders.{told}
 use Rattle.record_codec.proofs.Appended.{in_parts}
 use Rattle.record_codec.proofs.Answering.{all_snoc}
 

@@ -1,9 +1,9 @@
 -- The whole record: what is read is spelled so and within its limits, and what is spelled so is read.
-use Rattle.std.proofs.Common.{true, ◌≡◌, ℕ, ◌^◌, ◌<◌, ◌≤◌, eqb, ltb, leb, List, [], ◌++◌, length, Result, Ok, refl, sym, ap, subst, ◌∙◌, append_assoc, arith}
+use Rattle.std.proofs.Common.{true, ◌≡◌, ℕ, ◌^◌, ◌<◌, ◌≤◌, eqb, leb, List, [], ◌++◌, length, Result, Ok, refl, sym, ap, subst, ◌∙◌, append_assoc, arith}
 use Rattle.std.specs.Int.{w8, w16, w32, w64, to_be_bytes}
 use Rattle.std.specs.List.{AllByRecursion}
 use mathlib.Core.Bool.{◌&&◌}
-use Rattle.std.proofs.lemmas.Bool.{eqb-true, leb-true, ltb-true, le-leb, lt-ltb}
+use Rattle.std.proofs.lemmas.Bool.{eqb-true, leb-true, le-leb}
 use Rattle.std.proofs.lemmas.List.{append-nil, nil_from_length}
 use mathlib.Core.HLevel.{is_prop→PathP}
 use Rattle.record_codec.specs.declared.fault.Fault.{Fault}
@@ -27,16 +27,16 @@ use Rattle.record_codec.proofs.EventLaws.{events_field}
 
 -- ---- the letters and the version
 
-version_takes : (bytes : List ℕ) (x : ℕ × List ℕ) → IsBytes bytes → version_at bytes ≡ Ok x → Read (to_be_bytes w16) (IsWithin 1 3) bytes x
+version_takes : (bytes : List ℕ) (x : ℕ × List ℕ) → IsBytes bytes → version_at bytes ≡ Ok x → Read (to_be_bytes w16) (IsWithin 1 2) bytes x
 unfolding version_at
 version_takes bytes x fits e =
     let a = bind_ok (number_at w16 bytes) _ x e in
-    let g = let_pass (leb 1 a.0.0 && ltb a.0.0 3) (BadVersion a.0.0) (Ok a.0) x a.2 in
+    let g = let_pass (leb 1 a.0.0 && leb a.0.0 2) (BadVersion a.0.0) (Ok a.0) x a.2 in
     let t = both _ _ g.0 in
     let found = (number_field wide16).takes bytes a.0 fits a.1 in
-    subst (λ (y : ℕ × List ℕ). Read (to_be_bytes w16) (IsWithin 1 3) bytes y) (ok_is a.0 x g.1) (record { takes = found.takes; fits = record { low = leb-true _ _ t.0; high = ltb-true _ _ t.1 } })
+    subst (λ (y : ℕ × List ℕ). Read (to_be_bytes w16) (IsWithin 1 2) bytes y) (ok_is a.0 x g.1) (record { takes = found.takes; fits = record { low = leb-true _ _ t.0; high = leb-true _ _ t.1 } })
 
-head_takes : (bytes : List ℕ) (x : ℕ × List ℕ) → IsBytes bytes → head_at bytes ≡ Ok x → Read head (IsWithin 1 3) bytes x
+head_takes : (bytes : List ℕ) (x : ℕ × List ℕ) → IsBytes bytes → head_at bytes ≡ Ok x → Read head (IsWithin 1 2) bytes x
 unfolding head_at
 head_takes bytes x fits e =
     let a = bind_ok (number_at w32 bytes) _ x e in
@@ -47,14 +47,14 @@ head_takes bytes x fits e =
     let version = version_takes a.0.1 x found.takes.rest_fits g.1 in
     record { takes = Takes-then letters version.takes; fits = version.fits }
 
-version_again : (version : ℕ) (rest : List ℕ) → IsWithin 1 3 version → version_at (to_be_bytes w16 version ++ rest) ≡ Ok (version, rest)
+version_again : (version : ℕ) (rest : List ℕ) → IsWithin 1 2 version → version_at (to_be_bytes w16 version ++ rest) ≡ Ok (version, rest)
 unfolding version_at
 version_again version rest within =
     let low : leb 1 version ≡ true = le-leb _ _ within.low in
-    let high : ltb version 3 ≡ true = lt-ltb _ _ within.high in
+    let high : leb version 2 ≡ true = le-leb _ _ within.high in
     last (number_field wide16) version rest _ (omega (arith, within.high)) ∙ rw (low, high) refl
 
-head_again : (version : ℕ) (rest : List ℕ) → IsWithin 1 3 version → head_at (head version ++ rest) ≡ Ok (version, rest)
+head_again : (version : ℕ) (rest : List ℕ) → IsWithin 1 2 version → head_at (head version ++ rest) ≡ Ok (version, rest)
 unfolding head_at
 head_again version rest within = last (number_field wide32) 0x43565243 (to_be_bytes w16 version ++ rest) _ (omega arith) ∙ version_again version rest within
 
@@ -78,24 +78,24 @@ pub record IsTestRow (t : TestRow) : Type 0 where
   pub user : IsText 0 255 32 t.user
 
 test_made : (bytes id user a b c d e : List ℕ) (status seed time : ℕ)
-    → Read text (IsText 1 255 33) bytes (id, a) → Read one_byte (IsWithin 0 4) a (status, b)
+    → Read text (IsText 1 255 33) bytes (id, a) → Read one_byte (IsWithin 0 3) a (status, b)
     → Read (to_be_bytes w64) (λ n. n < 2 ^ 64) b (seed, c) → Read (to_be_bytes w64) (λ n. n < 2 ^ 64) c (time, d) → Read text (IsText 0 255 32) d (user, e)
     → Read test_row IsTestRow bytes (record { id = id; status = status; seed = seed; time = time; user = user }, e)
 test_made bytes id user a b c d e status seed time i s n t u = record {
   takes = Takes-then i.takes (Takes-then s.takes (Takes-then n.takes (Takes-then t.takes u.takes)));
-  fits = record { id = i.fits; status = s.fits.high; seed = n.fits; time = t.fits; user = u.fits };
+  fits = record { id = i.fits; status = omega (arith, s.fits.high); seed = n.fits; time = t.fits; user = u.fits };
 }
 
 test_takes : (bytes : List ℕ) (x : TestRow × List ℕ) → IsBytes bytes → test_at bytes ≡ Ok x → Read test_row IsTestRow bytes x
 unfolding test_at
 test_takes bytes x fits e =
     let a = bind_ok (text_at 1 255 33 bytes) _ x e in
-    let b = bind_ok (number_within w8 0 4 a.0.1) _ x a.2 in
+    let b = bind_ok (number_within w8 0 3 a.0.1) _ x a.2 in
     let c = bind_ok (number_at w64 b.0.1) _ x b.2 in
     let d = bind_ok (number_at w64 c.0.1) _ x c.2 in
     let f = bind_ok (text_at 0 255 32 d.0.1) _ x d.2 in
     let id = (text_field 1 255 33 (omega arith)).takes bytes a.0 fits a.1 in
-    let status = (within_field wide8 0 4 (omega arith)).takes a.0.1 b.0 id.takes.rest_fits b.1 in
+    let status = (within_field wide8 0 3 (omega arith)).takes a.0.1 b.0 id.takes.rest_fits b.1 in
     let seed = (number_field wide64).takes b.0.1 c.0 status.takes.rest_fits c.1 in
     let time = (number_field wide64).takes c.0.1 d.0 seed.takes.rest_fits d.1 in
     let user = (text_field 0 255 32 (omega arith)).takes d.0.1 f.0 time.takes.rest_fits f.1 in
@@ -107,7 +107,7 @@ test_again : (t : TestRow) (rest : List ℕ) → IsTestRow t → test_at (test_a
 unfolding test_at
 test_again t rest fits =
     last (text_field 1 255 33 (omega arith)) t.id (one_byte t.status ++ (to_be_bytes w64 t.seed ++ (to_be_bytes w64 t.time ++ (text t.user ++ rest)))) _ fits.id
-    ∙ last (within_field wide8 0 4 (omega arith)) t.status (to_be_bytes w64 t.seed ++ (to_be_bytes w64 t.time ++ (text t.user ++ rest))) _ (record { low = omega arith; high = fits.status })
+    ∙ last (within_field wide8 0 3 (omega arith)) t.status (to_be_bytes w64 t.seed ++ (to_be_bytes w64 t.time ++ (text t.user ++ rest))) _ (record { low = omega arith; high = omega (arith, fits.status) })
     ∙ last (number_field wide64) t.seed (to_be_bytes w64 t.time ++ (text t.user ++ rest)) _ fits.seed
     ∙ last (number_field wide64) t.time (text t.user ++ rest) _ fits.time
     ∙ last (text_field 0 255 32 (omega arith)) t.user rest _ fits.user
@@ -145,7 +145,7 @@ pub record Found (bytes : List ℕ) (x : Fields × List ℕ) : Type 0 where
   pub within : IsOfAnyLength x.0
 
 record_made : (bytes a b c d e : List ℕ) (version : ℕ) (t : TestRow) (signals : List SignalRow) (instances : List InstRow) (events : List Event)
-    → Read head (IsWithin 1 3) bytes (version, a) → Read test_row IsTestRow a (t, b) → Read signal_table (AreRows IsSignalRow 4096) b (signals, c)
+    → Read head (IsWithin 1 2) bytes (version, a) → Read test_row IsTestRow a (t, b) → Read signal_table (AreRows IsSignalRow 4096) b (signals, c)
     → Read (instance_table version) (AreRows (IsInstRow version) 1024) c (instances, d) → Read event_list (AreRows (IsEvent signals instances) 1048576) d (events, e)
     → Found bytes (record { version = version; id = t.id; status = t.status; seed = t.seed; time = t.time; user = t.user; signals = signals; instances = instances; events = events }, e)
 record_made bytes a b c d e version t signals instances events letters test s i v =
@@ -157,7 +157,7 @@ record_made bytes a b c d e version t signals instances events letters test s i 
       within = record {
         start = record {
           some = letters.fits.low;
-          version = letters.fits.high;
+          version = omega (arith, letters.fits.high);
           id = test.fits.id;
           status = test.fits.status;
           seed = test.fits.seed;
@@ -200,7 +200,7 @@ record_again r rest within =
     let from_instances : List ℕ = instance_table r.version r.instances ++ (event_list r.events ++ rest) in
     let from_signals : List ℕ = signal_table r.signals ++ from_instances in
     let test : IsTestRow (test_of r) = record { id = start.id; status = start.status; seed = start.seed; time = start.time; user = start.user } in
-    rw (head_again r.version (test_and (test_of r) from_signals) (record { low = start.some; high = start.version }), test_again (test_of r) from_signals test)
+    rw (head_again r.version (test_and (test_of r) from_signals) (record { low = start.some; high = omega (arith, start.version) }), test_again (test_of r) from_signals test)
     (last signals_field r.signals from_instances _ signals
     ∙ last (instances_field r.version) r.instances (event_list r.events ++ rest) _ instances
     ∙ last (events_field r.signals r.version r.instances signals instances) r.events rest _ events)

@@ -1,5 +1,5 @@
 -- The signals and the instances.
-use Rattle.std.proofs.Common.{◌≡◌, ℕ, cond, zero, suc, ◌+◌, ◌<◌, ◌≤◌, Bool, true, false, eqb, List, [], ◌∷◌, ◌++◌, length, Ok, refl, sym, ap, subst, ◌∙◌, arith}
+use Rattle.std.proofs.Common.{◌≡◌, ℕ, cond, zero, suc, ◌<◌, ◌≤◌, Bool, true, false, eqb, List, [], ◌∷◌, ◌++◌, length, Ok, refl, sym, ap, subst, ◌∙◌, arith}
 use Rattle.std.specs.List.{flat_map, AllByRecursion}
 use Rattle.std.specs.Int.{Width, w8}
 use Rattle.record_codec.specs.declared.record.SignalRow.{SignalRow}
@@ -13,12 +13,12 @@ use Rattle.record_codec.proofs.Numbers.{IsWithin, IsWide, one_byte, wide8, wide1
 use Rattle.record_codec.proofs.Texts.{text_field}
 use Rattle.record_codec.proofs.Counts.{counted_takes, counted_again}
 
-flag_back : (n : ℕ) → n < 2 → flag (eqb n 1) ≡ n
-flag_back zero lt = refl
-flag_back (suc zero) lt = refl
-flag_back (suc (suc n)) lt = absurd (omega arith)
+flag_back : (n : ℕ) → n ≤ 1 → flag (eqb n 1) ≡ n
+flag_back zero le = refl
+flag_back (suc zero) le = refl
+flag_back (suc (suc n)) le = absurd (omega arith)
 
-flag_below : (b : Bool) → IsWithin 0 2 (flag b)
+flag_below : (b : Bool) → IsWithin 0 1 (flag b)
 flag_below true = record { low = omega arith; high = omega arith }
 flag_below false = record { low = omega arith; high = omega arith }
 
@@ -31,21 +31,21 @@ flag_again false = refl
 arg_takes : (bytes : List ℕ) (x : ArgRow × List ℕ) → IsBytes bytes → arg_at bytes ≡ Ok x → Read arg_row IsArgRow bytes x
 unfolding arg_at
 arg_takes bytes x fits e =
-    let a = bind_ok (number_within w8 1 65 bytes) _ x e in
-    let b = bind_ok (number_within w8 0 2 a.0.1) _ x a.2 in
-    let width = (within_field wide8 1 65 (omega arith)).takes bytes a.0 fits a.1 in
-    let sign = (within_field wide8 0 2 (omega arith)).takes a.0.1 b.0 width.takes.rest_fits b.1 in
+    let a = bind_ok (number_within w8 1 64 bytes) _ x e in
+    let b = bind_ok (number_within w8 0 1 a.0.1) _ x a.2 in
+    let width = (within_field wide8 1 64 (omega arith)).takes bytes a.0 fits a.1 in
+    let sign = (within_field wide8 0 1 (omega arith)).takes a.0.1 b.0 width.takes.rest_fits b.1 in
     let all : Takes bytes (a.0.0 ∷ b.0.0 ∷ []) b.0.1 = Takes-then width.takes sign.takes in
     let row : ArgRow = record { width = a.0.0; signed = eqb b.0.0 1 } in
     let spelled : Takes bytes (arg_row row) b.0.1 = subst (λ (n : ℕ). Takes bytes (a.0.0 ∷ n ∷ []) b.0.1) (sym (flag_back b.0.0 sign.fits.high)) all in
-    let within : IsArgRow row = record { some = width.fits.low; width = omega (arith, width.fits.high) } in
+    let within : IsArgRow row = record { some = width.fits.low; width = width.fits.high } in
     subst (λ (y : ArgRow × List ℕ). Read arg_row IsArgRow bytes y) {x = (row, b.0.1)} (ok_is (row, b.0.1) x b.2) (record { takes = spelled; fits = within })
 
 arg_again : (row : ArgRow) (rest : List ℕ) → IsArgRow row → arg_at (arg_row row ++ rest) ≡ Ok (row, rest)
 unfolding arg_at
 arg_again row rest fits =
-    step (within_field wide8 1 65 (omega arith)) row.width (flag row.signed ∷ []) rest _ (record { low = fits.some; high = omega (arith, fits.width) })
-    ∙ last (within_field wide8 0 2 (omega arith)) (flag row.signed) rest _ (flag_below row.signed)
+    step (within_field wide8 1 64 (omega arith)) row.width (flag row.signed ∷ []) rest _ (record { low = fits.some; high = fits.width })
+    ∙ last (within_field wide8 0 1 (omega arith)) (flag row.signed) rest _ (flag_below row.signed)
     ∙ ap (λ (b : Bool). Ok (record { width = row.width; signed = b }, rest)) (flag_again row.signed)
 
 pub arg_field : IsField arg_at arg_row IsArgRow
@@ -83,16 +83,16 @@ pub record AreRows {A : Type 0} (Fits : A → Type 0) (most : ℕ) (rows : List 
 
 -- rows behind their number, which has this width
 abbrev table_at : {A : Type 0} → Width → Reader A → ℕ → Reader (List A)
-table_at w read most bytes = number_within w 0 (most + 1) bytes >>= λ n. counted read n.0 n.1
+table_at w read most bytes = number_within w 0 most bytes >>= λ n. counted read n.0 n.1
 
 abbrev table : {A : Type 0} → (ℕ → List ℕ) → (A → List ℕ) → List A → List ℕ
 table number spelled rows = number (length rows) ++ flat_map spelled rows
 
 table_takes : {A : Type 0} {w : Width} {number : ℕ → List ℕ} {limit : ℕ} {read : Reader A} {spelled : A → List ℕ} {Fits : A → Type 0} → IsWide w number limit → IsField read spelled Fits
-    → (most : ℕ) → most + 1 ≤ limit → (bytes : List ℕ) (x : List A × List ℕ) → IsBytes bytes → table_at w read most bytes ≡ Ok x → Read (table number spelled) (AreRows Fits most) bytes x
-table_takes {w = w} {number = number} {spelled = spelled} wide field most le bytes x fits e =
-    let a = bind_ok (number_within w 0 (most + 1) bytes) _ x e in
-    let count = (within_field wide 0 (most + 1) le).takes bytes a.0 fits a.1 in
+    → (most : ℕ) → most < limit → (bytes : List ℕ) (x : List A × List ℕ) → IsBytes bytes → table_at w read most bytes ≡ Ok x → Read (table number spelled) (AreRows Fits most) bytes x
+table_takes {w = w} {number = number} {spelled = spelled} wide field most lt bytes x fits e =
+    let a = bind_ok (number_within w 0 most bytes) _ x e in
+    let count = (within_field wide 0 most lt).takes bytes a.0 fits a.1 in
     let rows = counted_takes field a.0.0 a.0.1 x count.takes.rest_fits a.2 in
     let all : Takes bytes (number a.0.0 ++ flat_map spelled x.0) x.1 = Takes-then count.takes rows.takes in
     record {
@@ -101,14 +101,14 @@ table_takes {w = w} {number = number} {spelled = spelled} wide field most le byt
     }
 
 table_again : {A : Type 0} {w : Width} {number : ℕ → List ℕ} {limit : ℕ} {read : Reader A} {spelled : A → List ℕ} {Fits : A → Type 0} → IsWide w number limit → IsField read spelled Fits
-    → (most : ℕ) → most + 1 ≤ limit → (rows : List A) (rest : List ℕ) → AreRows Fits most rows → table_at w read most (table number spelled rows ++ rest) ≡ Ok (rows, rest)
-table_again {spelled = spelled} wide field most le rows rest fits =
-    step (within_field wide 0 (most + 1) le) (length rows) (flat_map spelled rows) rest _ (record { low = omega arith; high = omega (arith, fits.count) })
+    → (most : ℕ) → most < limit → (rows : List A) (rest : List ℕ) → AreRows Fits most rows → table_at w read most (table number spelled rows ++ rest) ≡ Ok (rows, rest)
+table_again {spelled = spelled} wide field most lt rows rest fits =
+    step (within_field wide 0 most lt) (length rows) (flat_map spelled rows) rest _ (record { low = omega arith; high = fits.count })
     ∙ counted_again field rows rest fits.all
 
 table_field : {A : Type 0} {w : Width} {number : ℕ → List ℕ} {limit : ℕ} {read : Reader A} {spelled : A → List ℕ} {Fits : A → Type 0} → IsWide w number limit → IsField read spelled Fits
-    → (most : ℕ) → most + 1 ≤ limit → IsField (table_at w read most) (table number spelled) (AreRows Fits most)
-table_field wide field most le = record { takes = table_takes wide field most le; again = table_again wide field most le }
+    → (most : ℕ) → most < limit → IsField (table_at w read most) (table number spelled) (AreRows Fits most)
+table_field wide field most lt = record { takes = table_takes wide field most lt; again = table_again wide field most lt }
 
 pub signals_field : IsField signals_at signal_table (AreRows IsSignalRow 4096)
 unfolding signals_at

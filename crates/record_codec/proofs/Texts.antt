@@ -1,5 +1,5 @@
 -- Texts behind their length.
-use Rattle.std.proofs.Common.{◌≡◌, ℕ, ◌+◌, ◌^◌, ◌<◌, ◌≤◌, Bool, true, false, cond, ltb, leb, List, [], ◌∷◌, ◌++◌, length, take, drop, Option, Some, None, Ok, Err, refl, sym, ap, subst, arith}
+use Rattle.std.proofs.Common.{◌≡◌, ℕ, ◌^◌, ◌<◌, ◌≤◌, Bool, true, false, cond, ltb, leb, List, [], ◌∷◌, ◌++◌, length, take, drop, Option, Some, None, Ok, Err, refl, sym, ap, subst, arith}
 use Rattle.std.specs.List.{AllByRecursion, position, position_or_len}
 use Rattle.std.specs.Int.{w16, to_be_bytes}
 use Rattle.std.specs.Prelude.{◌||◌}
@@ -57,12 +57,12 @@ pub unless_ok : (bad : Option ℕ) (count : ℕ) (bytes : List ℕ) (x : List �
 unless_ok None count bytes x e = (refl, ok_is _ _ e)
 unless_ok (Some bad) count bytes x e = absurd cc
 
-text_takes : (least most low : ℕ) → most + 1 < 2 ^ 16 → (bytes : List ℕ) (x : List ℕ × List ℕ) → IsBytes bytes → text_at least most low bytes ≡ Ok x → Read text (IsText least most low) bytes x
+text_takes : (least most low : ℕ) → most < 2 ^ 16 → (bytes : List ℕ) (x : List ℕ × List ℕ) → IsBytes bytes → text_at least most low bytes ≡ Ok x → Read text (IsText least most low) bytes x
 unfolding text_at
 text_takes least most low le bytes x fits e =
-    let b = bind_ok (number_within w16 least (most + 1) bytes) (λ n. cond (ltb (length n.1) n.0) (Err (Short (length bytes))) (unless_bad (position (is_bad low) (take n.0 n.1)) n.0 n.1)) x e in
+    let b = bind_ok (number_within w16 least most bytes) (λ n. cond (ltb (length n.1) n.0) (Err (Short (length bytes))) (unless_bad (position (is_bad low) (take n.0 n.1)) n.0 n.1)) x e in
     let n = b.0 in
-    let t = (within_field wide16 least (most + 1) (omega arith)).takes bytes n fits b.1 in
+    let t = (within_field wide16 least most le).takes bytes n fits b.1 in
     let g = not_refused (ltb (length n.1) n.0) (Short (length bytes)) (unless_bad (position (is_bad low) (take n.0 n.1)) n.0 n.1) x b.2 in
     let u = unless_ok (position (is_bad low) (take n.0 n.1)) n.0 n.1 x g.1 in
     let long : n.0 ≤ length n.1 = ltb-false _ _ g.0 in
@@ -72,11 +72,11 @@ text_takes least most low le bytes x fits e =
     let within : IsText least most low (take n.0 n.1) = record { long_enough = omega (arith, t.fits.low); short_enough = omega (arith, t.fits.high); bytes = no_bad low (take n.0 n.1) u.0 } in
     subst (λ (y : List ℕ × List ℕ). Read text (IsText least most low) bytes y) u.1 (record { takes = whole; fits = within })
 
-text_again : (least most low : ℕ) → most + 1 < 2 ^ 16 → (x rest : List ℕ) → IsText least most low x → text_at least most low (text x ++ rest) ≡ Ok (x, rest)
+text_again : (least most low : ℕ) → most < 2 ^ 16 → (x rest : List ℕ) → IsText least most low x → text_at least most low (text x ++ rest) ≡ Ok (x, rest)
 unfolding text_at
 text_again least most low le x rest within =
     let long : ltb (length (x ++ rest)) (length x) ≡ false = le-ltb _ _ (omega (arith, length-append x rest)) in
-    rw ((within_field wide16 least (most + 1) (omega arith)).again (length x) (x ++ rest) (record { low = within.long_enough; high = omega (arith, within.short_enough) }), long, take_at x rest (length x) refl, good_none low x within.bytes, take_at x rest (length x) refl, drop_at x rest (length x) refl) refl
+    rw ((within_field wide16 least most le).again (length x) (x ++ rest) (record { low = within.long_enough; high = omega (arith, within.short_enough) }), long, take_at x rest (length x) refl, good_none low x within.bytes, take_at x rest (length x) refl, drop_at x rest (length x) refl) refl
 
-pub text_field : (least most low : ℕ) → most + 1 < 2 ^ 16 → IsField (text_at least most low) text (IsText least most low)
+pub text_field : (least most low : ℕ) → most < 2 ^ 16 → IsField (text_at least most low) text (IsText least most low)
 text_field least most low le = record { takes = text_takes least most low le; again = text_again least most low le }

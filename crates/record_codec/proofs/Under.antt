@@ -1,5 +1,5 @@
 -- An event by the greatest values of its signals is the event by their widths.
-use Rattle.std.proofs.Common.{◌≡◌, ℕ, ◌+◌, ◌-◌, ◌^◌, ◌<◌, ◌≤◌, Bool, true, false, cond, eqb, ltb, leb, zero, suc, List, [], ◌∷◌, length, take, drop, Option, Some, None, Result, Ok, Err, refl, sym, ap, subst, ◌∙◌, arith, ◌⊎◌, inl, inr}
+use Rattle.std.proofs.Common.{◌≡◌, ℕ, ◌-◌, ◌^◌, ◌<◌, ◌≤◌, Bool, true, false, cond, eqb, ltb, leb, zero, suc, List, [], ◌∷◌, length, take, drop, Option, Some, None, Result, Ok, Err, refl, sym, ap, subst, ◌∙◌, arith, ◌⊎◌, inl, inr}
 use Rattle.std.specs.Prelude.{slice_get, ok_or, if◌then◌else◌}
 use mathlib.Core.Bool.{◌&&◌}
 use Rattle.std.specs.Option.{option_map}
@@ -28,28 +28,25 @@ bind_same (Err e) f g same = refl
 
 -- ---- the test of a value
 
-pub below_same : (width n : ℕ) → n < 2 ^ 64 → ltb n (greatest width + 1) ≡ ltb n (2 ^ width)
+pub below_same : (width n : ℕ) → n < 2 ^ 64 → leb n (greatest width) ≡ leb n (2 ^ width - 1)
 below_same width n lt = by_width (leb 64 width) refl
   where
     wide : 64 ≤ width → 2 ^ 64 ≤ 2 ^ width
     wide le = pow-le-pow_right (omega arith) le
 
-    some : 2 ^ 0 ≤ 2 ^ width
-    some = let base : 1 ≤ 2 = omega arith in let low : 0 ≤ width = omega arith in pow-le-pow_right base low
+    by_width : (b : Bool) → leb 64 width ≡ b → leb n (if b then 2 ^ 64 - 1 else 2 ^ width - 1) ≡ leb n (2 ^ width - 1)
+    by_width true e = let w = wide (leb-true 64 width e) in le-leb n (2 ^ 64 - 1) (omega arith) ∙ sym (le-leb n (2 ^ width - 1) (omega arith))
+    by_width false e = refl
 
-    by_width : (b : Bool) → leb 64 width ≡ b → ltb n ((if b then 2 ^ 64 - 1 else 2 ^ width - 1) + 1) ≡ ltb n (2 ^ width)
-    by_width true e = let w = wide (leb-true 64 width e) in lt-ltb n (2 ^ 64 - 1 + 1) (omega arith) ∙ sym (lt-ltb n (2 ^ width) (omega arith))
-    by_width false e = ap (ltb n) (omega (arith, some))
-
-range_same : (width : ℕ) (bytes : List ℕ) → IsBytes bytes → number_within w64 0 (greatest width + 1) bytes ≡ number_within w64 0 (2 ^ width) bytes
+range_same : (width : ℕ) (bytes : List ℕ) → IsBytes bytes → number_within w64 0 (greatest width) bytes ≡ number_within w64 0 (2 ^ width - 1) bytes
 unfolding number_within
 range_same width bytes fits = by_length (ltb (length bytes) 8)
   where
     n : ℕ
     n = from_be_bytes w64 (take 8 bytes)
 
-    by_length : (b : Bool) → (cond b (Err (Short (length bytes))) (Ok (n, drop 8 bytes)) >>= λ (x : ℕ × List ℕ). cond (leb 0 x.0 && ltb x.0 (greatest width + 1)) (Ok x) (Err (BadField (length bytes))))
-        ≡ (cond b (Err (Short (length bytes))) (Ok (n, drop 8 bytes)) >>= λ (x : ℕ × List ℕ). cond (leb 0 x.0 && ltb x.0 (2 ^ width)) (Ok x) (Err (BadField (length bytes))))
+    by_length : (b : Bool) → (cond b (Err (Short (length bytes))) (Ok (n, drop 8 bytes)) >>= λ (x : ℕ × List ℕ). cond (leb 0 x.0 && leb x.0 (greatest width)) (Ok x) (Err (BadField (length bytes))))
+        ≡ (cond b (Err (Short (length bytes))) (Ok (n, drop 8 bytes)) >>= λ (x : ℕ × List ℕ). cond (leb 0 x.0 && leb x.0 (2 ^ width - 1)) (Ok x) (Err (BadField (length bytes))))
     by_length true = refl
     by_length false = ap (λ (t : Bool). cond (leb 0 n && t) (Ok (n, drop 8 bytes)) (Err (BadField (length bytes)))) (below_same width n (wide64.below (take 8 bytes) (IsBytes-take 8 bytes fits)))
 
@@ -61,8 +58,8 @@ known_same width bytes fits = ap (λ (r : Result (ℕ × List ℕ) Fault). r >>=
 
 pub value_same : (width : ℕ) (bytes : List ℕ) → IsBytes bytes → value_under (greatest width) bytes ≡ value_at width bytes
 unfolding value_under value_at
-value_same width bytes fits = bind_same (number_within w8 0 2 bytes) _ _ (λ known e.
-    let found = (within_field wide8 0 2 (omega arith)).takes bytes known fits e in
+value_same width bytes fits = bind_same (number_within w8 0 1 bytes) _ _ (λ known e.
+    let found = (within_field wide8 0 1 (omega arith)).takes bytes known fits e in
     ap (λ (r : Result (Option ℕ × List ℕ) Fault). cond (eqb known.0 0) (Ok (None, known.1)) r) (known_same width known.1 found.takes.rest_fits))
 
 abbrev set_of : ℕ → Option ℕ × List ℕ → Result (Event × List ℕ) Fault
@@ -82,30 +79,30 @@ set_same signals bytes fits = bind_same (number_at w16 bytes) _ _ (λ signal e.
 
 pub event_same : (signals : List SignalRow) (instances : List InstRow) (bytes : List ℕ) → IsBytes bytes → event_under (limits_of signals) instances bytes ≡ event_at signals instances bytes
 unfolding event_under event_at
-event_same signals instances bytes fits = bind_same (number_within w8 1 3 bytes) _ _ (λ tag e.
-    let found = (within_field wide8 1 3 (omega arith)).takes bytes tag fits e in
+event_same signals instances bytes fits = bind_same (number_within w8 1 2 bytes) _ _ (λ tag e.
+    let found = (within_field wide8 1 2 (omega arith)).takes bytes tag fits e in
     ap (λ (r : Result (Event × List ℕ) Fault). cond (eqb tag.0 1) r (sample_at instances tag.1)) (set_same signals tag.1 found.takes.rest_fits))
 
 -- ---- the bytes behind an event are bytes
 
-within_rest : {w : Width} {spelled : ℕ → List ℕ} {most : ℕ} → IsWide w spelled most → (least limit : ℕ) (bytes : List ℕ) (x : ℕ × List ℕ) → IsBytes bytes → number_within w least limit bytes ≡ Ok x → IsBytes x.1
+within_rest : {w : Width} {spelled : ℕ → List ℕ} {limit : ℕ} → IsWide w spelled limit → (least most : ℕ) (bytes : List ℕ) (x : ℕ × List ℕ) → IsBytes bytes → number_within w least most bytes ≡ Ok x → IsBytes x.1
 unfolding number_within
-within_rest {w = w} wide least limit bytes x fits e =
+within_rest {w = w} wide least most bytes x fits e =
     let b = bind_ok (number_at w bytes) _ x e in
-    let g = let_pass (leb least b.0.0 && ltb b.0.0 limit) (BadField (length bytes)) (Ok b.0) x b.2 in
+    let g = let_pass (leb least b.0.0 && leb b.0.0 most) (BadField (length bytes)) (Ok b.0) x b.2 in
     subst (λ (y : ℕ × List ℕ). IsBytes y.1) (ok_is b.0 x g.1) ((number_field wide).takes bytes b.0 fits b.1).takes.rest_fits
 
 known_rest : (most : ℕ) (bytes : List ℕ) (x : Option ℕ × List ℕ) → IsBytes bytes → known_under most bytes ≡ Ok x → IsBytes x.1
 unfolding known_under
 known_rest most bytes x fits e =
-    let a = bind_ok (number_within w64 0 (most + 1) bytes) _ x e in
-    subst (λ (y : Option ℕ × List ℕ). IsBytes y.1) {x = (Some a.0.0, a.0.1)} (ok_is (Some a.0.0, a.0.1) x a.2) (within_rest wide64 0 (most + 1) bytes a.0 fits a.1)
+    let a = bind_ok (number_within w64 0 most bytes) _ x e in
+    subst (λ (y : Option ℕ × List ℕ). IsBytes y.1) {x = (Some a.0.0, a.0.1)} (ok_is (Some a.0.0, a.0.1) x a.2) (within_rest wide64 0 most bytes a.0 fits a.1)
 
 pub value_rest : (most : ℕ) (bytes : List ℕ) (x : Option ℕ × List ℕ) → IsBytes bytes → value_under most bytes ≡ Ok x → IsBytes x.1
 unfolding value_under
 value_rest most bytes x fits e =
-    let a = bind_ok (number_within w8 0 2 bytes) _ x e in
-    let left = within_rest wide8 0 2 bytes a.0 fits a.1 in
+    let a = bind_ok (number_within w8 0 1 bytes) _ x e in
+    let left = within_rest wide8 0 1 bytes a.0 fits a.1 in
     elim (chosen (eqb a.0.0 0) (Ok (None, a.0.1)) (known_under most a.0.1) (Ok x) a.2) [
       | inl h ↦ subst (λ (y : Option ℕ × List ℕ). IsBytes y.1) {x = (None, a.0.1)} (ok_is (None, a.0.1) x h.1) left
       | inr h ↦ known_rest most a.0.1 x left h.1
@@ -141,8 +138,8 @@ sample_rest instances bytes x fits e =
 pub event_rest : (limits : List ℕ) (instances : List InstRow) (bytes : List ℕ) (x : Event × List ℕ) → IsBytes bytes → event_under limits instances bytes ≡ Ok x → IsBytes x.1
 unfolding event_under
 event_rest limits instances bytes x fits e =
-    let a = bind_ok (number_within w8 1 3 bytes) _ x e in
-    let left = within_rest wide8 1 3 bytes a.0 fits a.1 in
+    let a = bind_ok (number_within w8 1 2 bytes) _ x e in
+    let left = within_rest wide8 1 2 bytes a.0 fits a.1 in
     elim (chosen (eqb a.0.0 1) (set_under limits a.0.1) (sample_at instances a.0.1) (Ok x) a.2) [
       | inl h ↦ set_rest limits a.0.1 x left h.1
       | inr h ↦ sample_rest instances a.0.1 x left h.1
@@ -184,28 +181,27 @@ abbrev sample_of : ℕ → List (Option ℕ) × List ℕ → Result (Event × Li
 sample_of instance args = Ok (Sample instance args.0, args.1)
 
 plain_behind : (instances : List InstRow) → HaveNoArgs instances → (d : Fault) (n : ℕ × List ℕ)
-    → (cond (leb 0 n.0 && ltb n.0 (length instances)) (Ok n) (Err d) >>= λ (m : ℕ × List ℕ). Ok (Sample m.0 [], m.1)) ≡ (ok_or (slice_get instances n.0) d >>= λ (row : InstRow). values_at row.args n.1 >>= sample_of n.0)
+    → cond (ltb n.0 (length instances)) (Ok (Sample n.0 [], n.1)) (Err d) ≡ (ok_or (slice_get instances n.0) d >>= λ (row : InstRow). values_at row.args n.1 >>= sample_of n.0)
 unfolding values_at
 plain_behind instances none d n =
-    let low : leb 0 n.0 ≡ true = le-leb 0 n.0 (omega arith) in
     elim (at_place instances n.0 none) [
-      | inl h ↦ rw (low, h.0, le-ltb n.0 (length instances) h.1) refl
-      | inr h ↦ rw (low, h.1, h.2, lt-ltb n.0 (length instances) h.3) refl
+      | inl h ↦ rw (h.0, le-ltb n.0 (length instances) h.1) refl
+      | inr h ↦ rw (h.1, h.2, lt-ltb n.0 (length instances) h.3) refl
     ]
 
 plain_by : (instances : List InstRow) → HaveNoArgs instances → (d : Fault) (r : Result (ℕ × List ℕ) Fault)
-    → ((r >>= λ (n : ℕ × List ℕ). cond (leb 0 n.0 && ltb n.0 (length instances)) (Ok n) (Err d)) >>= λ (m : ℕ × List ℕ). Ok (Sample m.0 [], m.1))
+    → (r >>= λ (n : ℕ × List ℕ). cond (ltb n.0 (length instances)) (Ok (Sample n.0 [], n.1)) (Err d))
     ≡ (r >>= λ (n : ℕ × List ℕ). ok_or (slice_get instances n.0) d >>= λ (row : InstRow). values_at row.args n.1 >>= sample_of n.0)
 plain_by instances none d (Ok n) = plain_behind instances none d n
 plain_by instances none d (Err f) = refl
 
 plain_sample_same : (instances : List InstRow) → HaveNoArgs instances → (bytes : List ℕ) → plain_sample_at (length instances) bytes ≡ sample_at instances bytes
-unfolding plain_sample_at sample_at number_within
+unfolding plain_sample_at sample_at
 plain_sample_same instances none bytes = plain_by instances none (BadField (length bytes)) (number_at w16 bytes)
 
 plain_event_same : (limits : List ℕ) (instances : List InstRow) → HaveNoArgs instances → (bytes : List ℕ) → plain_event_under limits (length instances) bytes ≡ event_under limits instances bytes
 unfolding plain_event_under event_under
-plain_event_same limits instances none bytes = bind_same (number_within w8 1 3 bytes) _ _ (λ tag e.
+plain_event_same limits instances none bytes = bind_same (number_within w8 1 2 bytes) _ _ (λ tag e.
     ap (λ (r : Result (Event × List ℕ) Fault). cond (eqb tag.0 1) (set_under limits tag.1) r) (plain_sample_same instances none tag.1))
 
 pub plain_events_same : (signals : List SignalRow) (instances : List InstRow) (count : ℕ) (bytes : List ℕ) → HaveNoArgs instances → IsBytes bytes

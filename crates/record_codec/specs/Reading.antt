@@ -12,7 +12,7 @@
 -- The place of a fault is the number of bytes before the first byte of the field: before the byte itself where a byte of
 -- a text is out of its range, before the length where the text runs past the end. In the parts below it is told
 -- by the number of bytes that are left at that place, its own among them; `reading` counts it from the front.
-use Rattle.std.specs.Prelude.{◌≡◌, ℕ, zero, suc, ◌+◌, ◌-◌, ◌^◌, List, [], ◌∷◌, ◌++◌, length, take, drop, slice_get, slice_index, ◌<◌, Option, Some, None, Result, Ok, Err, Bool, nat_lt, nat_le, ◌==◌, ◌||◌, if◌then◌else◌, ok_or}
+use Rattle.std.specs.Prelude.{◌≡◌, ℕ, zero, suc, ◌-◌, ◌^◌, List, [], ◌∷◌, ◌++◌, length, take, drop, slice_get, slice_index, ◌<◌, Option, Some, None, Result, Ok, Err, Bool, nat_lt, nat_le, ◌==◌, ◌||◌, if◌then◌else◌, ok_or}
 use mathlib.Core.Bool.{◌&&◌}
 use Rattle.std.specs.List.{position}
 use Rattle.std.specs.Int.{Width, w8, w16, w32, w64, byte_len, from_be_bytes}
@@ -61,11 +61,11 @@ Reader A = List ℕ → Result (A × List ℕ) Fault
 abbrev pub number_at : Width → Reader ℕ
 number_at w bytes = if nat_lt (length bytes) (byte_len w) then Err (Short (length bytes)) else Ok (from_be_bytes w (take (byte_len w) bytes), drop (byte_len w) bytes)
 
--- a number from least on and below the limit
+-- a number from least to most, both included
 unfoldable pub number_within : Width → ℕ → ℕ → Reader ℕ
-number_within w least limit bytes = do
+number_within w least most bytes = do
   n ← number_at w bytes
-  if nat_le least n.0 && nat_lt n.0 limit then Ok n else Err (BadField (length bytes))
+  if nat_le least n.0 && nat_le n.0 most then Ok n else Err (BadField (length bytes))
 
 -- no byte of a text whose bytes are from low on
 abbrev pub is_bad : ℕ → ℕ → Bool
@@ -79,14 +79,14 @@ unless_bad (Some bad) count bytes = Err (BadField (length bytes - bad))
 -- A text begins at its length.
 unfoldable pub text_at : ℕ → ℕ → ℕ → Reader (List ℕ)
 text_at least most low bytes = do
-  n ← number_within w16 least (most + 1) bytes
+  n ← number_within w16 least most bytes
   if nat_lt (length n.1) n.0 then Err (Short (length bytes)) else unless_bad (position (is_bad low) (take n.0 n.1)) n.0 n.1
 
 -- the letters CVRC and the version
 unfoldable pub version_at : Reader ℕ
 version_at bytes = do
   version ← number_at w16 bytes
-  if nat_le 1 version.0 && nat_lt version.0 3 then Ok version else Err (BadVersion version.0)
+  if nat_le 1 version.0 && nat_le version.0 2 then Ok version else Err (BadVersion version.0)
 
 unfoldable pub head_at : Reader ℕ
 head_at bytes = do
@@ -96,7 +96,7 @@ head_at bytes = do
 unfoldable pub test_at : Reader TestRow
 test_at bytes = do
   id ← text_at 1 255 33 bytes
-  status ← number_within w8 0 4 id.1
+  status ← number_within w8 0 3 id.1
   seed ← number_at w64 status.1
   time ← number_at w64 seed.1
   user ← text_at 0 255 32 time.1
@@ -119,8 +119,8 @@ counted read (suc n) bytes = do
 -- the width and the sign of a signal or an argument
 unfoldable pub arg_at : Reader ArgRow
 arg_at bytes = do
-  width ← number_within w8 1 (most_bits + 1) bytes
-  sign ← number_within w8 0 2 width.1
+  width ← number_within w8 1 most_bits bytes
+  sign ← number_within w8 0 1 width.1
   Ok (record { width = width.0; signed = sign.0 == 1 }, sign.1)
 
 unfoldable pub signal_at : Reader SignalRow
@@ -131,13 +131,13 @@ signal_at bytes = do
 
 unfoldable pub signals_at : Reader (List SignalRow)
 signals_at bytes = do
-  n ← number_within w16 0 (most_signals + 1) bytes
+  n ← number_within w16 0 most_signals bytes
   counted signal_at n.0 n.1
 
 -- the arguments of an instance; in version 1 nothing stands for them
 unfoldable pub listed_args_at : Reader (List ArgRow)
 listed_args_at bytes = do
-  n ← number_within w8 0 (most_arguments + 1) bytes
+  n ← number_within w8 0 most_arguments bytes
   counted arg_at n.0 n.1
 
 unfoldable pub args_at : ℕ → Reader (List ArgRow)
@@ -152,18 +152,18 @@ instance_at version bytes = do
 
 unfoldable pub instances_at : ℕ → Reader (List InstRow)
 instances_at version bytes = do
-  n ← number_within w16 0 (most_instances + 1) bytes
+  n ← number_within w16 0 most_instances bytes
   counted (instance_at version) n.0 n.1
 
 -- a value of this many bits, which is Unknown behind a 0
 unfoldable pub known_at : ℕ → Reader (Option ℕ)
 known_at width bytes = do
-  bits ← number_within w64 0 (2 ^ width) bytes
+  bits ← number_within w64 0 (2 ^ width - 1) bytes
   Ok (Some bits.0, bits.1)
 
 unfoldable pub value_at : ℕ → Reader (Option ℕ)
 value_at width bytes = do
-  known ← number_within w8 0 2 bytes
+  known ← number_within w8 0 1 bytes
   if known.0 == 0 then Ok (None, known.1) else known_at width known.1
 
 unfoldable pub set_at : List SignalRow → Reader Event
@@ -190,7 +190,7 @@ sample_at instances bytes = do
 
 unfoldable pub event_at : List SignalRow → List InstRow → Reader Event
 event_at signals instances bytes = do
-  tag ← number_within w8 1 3 bytes
+  tag ← number_within w8 1 2 bytes
   if tag.0 == 1 then set_at signals tag.1 else sample_at instances tag.1
 
 unfoldable pub events_at : List SignalRow → List InstRow → Reader (List Event)

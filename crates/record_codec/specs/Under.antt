@@ -1,7 +1,8 @@
 -- Reading events by the greatest value of each signal in place of its width.
 use Rattle.std.specs.List.{AllByRecursion, list_all}
-use Rattle.std.specs.Prelude.{Bool, ◌≡◌, [], ℕ, ◌+◌, ◌-◌, ◌^◌, List, length, map, slice_get, Option, Some, None, Ok, nat_le, ◌==◌, if◌then◌else◌, ok_or}
+use Rattle.std.specs.Prelude.{Bool, ◌≡◌, [], ℕ, ◌-◌, ◌^◌, List, length, map, slice_get, Option, Some, None, Ok, Err, nat_lt, nat_le, ◌==◌, if◌then◌else◌, ok_or}
 use Rattle.std.specs.Int.{w8, w16, w64}
+use Rattle.cov_ground.specs.Limits.{most_bits}
 use Rattle.record_codec.specs.declared.fault.Fault.TheVariants.{BadField}
 use Rattle.record_codec.specs.declared.record.SignalRow.{SignalRow}
 use Rattle.record_codec.specs.declared.record.InstRow.{InstRow}
@@ -9,21 +10,21 @@ use Rattle.record_codec.specs.declared.record.Event.{Event}
 use Rattle.record_codec.specs.declared.record.Event.TheVariants.{Set, Sample}
 use Rattle.record_codec.specs.Reading.{◌>>=◌, Reader, number_at, number_within, sample_at}
 
--- the greatest value of so many bits, of 64 at most
+-- the greatest value of so many bits, of most_bits at most
 abbrev pub greatest : ℕ → ℕ
-greatest width = if nat_le 64 width then 2 ^ 64 - 1 else 2 ^ width - 1
+greatest width = if nat_le most_bits width then 2 ^ most_bits - 1 else 2 ^ width - 1
 
 abbrev pub limits_of : List SignalRow → List ℕ
 limits_of signals = map (λ (row : SignalRow). greatest row.width) signals
 
 unfoldable pub known_under : ℕ → Reader (Option ℕ)
 known_under most bytes = do
-  bits ← number_within w64 0 (most + 1) bytes
+  bits ← number_within w64 0 most bytes
   Ok (Some bits.0, bits.1)
 
 unfoldable pub value_under : ℕ → Reader (Option ℕ)
 value_under most bytes = do
-  known ← number_within w8 0 2 bytes
+  known ← number_within w8 0 1 bytes
   if known.0 == 0 then Ok (None, known.1) else known_under most known.1
 
 unfoldable pub set_under : List ℕ → Reader Event
@@ -36,12 +37,12 @@ set_under limits bytes = do
 -- a Sample of an instance without arguments, of so many instances
 unfoldable pub plain_sample_at : ℕ → Reader Event
 plain_sample_at instances bytes = do
-  instance ← number_within w16 0 instances bytes
-  Ok (Sample instance.0 [], instance.1)
+  instance ← number_at w16 bytes
+  if nat_lt instance.0 instances then Ok (Sample instance.0 [], instance.1) else Err (BadField (length bytes))
 
 unfoldable pub plain_event_under : List ℕ → ℕ → Reader Event
 plain_event_under limits instances bytes = do
-  tag ← number_within w8 1 3 bytes
+  tag ← number_within w8 1 2 bytes
   if tag.0 == 1 then set_under limits tag.1 else plain_sample_at instances tag.1
 
 abbrev pub are_without_args : List InstRow → Bool
@@ -53,5 +54,5 @@ HaveNoArgs instances = AllByRecursion (λ (row : InstRow). row.args ≡ []) inst
 
 unfoldable pub event_under : List ℕ → List InstRow → Reader Event
 event_under limits instances bytes = do
-  tag ← number_within w8 1 3 bytes
+  tag ← number_within w8 1 2 bytes
   if tag.0 == 1 then set_under limits tag.1 else sample_at instances tag.1

@@ -1,5 +1,5 @@
 //! The fields of a record, each read from the front of the bytes.
-ghost use Rattle.std.specs.Prelude.{◌≡◌, ◌+◌, ◌<◌, ◌≤◌, ◌^◌};
+ghost use Rattle.std.specs.Prelude.{◌≡◌, ◌<◌, ◌≤◌};
 ghost use Rattle.std.specs.List.{position};
 ghost use Rattle.std.specs.Int.{w8, w16, w32, w64};
 ghost use Rattle.record_codec.specs.Reading.{Gives, number_at, number_within, is_bad, text_at};
@@ -59,33 +59,33 @@ pub(crate) fn u64_at(bytes: &[u8]) -> Result<(u64, &[u8]), Fault>
     Ok((number, rest))
 }
 
-/// A number from `least` on and below the limit, in one byte.
+/// A number from `least` to `most`, in one byte.
 #[inline]
 #[tactic(auto, unfolding(crate::specs::Reading::number_within))]
-pub(crate) fn u8_within(least: u8, limit: u8, bytes: &[u8]) -> Result<(u8, &[u8]), Fault>
-    ensures { Gives (λ x. (x.0, x.1.now)) result (number_within w8 least limit bytes.now) }
+pub(crate) fn u8_within(least: u8, most: u8, bytes: &[u8]) -> Result<(u8, &[u8]), Fault>
+    ensures { Gives (λ x. (x.0, x.1.now)) result (number_within w8 least most bytes.now) }
 {
     let (number, rest) = u8_at(bytes)?;
     if number < least {
         return Err(Fault::BadField { left: bytes.len() });
     }
-    if number >= limit {
+    if number > most {
         return Err(Fault::BadField { left: bytes.len() });
     }
     Ok((number, rest))
 }
 
-/// A number from `least` on and below the limit, in two bytes.
+/// A number from `least` to `most`, in two bytes.
 #[inline]
 #[tactic(auto, unfolding(crate::specs::Reading::number_within))]
-pub(crate) fn u16_within(least: u16, limit: u16, bytes: &[u8]) -> Result<(u16, &[u8]), Fault>
-    ensures { Gives (λ x. (x.0, x.1.now)) result (number_within w16 least limit bytes.now) }
+pub(crate) fn u16_within(least: u16, most: u16, bytes: &[u8]) -> Result<(u16, &[u8]), Fault>
+    ensures { Gives (λ x. (x.0, x.1.now)) result (number_within w16 least most bytes.now) }
 {
     let (number, rest) = u16_at(bytes)?;
     if number < least {
         return Err(Fault::BadField { left: bytes.len() });
     }
-    if number >= limit {
+    if number > most {
         return Err(Fault::BadField { left: bytes.len() });
     }
     Ok((number, rest))
@@ -95,7 +95,7 @@ pub(crate) fn u16_within(least: u16, limit: u16, bytes: &[u8]) -> Result<(u16, &
 #[inline(always)]
 #[tactic(auto, unfolding(crate::specs::Reading::number_within))]
 pub(crate) fn u64_up_to(most: u64, bytes: &[u8]) -> Result<(u64, &[u8]), Fault>
-    ensures { Gives (λ x. (x.0, x.1.now)) result (number_within w64 0 (most + 1) bytes.now) }
+    ensures { Gives (λ x. (x.0, x.1.now)) result (number_within w64 0 most bytes.now) }
 {
     let (number, rest) = u64_at(bytes)?;
     if number > most {
@@ -120,10 +120,9 @@ pub(crate) fn text_within(
     low: u8,
     bytes: &[u8],
 ) -> Result<(Name, &[u8]), Fault>
-    requires { most + 1 < 2 ^ 16 }
     ensures { Gives (λ x. (x.0, x.1.now)) result (text_at least most low bytes.now) }
 {
-    let (count, rest) = u16_within(least, most + 1, bytes)?;
+    let (count, rest) = u16_within(least, most, bytes)?;
     let count = count as usize;
     if rest.len() < count {
         return Err(Fault::Short { left: bytes.len() });

@@ -42,7 +42,7 @@ fn test_row(alloc: Global, bytes: &[u8]) -> Result<(TestRow, &[u8]), Fault>
     ensures { Gives (λ x. (x.0, x.1.now)) result (test_at bytes.now) }
 {
     let (id, rest) = text_within(alloc, 1, 255, 33, bytes)?;
-    let (status, rest) = u8_within(0, 4, rest)?;
+    let (status, rest) = u8_within(0, 3, rest)?;
     let (seed, rest) = u64_at(rest)?;
     let (time, rest) = u64_at(rest)?;
     let (user, rest) = text_within(alloc, 0, 255, 32, rest)?;

@@ -59,8 +59,8 @@ impl Rows for InstanceRows {
 fn arg_row(bytes: &[u8]) -> Result<(ArgRow, &[u8]), Fault>
     ensures { Gives (λ x. (x.0, x.1.now)) result (arg_at bytes.now) }
 {
-    let (width, rest) = u8_within(1, MOST_BITS + 1, bytes)?;
-    let (sign, rest) = u8_within(0, 2, rest)?;
+    let (width, rest) = u8_within(1, MOST_BITS, bytes)?;
+    let (sign, rest) = u8_within(0, 1, rest)?;
     let row = ArgRow {
         width,
         signed: sign == 1,
@@ -86,7 +86,7 @@ fn signal_row(alloc: Global, bytes: &[u8]) -> Result<(SignalRow, &[u8]), Fault>
 fn listed_args(alloc: Global, bytes: &[u8]) -> Result<(List<ArgRow>, &[u8]), Fault>
     ensures { Gives (λ x. (x.0, x.1.now)) result (listed_args_at bytes.now) }
 {
-    let (count, rest) = u8_within(0, MOST_ARGUMENTS as u8 + 1, bytes)?;
+    let (count, rest) = u8_within(0, MOST_ARGUMENTS as u8, bytes)?;
     counted(alloc, &ArgRows, count as u32, rest)
 }
 
@@ -116,7 +116,7 @@ fn instance_row(alloc: Global, version: u16, bytes: &[u8]) -> Result<(InstRow, &
 pub(crate) fn signal_table(alloc: Global, bytes: &[u8]) -> Result<(List<SignalRow>, &[u8]), Fault>
     ensures { Gives (λ x. (x.0, x.1.now)) result (signals_at bytes.now) }
 {
-    let (count, rest) = u16_within(0, MOST_SIGNALS as u16 + 1, bytes)?;
+    let (count, rest) = u16_within(0, MOST_SIGNALS as u16, bytes)?;
     counted(alloc, &SignalRows, count as u32, rest)
 }
 
@@ -129,6 +129,6 @@ pub(crate) fn instance_table(
 ) -> Result<(List<InstRow>, &[u8]), Fault>
     ensures { Gives (λ x. (x.0, x.1.now)) result (instances_at version bytes.now) }
 {
-    let (count, rest) = u16_within(0, MOST_INSTANCES as u16 + 1, bytes)?;
+    let (count, rest) = u16_within(0, MOST_INSTANCES as u16, bytes)?;
     counted(alloc, &InstanceRows { version }, count as u32, rest)
 }

@@ -1,4 +1,3 @@
-use Rattle.std.proofs.Common.{arith}
 use Rattle.record_codec.proofs.LimitTests.{bits_test}
 use Rattle.record_codec.proofs.limits.is_below.Goals as goal
 

@@ -1,8 +1,8 @@
-use Rattle.std.proofs.Common.{◌≡◌, true, subst, sym}
+use Rattle.std.proofs.Common.{subst}
 use Rattle.record_codec.specs.declared.record.Start.{Start}
 use Rattle.record_codec.specs.Limits.{IsEvent}
 use Rattle.record_codec.proofs.LimitTests.{few_args}
-use Rattle.record_codec.proofs.Pushing.{OneMore, Holds, sound_more, holds_more}
+use Rattle.record_codec.proofs.Pushing.{sound_more, holds_more}
 use Rattle.record_codec.proofs.builder.RecordBuilder.push.Goals as goal
 
 pub event_size-requires : goal.event_size-requires
