@@ -209,27 +209,27 @@ number_early w few front more other l fits e big =
 pub number_field : {w : Width} {spelled : ℕ → List ℕ} {limit : ℕ} → IsWide w spelled limit → byte_len w ≤ 8 → IsField (number_at w) spelled (λ n. n < limit)
 number_field {w = w} wide few = record { takes = number_takes wide; again = number_again wide; begun = λ bytes left fits e. at_front (record { value = 0; fits = above_zero wide }) (number_cut w bytes left e); example = record { value = 0; fits = above_zero wide }; early = number_early w few }
 
-within_takes : {w : Width} {spelled : ℕ → List ℕ} {most : ℕ} → IsWide w spelled most → (least limit : ℕ) (bytes : List ℕ) (x : ℕ × List ℕ) → AreBytes bytes → number_within w least limit bytes ≡ Ok x → Read spelled (IsWithin least limit) bytes x
+within_takes : {w : Width} {spelled : ℕ → List ℕ} {limit : ℕ} → IsWide w spelled limit → (least most : ℕ) (bytes : List ℕ) (x : ℕ × List ℕ) → AreBytes bytes → number_within w least most bytes ≡ Ok x → Read spelled (IsWithin least most) bytes x
 unfolding number_within
-within_takes {w = w} {spelled = spelled} wide least limit bytes x fits e =
+within_takes {w = w} {spelled = spelled} wide least most bytes x fits e =
     let b = bind_ok (number_at w bytes) _ x e in
-    let g = let_pass (leb least b.0.0 && ltb b.0.0 limit) (length bytes) (Ok b.0) x b.2 in
+    let g = let_pass (leb least b.0.0 && leb b.0.0 most) (length bytes) (Ok b.0) x b.2 in
     let t = both _ _ g.0 in
     let found = number_takes wide bytes b.0 fits b.1 in
-    subst (λ (y : ℕ × List ℕ). Read spelled (IsWithin least limit) bytes y) (ok_is _ _ g.1) (record { takes = found.takes; fits = record { low = leb-true _ _ t.0; high = ltb-true _ _ t.1 } })
+    subst (λ (y : ℕ × List ℕ). Read spelled (IsWithin least most) bytes y) (ok_is _ _ g.1) (record { takes = found.takes; fits = record { low = leb-true _ _ t.0; high = leb-true _ _ t.1 } })
 
-within_again : {w : Width} {spelled : ℕ → List ℕ} {most : ℕ} → IsWide w spelled most → (least limit : ℕ) → limit ≤ most → (n : ℕ) (rest : List ℕ) → IsWithin least limit n → number_within w least limit (spelled n ++ rest) ≡ Ok (n, rest)
+within_again : {w : Width} {spelled : ℕ → List ℕ} {limit : ℕ} → IsWide w spelled limit → (least most : ℕ) → most < limit → (n : ℕ) (rest : List ℕ) → IsWithin least most n → number_within w least most (spelled n ++ rest) ≡ Ok (n, rest)
 unfolding number_within
-within_again wide least limit le n rest within =
+within_again wide least most lt n rest within =
     let low : leb least n ≡ true = le-leb _ _ within.low in
-    let high : ltb n limit ≡ true = lt-ltb _ _ within.high in
+    let high : leb n most ≡ true = le-leb _ _ within.high in
     rw (number_again wide n rest (omega (arith, within.high)), low, high) refl
 
-pub within_first : (w : Width) (least limit : ℕ) (bytes : List ℕ) (left : ℕ) → number_within w least limit bytes ≡ Err left → length bytes ≡ left
+pub within_first : (w : Width) (least most : ℕ) (bytes : List ℕ) (left : ℕ) → number_within w least most bytes ≡ Err left → length bytes ≡ left
 unfolding number_within
-within_first w least limit bytes left e = elim (bind_err (number_at w bytes) _ left e) [
+within_first w least most bytes left e = elim (bind_err (number_at w bytes) _ left e) [
   | inl h ↦ number_cut w bytes left h
-  | inr h ↦ elim (passed_or (leb least h.0.0 && ltb h.0.0 limit) (length bytes) left (done h.0) h.2) [
+  | inr h ↦ elim (passed_or (leb least h.0.0 && leb h.0.0 most) (length bytes) left (done h.0) h.2) [
     | inl k ↦ k
     | inr k ↦ absurd (no_fault h.0 left k)
   ]
@@ -243,26 +243,26 @@ number_value w bytes x e =
 number_is : (w : Width) (bytes : List ℕ) → byte_len w ≤ length bytes → number_at w bytes ≡ Ok (from_be_bytes w (take (byte_len w) bytes), drop (byte_len w) bytes)
 number_is w bytes le = let long : ltb (length bytes) (byte_len w) ≡ false = le-ltb _ _ le in rw long refl
 
-pub within_early : (w : Width) → byte_len w ≤ 8 → (least limit : ℕ) → IsEarly (number_within w least limit)
+pub within_early : (w : Width) → byte_len w ≤ 8 → (least most : ℕ) → IsEarly (number_within w least most)
 unfolding number_within
-within_early w few least limit front more other l fits e big = elim (bind_err (number_at w (front ++ more)) _ (l + length more) e) [
+within_early w few least most front more other l fits e big = elim (bind_err (number_at w (front ++ more)) _ (l + length more) e) [
   | inl h ↦ rw (number_early w few front more other l fits h big) refl
-  | inr h ↦ elim (passed_by (leb least h.0.0 && ltb h.0.0 limit) (length (front ++ more)) (l + length more) (done h.0) h.2) [
+  | inr h ↦ elim (passed_by (leb least h.0.0 && leb h.0.0 most) (length (front ++ more)) (l + length more) (done h.0) h.2) [
     | inl k ↦
         let a = all_left front more other l k.1 in
         let le : byte_len w ≤ length front = omega (arith, a.0, few, big) in
         let value : from_be_bytes w (take (byte_len w) (front ++ other)) ≡ h.0.0 = ap (from_be_bytes w) (take_front (byte_len w) front other le ∙ sym (take_front (byte_len w) front more le)) ∙ number_value w (front ++ more) h.0 h.1 in
-        let test : (leb least (from_be_bytes w (take (byte_len w) (front ++ other))) && ltb (from_be_bytes w (take (byte_len w) (front ++ other))) limit) ≡ false = ap (λ (n : ℕ). leb least n && ltb n limit) value ∙ k.0 in
+        let test : (leb least (from_be_bytes w (take (byte_len w) (front ++ other))) && leb (from_be_bytes w (take (byte_len w) (front ++ other))) most) ≡ false = ap (λ (n : ℕ). leb least n && leb n most) value ∙ k.0 in
         let found = number_is w (front ++ other) (omega (arith, le, length-append front other)) in
         rw (found, test) (ap Err a.1)
     | inr k ↦ absurd (no_fault h.0 (l + length more) k.1)
   ]
 ]
 
-pub within_field : {w : Width} {spelled : ℕ → List ℕ} {most : ℕ} → IsWide w spelled most → byte_len w ≤ 8 → (least limit : ℕ) → limit ≤ most → least < limit → IsField (number_within w least limit) spelled (IsWithin least limit)
-within_field {w = w} wide few least limit le lt =
-    let met : IsMet (IsWithin least limit) = record { value = least; fits = record { low = omega arith; high = lt } } in
-    record { takes = within_takes wide least limit; again = within_again wide least limit le; begun = λ bytes left fits e. at_front met (within_first w least limit bytes left e); example = met; early = within_early w few least limit }
+pub within_field : {w : Width} {spelled : ℕ → List ℕ} {limit : ℕ} → IsWide w spelled limit → byte_len w ≤ 8 → (least most : ℕ) → most < limit → least ≤ most → IsField (number_within w least most) spelled (IsWithin least most)
+within_field {w = w} wide few least most lt le =
+    let met : IsMet (IsWithin least most) = record { value = least; fits = record { low = omega arith; high = le } } in
+    record { takes = within_takes wide least most; again = within_again wide least most lt; begun = λ bytes left fits e. at_front met (within_first w least most bytes left e); example = met; early = within_early w few least most }
 
 pub number32 : IsField (number_at w32) (to_be_bytes w32) (λ n. n < 2 ^ 32)
 number32 = number_field wide32 (omega arith)

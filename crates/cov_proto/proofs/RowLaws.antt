@@ -1,5 +1,5 @@
 -- Rows of replies: what is read is spelled so, and what is spelled so is read again.
-use Rattle.std.proofs.Common.{◌≡◌, ℕ, zero, suc, ◌+◌, ◌^◌, ◌<◌, ◌≤◌, eqb, Bool, true, false, cond, List, [], ◌∷◌, ◌++◌, length, Result, Ok, Err, refl, sym, ap, subst, ◌∙◌, append_assoc, arith, length-append, inl, inr}
+use Rattle.std.proofs.Common.{◌≡◌, ℕ, zero, suc, ◌+◌, ◌-◌, ◌^◌, ◌<◌, ◌≤◌, eqb, Bool, true, false, cond, List, [], ◌∷◌, ◌++◌, length, Result, Ok, Err, refl, sym, ap, subst, ◌∙◌, append_assoc, arith, length-append, inl, inr}
 use Rattle.std.specs.List.{AllByRecursion, flat_map}
 use Rattle.std.specs.Int.{w8, w64, to_be_bytes}
 use Rattle.std.proofs.lemmas.Bool.{eqb-true}
@@ -12,7 +12,7 @@ use Rattle.cov_proto.specs.Laws.{AreBytes}
 use Rattle.cov_proto.specs.Limits.{IsTestRow, IsRecordFault, HasCountType, HasCoverType, HasTestType, HasRankType}
 use Rattle.cov_proto.specs.Spelled.{one_byte, count_row, cover_row, test_row, rank_row}
 use Rattle.cov_proto.specs.Reading.{◌>>=◌, Reader, number_within, rows_in, rows}
-use Rattle.cov_proto.specs.Replies.{count_row_at, cover_row_at, test_row_at, rank_row_at, number_limit, record_fault_at}
+use Rattle.cov_proto.specs.Replies.{count_row_at, cover_row_at, test_row_at, rank_row_at, greatest_number, record_fault_at}
 use Rattle.cov_proto.proofs.Readers.{bind_ok, bind_err, let_pass, no_fault, too_many, ok_is, Takes-then, Read, Begun, IsField, Whole, IsForm, at_front, behind_front, before_more, begun_low, bind_early, then_early, then_low, wide8, wide64, number32, number64, within_first, within_early, within_field, digest_field, pair_field, shaped_field}
 use Rattle.cov_proto.proofs.Early.{IsEarly, parted}
 use Rattle.cov_proto.proofs.Texts.{text_field, flag_field, kind_field}
@@ -43,19 +43,19 @@ pub record IsTest (row : HistoryNode) : Type 0 where
 pub test_row_field : IsField test_row_at test_row IsTest
 unfolding test_row
 test_row_field = shaped_field
-    (pair_field number64 (pair_field (within_field wide8 (omega arith) 0 4 (omega arith) (omega arith)) (pair_field number64 (pair_field number64 (pair_field digest_field (pair_field (text_field 1 33 (omega arith) (omega arith)) (text_field 0 32 (omega arith) (omega arith))))))))
+    (pair_field number64 (pair_field (within_field wide8 (omega arith) 0 3 (omega arith) (omega arith)) (pair_field number64 (pair_field number64 (pair_field digest_field (pair_field (text_field 1 33 (omega arith) (omega arith)) (text_field 0 32 (omega arith) (omega arith))))))))
     (λ x. record { kind = history.Test; point = x.0; status = x.1.0; seed = x.1.1.0; time = x.1.1.1.0; digest = x.1.1.1.1.0; id = x.1.1.1.1.1.0; user = x.1.1.1.1.1.1 })
     (λ r. (r.point, (r.status, (r.seed, (r.time, (r.digest, (r.id, r.user))))))) test_row IsTest
     (λ x f. (
       refl,
       record {
-        limits = record { kind = refl; status = f.1.0.high; id = f.1.1.1.1.1.0; user = f.1.1.1.1.1.1 };
+        limits = record { kind = refl; status = omega (arith, f.1.0.high); id = f.1.1.1.1.1.0; user = f.1.1.1.1.1.1 };
         typed = record { point = f.0; seed = f.1.1.0; time = f.1.1.1.0; digest = f.1.1.1.1.0 };
       },
     ))
     (λ r g. (
       refl,
-      (g.typed.point, (record { low = omega arith; high = g.limits.status }, (g.typed.seed, (g.typed.time, (g.typed.digest, (g.limits.id, g.limits.user)))))),
+      (g.typed.point, (record { low = omega arith; high = omega (arith, g.limits.status) }, (g.typed.seed, (g.typed.time, (g.typed.digest, (g.limits.id, g.limits.user)))))),
       ap (λ k. record { kind = k; point = r.point; status = r.status; seed = r.seed; time = r.time; digest = r.digest; id = r.id; user = r.user }) (sym g.limits.kind),
     ))
 
@@ -187,30 +187,26 @@ pub record IsFault (x : ℕ × ℕ) : Type 0 where
   pub fault : IsRecordFault x.0 x.1
   pub typed : x.1 < 2 ^ 64
 
-low_limit : (b : Bool) → cond b 1 (2 ^ 64) ≤ 2 ^ 64
+low_limit : (b : Bool) → cond b 0 (2 ^ 64 - 1) < 2 ^ 64
 low_limit true = omega arith
 low_limit false = omega arith
 
-some_limit : (b : Bool) → 0 < cond b 1 (2 ^ 64)
-some_limit true = omega arith
-some_limit false = omega arith
-
-magic_zero : (code number : ℕ) → number < number_limit code → code ≡ 2 → number ≡ 0
-magic_zero code number lt e =
-    let small : number < 1 = subst (λ (c : ℕ). number < number_limit c) e lt in
+magic_zero : (code number : ℕ) → number ≤ greatest_number code → code ≡ 2 → number ≡ 0
+magic_zero code number le e =
+    let small : number ≤ 0 = subst (λ (c : ℕ). number ≤ greatest_number c) e le in
     omega arith
 
-within_limit : (code number : ℕ) (b : Bool) → eqb code 2 ≡ b → (code ≡ 2 → number ≡ 0) → number < 2 ^ 64 → number < cond b 1 (2 ^ 64)
+within_limit : (code number : ℕ) (b : Bool) → eqb code 2 ≡ b → (code ≡ 2 → number ≡ 0) → number < 2 ^ 64 → number ≤ cond b 0 (2 ^ 64 - 1)
 within_limit code number true e none lt = omega (arith, none (eqb-true _ _ e))
-within_limit code number false e none lt = lt
+within_limit code number false e none lt = omega (arith, lt)
 
 fault_takes : (bytes : List ℕ) (x : (ℕ × ℕ) × List ℕ) → AreBytes bytes → record_fault_at bytes ≡ Ok x → Read fault_bytes IsFault bytes x
 unfolding record_fault_at
 fault_takes bytes x fits e =
-    let a = bind_ok (number_within w8 1 7 bytes) (λ code. number_within w64 0 (number_limit code.0) code.1 >>= (λ number. Ok ((code.0, number.0), number.1))) x e in
-    let b = bind_ok (number_within w64 0 (number_limit a.0.0) a.0.1) (λ number. Ok ((a.0.0, number.0), number.1)) x a.2 in
-    let m = (within_field wide8 (omega arith) 1 7 (omega arith) (omega arith)).takes bytes a.0 fits a.1 in
-    let n = (within_field wide64 (omega arith) 0 (number_limit a.0.0) (low_limit (eqb a.0.0 2)) (some_limit (eqb a.0.0 2))).takes a.0.1 b.0 m.takes.rest_fits b.1 in
+    let a = bind_ok (number_within w8 1 6 bytes) (λ code. number_within w64 0 (greatest_number code.0) code.1 >>= (λ number. Ok ((code.0, number.0), number.1))) x e in
+    let b = bind_ok (number_within w64 0 (greatest_number a.0.0) a.0.1) (λ number. Ok ((a.0.0, number.0), number.1)) x a.2 in
+    let m = (within_field wide8 (omega arith) 1 6 (omega arith) (omega arith)).takes bytes a.0 fits a.1 in
+    let n = (within_field wide64 (omega arith) 0 (greatest_number a.0.0) (low_limit (eqb a.0.0 2)) (omega arith)).takes a.0.1 b.0 m.takes.rest_fits b.1 in
     subst (λ (y : (ℕ × ℕ) × List ℕ). Read fault_bytes IsFault bytes y) {x = ((a.0.0, b.0.0), b.0.1)} (ok_is ((a.0.0, b.0.0), b.0.1) x b.2) (record {
       takes = Takes-then m.takes n.takes;
       fits = record { fault = record { some = m.fits.low; known = omega (arith, m.fits.high); magic = magic_zero a.0.0 b.0.0 n.fits.high }; typed = omega (arith, n.fits.high, low_limit (eqb a.0.0 2)) };
@@ -220,23 +216,23 @@ fault_again : (x : ℕ × ℕ) (rest : List ℕ) → IsFault x → record_fault_
 unfolding record_fault_at
 fault_again x rest fits =
     rw (
-      (within_field wide8 (omega arith) 1 7 (omega arith) (omega arith)).again x.0 (to_be_bytes w64 x.1 ++ rest) (record { low = fits.fault.some; high = omega (arith, fits.fault.known) }),
-      (within_field wide64 (omega arith) 0 (number_limit x.0) (low_limit (eqb x.0 2)) (some_limit (eqb x.0 2))).again x.1 rest (record { low = omega arith; high = within_limit x.0 x.1 (eqb x.0 2) refl fits.fault.magic fits.typed }),
+      (within_field wide8 (omega arith) 1 6 (omega arith) (omega arith)).again x.0 (to_be_bytes w64 x.1 ++ rest) (record { low = fits.fault.some; high = omega (arith, fits.fault.known) }),
+      (within_field wide64 (omega arith) 0 (greatest_number x.0) (low_limit (eqb x.0 2)) (omega arith)).again x.1 rest (record { low = omega arith; high = within_limit x.0 x.1 (eqb x.0 2) refl fits.fault.magic fits.typed }),
     ) refl
 
 fault_begun : (bytes : List ℕ) (left : ℕ) → AreBytes bytes → record_fault_at bytes ≡ Err left → Begun fault_bytes IsFault bytes left
 unfolding record_fault_at
 fault_begun bytes left fits e =
-    elim (bind_err (number_within w8 1 7 bytes) (λ code. number_within w64 0 (number_limit code.0) code.1 >>= (λ number. Ok ((code.0, number.0), number.1))) left e) [
-      | inl h ↦ at_front (record { value = (1, 0); fits = record { fault = record { some = omega arith; known = omega arith; magic = λ e. refl }; typed = omega arith } }) (within_first w8 1 7 bytes left h)
+    elim (bind_err (number_within w8 1 6 bytes) (λ code. number_within w64 0 (greatest_number code.0) code.1 >>= (λ number. Ok ((code.0, number.0), number.1))) left e) [
+      | inl h ↦ at_front (record { value = (1, 0); fits = record { fault = record { some = omega arith; known = omega arith; magic = λ e. refl }; typed = omega arith } }) (within_first w8 1 6 bytes left h)
       | inr h ↦
-          let m = (within_field wide8 (omega arith) 1 7 (omega arith) (omega arith)).takes bytes h.0 fits h.1 in
-          elim (bind_err (number_within w64 0 (number_limit h.0.0) h.0.1) (λ number. Ok ((h.0.0, number.0), number.1)) left h.2) [
+          let m = (within_field wide8 (omega arith) 1 6 (omega arith) (omega arith)).takes bytes h.0 fits h.1 in
+          elim (bind_err (number_within w64 0 (greatest_number h.0.0) h.0.1) (λ number. Ok ((h.0.0, number.0), number.1)) left h.2) [
             | inl k ↦ record {
               front = one_byte h.0.0;
               behind = h.0.1;
               parts = m.takes.parts;
-              long = within_first w64 0 (number_limit h.0.0) h.0.1 left k;
+              long = within_first w64 0 (greatest_number h.0.0) h.0.1 left k;
               value = (h.0.0, 0);
               fits = record { fault = record { some = m.fits.low; known = omega (arith, m.fits.high); magic = λ e. refl }; typed = omega arith };
               more = to_be_bytes w64 0;
@@ -249,14 +245,14 @@ fault_begun bytes left fits e =
 fault_early : IsEarly record_fault_at
 unfolding record_fault_at
 fault_early =
-    let f = within_field wide8 (omega arith) 1 7 (omega arith) (omega arith) in
-    bind_early f.takes f.again f.early (λ code. number_within w64 0 (number_limit code.0) code.1 >>= (λ number. Ok ((code.0, number.0), number.1))) (record {
-      low = λ x rest left fx fits e. then_low (number_within w64 0 (number_limit x)) (λ bytes left fits e. first_low x bytes left e) (λ number. ((x, number.0), number.1)) rest left fits e;
-      early = λ x fx. then_early (number_within w64 0 (number_limit x)) (within_early w64 (omega arith) 0 (number_limit x)) (λ number. ((x, number.0), number.1));
+    let f = within_field wide8 (omega arith) 1 6 (omega arith) (omega arith) in
+    bind_early f.takes f.again f.early (λ code. number_within w64 0 (greatest_number code.0) code.1 >>= (λ number. Ok ((code.0, number.0), number.1))) (record {
+      low = λ x rest left fx fits e. then_low (number_within w64 0 (greatest_number x)) (λ bytes left fits e. first_low x bytes left e) (λ number. ((x, number.0), number.1)) rest left fits e;
+      early = λ x fx. then_early (number_within w64 0 (greatest_number x)) (within_early w64 (omega arith) 0 (greatest_number x)) (λ number. ((x, number.0), number.1));
     })
   where
-    first_low : (x : ℕ) (bytes : List ℕ) (left : ℕ) → number_within w64 0 (number_limit x) bytes ≡ Err left → left ≤ length bytes
-    first_low x bytes left e = let h = within_first w64 0 (number_limit x) bytes left e in omega (arith, h)
+    first_low : (x : ℕ) (bytes : List ℕ) (left : ℕ) → number_within w64 0 (greatest_number x) bytes ≡ Err left → left ≤ length bytes
+    first_low x bytes left e = let h = within_first w64 0 (greatest_number x) bytes left e in omega (arith, h)
 
 pub fault_field : IsField record_fault_at fault_bytes IsFault
 fault_field = record { takes = fault_takes; again = fault_again; begun = fault_begun; example = record { value = (1, 0); fits = record { fault = record { some = omega arith; known = omega arith; magic = λ e. refl }; typed = omega arith } }; early = fault_early }

@@ -111,12 +111,12 @@ path_early front more other l fits e big =
 pub path_form : IsForm path itself IsPath
 path_form = record { takes = path_takes; again = λ x fits. rw (good_none 32 x fits) refl; begun = λ bytes left fits e. path_begun bytes left e; example = record { value = []; fits = tt }; early = path_early }
 
-text_takes : (least low : ℕ) → least < 256 → (bytes : List ℕ) (x : List ℕ × List ℕ) → AreBytes bytes → text_at least low bytes ≡ Ok x → Read text (IsText least low) bytes x
+text_takes : (least low : ℕ) → least ≤ 255 → (bytes : List ℕ) (x : List ℕ × List ℕ) → AreBytes bytes → text_at least low bytes ≡ Ok x → Read text (IsText least low) bytes x
 unfolding text_at chars_at
-text_takes least low lt bytes x fits e =
-    let b = bind_ok (number_within w8 least 256 bytes) (λ n. chars_at low n.0 n.1) x e in
+text_takes least low le bytes x fits e =
+    let b = bind_ok (number_within w8 least 255 bytes) (λ n. chars_at low n.0 n.1) x e in
     let n = b.0 in
-    let t = (within_field wide8 (omega arith) least 256 (omega arith) lt).takes bytes n fits b.1 in
+    let t = (within_field wide8 (omega arith) least 255 (omega arith) le).takes bytes n fits b.1 in
     let g = not_refused (ltb (length n.1) n.0) (length n.1) (unless_bad (position (is_bad low) (take n.0 n.1)) n.1 (take n.0 n.1, drop n.0 n.1)) x b.2 in
     let u = unless_ok (position (is_bad low) (take n.0 n.1)) n.1 (take n.0 n.1, drop n.0 n.1) x g.1 in
     let long : n.0 ≤ length n.1 = ltb-false _ _ g.0 in
@@ -126,11 +126,11 @@ text_takes least low lt bytes x fits e =
     let within : IsText least low (take n.0 n.1) = record { some = omega (arith, t.fits.low); short = omega (arith, t.fits.high); fit = no_bad low (take n.0 n.1) u.0 } in
     subst (λ (y : List ℕ × List ℕ). Read text (IsText least low) bytes y) {x = (take n.0 n.1, drop n.0 n.1)} u.1 (record { takes = whole; fits = within })
 
-text_again : (least low : ℕ) → least < 256 → (x rest : List ℕ) → IsText least low x → text_at least low (text x ++ rest) ≡ Ok (x, rest)
+text_again : (least low : ℕ) → least ≤ 255 → (x rest : List ℕ) → IsText least low x → text_at least low (text x ++ rest) ≡ Ok (x, rest)
 unfolding text_at chars_at
-text_again least low lt x rest within =
+text_again least low le x rest within =
     let long : ltb (length (x ++ rest)) (length x) ≡ false = le-ltb _ _ (omega (arith, length-append x rest)) in
-    rw ((within_field wide8 (omega arith) least 256 (omega arith) lt).again (length x) (x ++ rest) (record { low = within.some; high = within.short }), long, take_at x rest (length x) refl, good_none low x within.fit, drop_at x rest (length x) refl) refl
+    rw ((within_field wide8 (omega arith) least 255 (omega arith) le).again (length x) (x ++ rest) (record { low = within.some; high = omega (arith, within.short) }), long, take_at x rest (length x) refl, good_none low x within.fit, drop_at x rest (length x) refl) refl
 
 all_low : (low n : ℕ) → low < 127 → AreFrom low (replicate n low)
 all_low low zero lt = tt
@@ -171,15 +171,15 @@ chars_begun low count lt bytes left e = elim (refused_or (ltb (length bytes) cou
       }
 ]
 
-some_text : (least low : ℕ) → least < 256 → low < 127 → IsMet (IsText least low)
-some_text least low lt ok = record { value = replicate least low; fits = record { some = omega (arith, length-replicate least low); short = omega (arith, length-replicate least low); fit = all_low low least ok } }
+some_text : (least low : ℕ) → least ≤ 255 → low < 127 → IsMet (IsText least low)
+some_text least low le ok = record { value = replicate least low; fits = record { some = omega (arith, length-replicate least low); short = omega (arith, length-replicate least low); fit = all_low low least ok } }
 
-text_begun : (least low : ℕ) → least < 256 → low < 127 → (bytes : List ℕ) (left : ℕ) → AreBytes bytes → text_at least low bytes ≡ Err left → Begun text (IsText least low) bytes left
+text_begun : (least low : ℕ) → least ≤ 255 → low < 127 → (bytes : List ℕ) (left : ℕ) → AreBytes bytes → text_at least low bytes ≡ Err left → Begun text (IsText least low) bytes left
 unfolding text_at
-text_begun least low lt ok bytes left fits e = elim (bind_err (number_within w8 least 256 bytes) (λ n. chars_at low n.0 n.1) left e) [
-  | inl h ↦ at_front (some_text least low lt ok) (within_first w8 least 256 bytes left h)
+text_begun least low le ok bytes left fits e = elim (bind_err (number_within w8 least 255 bytes) (λ n. chars_at low n.0 n.1) left e) [
+  | inl h ↦ at_front (some_text least low le ok) (within_first w8 least 255 bytes left h)
   | inr h ↦
-      let m = (within_field wide8 (omega arith) least 256 (omega arith) lt).takes bytes h.0 fits h.1 in
+      let m = (within_field wide8 (omega arith) least 255 (omega arith) le).takes bytes h.0 fits h.1 in
       behind_front (one_byte h.0.0) bytes (λ x. x) m.takes.parts
       (λ x fit. (ap (λ (n : ℕ). one_byte n ++ x) fit.long, record { some = omega (arith, fit.long, m.fits.low); short = omega (arith, fit.long, m.fits.high); fit = fit.fit }))
       (chars_begun low h.0.0 ok h.0.1 left h.2)
@@ -201,72 +201,72 @@ chars_early low count small front more other l fits e big =
           rw (long, found) (ap Err left)
     ]
 
-text_early : (least low : ℕ) → least < 256 → low < 127 → IsEarly (text_at least low)
+text_early : (least low : ℕ) → least ≤ 255 → low < 127 → IsEarly (text_at least low)
 unfolding text_at
-text_early least low lt ok =
-    let f = within_field wide8 (omega arith) least 256 (omega arith) lt in
+text_early least low le ok =
+    let f = within_field wide8 (omega arith) least 255 (omega arith) le in
     bind_early f.takes f.again f.early (λ n. chars_at low n.0 n.1) (record {
       low = λ x rest left fx fits e. begun_low (chars_begun low x ok rest left e);
-      early = λ x fx. chars_early low x fx.high;
+      early = λ x fx. chars_early low x (omega (arith, fx.high));
     })
 
-pub text_field : (least low : ℕ) → least < 256 → low < 127 → IsField (text_at least low) text (IsText least low)
-text_field least low lt ok = record { takes = text_takes least low lt; again = text_again least low lt; begun = text_begun least low lt ok; example = some_text least low lt ok; early = text_early least low lt ok }
+pub text_field : (least low : ℕ) → least ≤ 255 → low < 127 → IsField (text_at least low) text (IsText least low)
+text_field least low le ok = record { takes = text_takes least low le; again = text_again least low le; begun = text_begun least low le ok; example = some_text least low le ok; early = text_early least low le ok }
 
 -- ---- small numbers
 
 abbrev Any : {A : Type 0} → A → Type 0
 Any x = Unit {0}
 
-flag_back : (n : ℕ) → n < 2 → one_byte n ≡ flag (eqb n 1)
-flag_back zero lt = refl
-flag_back (suc zero) lt = refl
-flag_back (suc (suc n)) lt = absurd (omega arith)
+flag_back : (n : ℕ) → n ≤ 1 → one_byte n ≡ flag (eqb n 1)
+flag_back zero le = refl
+flag_back (suc zero) le = refl
+flag_back (suc (suc n)) le = absurd (omega arith)
 
 flag_takes : (bytes : List ℕ) (x : Bool × List ℕ) → AreBytes bytes → flag_at bytes ≡ Ok x → Read flag Any bytes x
 unfolding flag_at
 flag_takes bytes x fits e =
-    let a = bind_ok (number_within w8 0 2 bytes) (λ n. Ok (eqb n.0 1, n.1)) x e in
-    let m = (within_field wide8 (omega arith) 0 2 (omega arith) (omega arith)).takes bytes a.0 fits a.1 in
+    let a = bind_ok (number_within w8 0 1 bytes) (λ n. Ok (eqb n.0 1, n.1)) x e in
+    let m = (within_field wide8 (omega arith) 0 1 (omega arith) (omega arith)).takes bytes a.0 fits a.1 in
     subst (λ (y : Bool × List ℕ). Read flag Any bytes y) {x = (eqb a.0.0 1, a.0.1)} (ok_is (eqb a.0.0 1, a.0.1) x a.2)
     (record { takes = record { parts = m.takes.parts ∙ ap (λ (l : List ℕ). l ++ a.0.1) (flag_back a.0.0 m.fits.high); rest_fits = m.takes.rest_fits }; fits = tt })
 
 flag_again : (x : Bool) (rest : List ℕ) → Unit {0} → flag_at (flag x ++ rest) ≡ Ok (x, rest)
 unfolding flag_at
-flag_again false rest fits = rw ((within_field wide8 (omega arith) 0 2 (omega arith) (omega arith)).again 0 rest (record { low = omega arith; high = omega arith })) refl
-flag_again true rest fits = rw ((within_field wide8 (omega arith) 0 2 (omega arith) (omega arith)).again 1 rest (record { low = omega arith; high = omega arith })) refl
+flag_again false rest fits = rw ((within_field wide8 (omega arith) 0 1 (omega arith) (omega arith)).again 0 rest (record { low = omega arith; high = omega arith })) refl
+flag_again true rest fits = rw ((within_field wide8 (omega arith) 0 1 (omega arith) (omega arith)).again 1 rest (record { low = omega arith; high = omega arith })) refl
 
 flag_first : (bytes : List ℕ) (left : ℕ) → flag_at bytes ≡ Err left → length bytes ≡ left
 unfolding flag_at
-flag_first bytes left e = elim (bind_err (number_within w8 0 2 bytes) (λ n. Ok (eqb n.0 1, n.1)) left e) [
-  | inl h ↦ within_first w8 0 2 bytes left h
+flag_first bytes left e = elim (bind_err (number_within w8 0 1 bytes) (λ n. Ok (eqb n.0 1, n.1)) left e) [
+  | inl h ↦ within_first w8 0 1 bytes left h
   | inr h ↦ absurd (no_fault (eqb h.0.0 1, h.0.1) left h.2)
 ]
 
 flag_early : IsEarly flag_at
 unfolding flag_at
-flag_early = then_early (number_within w8 0 2) (within_early w8 (omega arith) 0 2) (λ n. (eqb n.0 1, n.1))
+flag_early = then_early (number_within w8 0 1) (within_early w8 (omega arith) 0 1) (λ n. (eqb n.0 1, n.1))
 
 pub flag_field : IsField flag_at flag Any
 flag_field = record { takes = flag_takes; again = flag_again; begun = λ bytes left fits e. at_front (record { value = false; fits = tt }) (flag_first bytes left e); example = record { value = false; fits = tt }; early = flag_early }
 
-kind_back : (n : ℕ) → n < 4 → one_byte n ≡ kind (kind_of n)
-kind_back zero lt = refl
-kind_back (suc zero) lt = refl
-kind_back (suc (suc zero)) lt = refl
-kind_back (suc (suc (suc zero))) lt = refl
-kind_back (suc (suc (suc (suc n)))) lt = absurd (omega arith)
+kind_back : (n : ℕ) → n ≤ 3 → one_byte n ≡ kind (kind_of n)
+kind_back zero le = refl
+kind_back (suc zero) le = refl
+kind_back (suc (suc zero)) le = refl
+kind_back (suc (suc (suc zero))) le = refl
+kind_back (suc (suc (suc (suc n)))) le = absurd (omega arith)
 
 kind_takes : (bytes : List ℕ) (x : BinKind × List ℕ) → AreBytes bytes → kind_at bytes ≡ Ok x → Read kind Any bytes x
 unfolding kind_at
 kind_takes bytes x fits e =
-    let a = bind_ok (number_within w8 0 4 bytes) (λ n. Ok (kind_of n.0, n.1)) x e in
-    let m = (within_field wide8 (omega arith) 0 4 (omega arith) (omega arith)).takes bytes a.0 fits a.1 in
+    let a = bind_ok (number_within w8 0 3 bytes) (λ n. Ok (kind_of n.0, n.1)) x e in
+    let m = (within_field wide8 (omega arith) 0 3 (omega arith) (omega arith)).takes bytes a.0 fits a.1 in
     subst (λ (y : BinKind × List ℕ). Read kind Any bytes y) {x = (kind_of a.0.0, a.0.1)} (ok_is (kind_of a.0.0, a.0.1) x a.2)
     (record { takes = record { parts = m.takes.parts ∙ ap (λ (l : List ℕ). l ++ a.0.1) (kind_back a.0.0 m.fits.high); rest_fits = m.takes.rest_fits }; fits = tt })
 
-four : (n : ℕ) (rest : List ℕ) → n < 4 → number_within w8 0 4 (one_byte n ++ rest) ≡ Ok (n, rest)
-four n rest lt = (within_field wide8 (omega arith) 0 4 (omega arith) (omega arith)).again n rest (record { low = omega arith; high = lt })
+four : (n : ℕ) (rest : List ℕ) → n ≤ 3 → number_within w8 0 3 (one_byte n ++ rest) ≡ Ok (n, rest)
+four n rest le = (within_field wide8 (omega arith) 0 3 (omega arith) (omega arith)).again n rest (record { low = omega arith; high = le })
 
 kind_again : (x : BinKind) (rest : List ℕ) → Unit {0} → kind_at (kind x ++ rest) ≡ Ok (x, rest)
 unfolding kind_at
@@ -277,30 +277,30 @@ kind_again DefaultBin rest fits = rw (four 3 rest (omega arith)) refl
 
 kind_first : (bytes : List ℕ) (left : ℕ) → kind_at bytes ≡ Err left → length bytes ≡ left
 unfolding kind_at
-kind_first bytes left e = elim (bind_err (number_within w8 0 4 bytes) (λ n. Ok (kind_of n.0, n.1)) left e) [
-  | inl h ↦ within_first w8 0 4 bytes left h
+kind_first bytes left e = elim (bind_err (number_within w8 0 3 bytes) (λ n. Ok (kind_of n.0, n.1)) left e) [
+  | inl h ↦ within_first w8 0 3 bytes left h
   | inr h ↦ absurd (no_fault (kind_of h.0.0, h.0.1) left h.2)
 ]
 
 kind_early : IsEarly kind_at
 unfolding kind_at
-kind_early = then_early (number_within w8 0 4) (within_early w8 (omega arith) 0 4) (λ n. (kind_of n.0, n.1))
+kind_early = then_early (number_within w8 0 3) (within_early w8 (omega arith) 0 3) (λ n. (kind_of n.0, n.1))
 
 pub kind_field : IsField kind_at kind Any
 kind_field = record { takes = kind_takes; again = kind_again; begun = λ bytes left fits e. at_front (record { value = CvgBin; fits = tt }) (kind_first bytes left e); example = record { value = CvgBin; fits = tt }; early = kind_early }
 
-limit_back : (n : ℕ) → n < 4 → one_byte n ≡ limit (limit_of n)
-limit_back zero lt = refl
-limit_back (suc zero) lt = refl
-limit_back (suc (suc zero)) lt = refl
-limit_back (suc (suc (suc zero))) lt = refl
-limit_back (suc (suc (suc (suc n)))) lt = absurd (omega arith)
+limit_back : (n : ℕ) → n ≤ 3 → one_byte n ≡ limit (limit_of n)
+limit_back zero le = refl
+limit_back (suc zero) le = refl
+limit_back (suc (suc zero)) le = refl
+limit_back (suc (suc (suc zero))) le = refl
+limit_back (suc (suc (suc (suc n)))) le = absurd (omega arith)
 
 limit_takes : (bytes : List ℕ) (x : Which × List ℕ) → AreBytes bytes → limit_at bytes ≡ Ok x → Read limit Any bytes x
 unfolding limit_at
 limit_takes bytes x fits e =
-    let a = bind_ok (number_within w8 0 4 bytes) (λ n. Ok (limit_of n.0, n.1)) x e in
-    let m = (within_field wide8 (omega arith) 0 4 (omega arith) (omega arith)).takes bytes a.0 fits a.1 in
+    let a = bind_ok (number_within w8 0 3 bytes) (λ n. Ok (limit_of n.0, n.1)) x e in
+    let m = (within_field wide8 (omega arith) 0 3 (omega arith) (omega arith)).takes bytes a.0 fits a.1 in
     subst (λ (y : Which × List ℕ). Read limit Any bytes y) {x = (limit_of a.0.0, a.0.1)} (ok_is (limit_of a.0.0, a.0.1) x a.2)
     (record { takes = record { parts = m.takes.parts ∙ ap (λ (l : List ℕ). l ++ a.0.1) (limit_back a.0.0 m.fits.high); rest_fits = m.takes.rest_fits }; fits = tt })
 
@@ -313,14 +313,14 @@ limit_again which.History rest fits = rw (four 3 rest (omega arith)) refl
 
 limit_first : (bytes : List ℕ) (left : ℕ) → limit_at bytes ≡ Err left → length bytes ≡ left
 unfolding limit_at
-limit_first bytes left e = elim (bind_err (number_within w8 0 4 bytes) (λ n. Ok (limit_of n.0, n.1)) left e) [
-  | inl h ↦ within_first w8 0 4 bytes left h
+limit_first bytes left e = elim (bind_err (number_within w8 0 3 bytes) (λ n. Ok (limit_of n.0, n.1)) left e) [
+  | inl h ↦ within_first w8 0 3 bytes left h
   | inr h ↦ absurd (no_fault (limit_of h.0.0, h.0.1) left h.2)
 ]
 
 limit_early : IsEarly limit_at
 unfolding limit_at
-limit_early = then_early (number_within w8 0 4) (within_early w8 (omega arith) 0 4) (λ n. (limit_of n.0, n.1))
+limit_early = then_early (number_within w8 0 3) (within_early w8 (omega arith) 0 3) (λ n. (limit_of n.0, n.1))
 
 pub limit_field : IsField limit_at limit Any
 limit_field = record { takes = limit_takes; again = limit_again; begun = λ bytes left fits e. at_front (record { value = which.Tests; fits = tt }) (limit_first bytes left e); example = record { value = which.Tests; fits = tt }; early = limit_early }

@@ -30,11 +30,11 @@ Form A = List ℕ → Result A ℕ
 abbrev pub number_at : Width → Reader ℕ
 number_at w bytes = if nat_lt (length bytes) (byte_len w) then Err (length bytes) else Ok (from_be_bytes w (take (byte_len w) bytes), drop (byte_len w) bytes)
 
--- a number from least on and below the limit
+-- a number from least to most, both included
 unfoldable pub number_within : Width → ℕ → ℕ → Reader ℕ
-number_within w least limit bytes = do
+number_within w least most bytes = do
   n ← number_at w bytes
-  if nat_le least n.0 && nat_lt n.0 limit then Ok n else Err (length bytes)
+  if nat_le least n.0 && nat_le n.0 most then Ok n else Err (length bytes)
 
 abbrev pub digest_at : Reader (List ℕ)
 digest_at bytes = if nat_lt (length bytes) 32 then Err (length bytes) else Ok (take 32 bytes, drop 32 bytes)
@@ -54,12 +54,12 @@ chars_at low count bytes = if nat_lt (length bytes) count then Err (length bytes
 -- The length, from least on, is a field, and the text another.
 unfoldable pub text_at : ℕ → ℕ → Reader (List ℕ)
 text_at least low bytes = do
-  n ← number_within w8 least 256 bytes
+  n ← number_within w8 least 255 bytes
   chars_at low n.0 n.1
 
 unfoldable pub flag_at : Reader Bool
 flag_at bytes = do
-  n ← number_within w8 0 2 bytes
+  n ← number_within w8 0 1 bytes
   Ok (n.0 == 1, n.1)
 
 abbrev pub kind_of : ℕ → BinKind
@@ -67,7 +67,7 @@ kind_of n = if n == 0 then CvgBin else (if n == 1 then IllegalBin else (if n == 
 
 unfoldable pub kind_at : Reader BinKind
 kind_at bytes = do
-  n ← number_within w8 0 4 bytes
+  n ← number_within w8 0 3 bytes
   Ok (kind_of n.0, n.1)
 
 abbrev pub limit_of : ℕ → Which
@@ -75,7 +75,7 @@ limit_of n = if n == 0 then which.Tests else (if n == 1 then which.Bytes else (i
 
 unfoldable pub limit_at : Reader Which
 limit_at bytes = do
-  n ← number_within w8 0 4 bytes
+  n ← number_within w8 0 3 bytes
   Ok (limit_of n.0, n.1)
 
 -- one field and another

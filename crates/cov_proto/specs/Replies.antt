@@ -1,5 +1,5 @@
 -- What a body answers: one row for each tag.
-use Rattle.std.specs.Prelude.{◌≡◌, ℕ, suc, ◌^◌, List, [], ◌∷◌, length, Result, Ok, Err, Bool, true, false, nat_le, ◌==◌, ◌||◌, if◌then◌else◌}
+use Rattle.std.specs.Prelude.{◌≡◌, ℕ, suc, ◌-◌, ◌^◌, List, [], ◌∷◌, length, Result, Ok, Err, Bool, true, false, nat_le, ◌==◌, ◌||◌, if◌then◌else◌}
 use mathlib.Core.Bool.{◌&&◌}
 use Rattle.std.specs.Int.{w8, w32, w64}
 use Rattle.tally.specs.declared.ranked.Ranked.{Ranked}
@@ -27,19 +27,19 @@ cover_row_at = shaped (λ x. record { millionths = x.0; met = x.1.0; excluded = 
 
 abbrev pub test_row_at : Reader HistoryNode
 test_row_at = shaped (λ x. record { kind = history.Test; point = x.0; status = x.1.0; seed = x.1.1.0; time = x.1.1.1.0; digest = x.1.1.1.1.0; id = x.1.1.1.1.1.0; user = x.1.1.1.1.1.1 })
-    (pair (number_at w64) (pair (number_within w8 0 4) (pair (number_at w64) (pair (number_at w64) (pair digest_at (pair (text_at 1 33) (text_at 0 32)))))))
+    (pair (number_at w64) (pair (number_within w8 0 3) (pair (number_at w64) (pair (number_at w64) (pair digest_at (pair (text_at 1 33) (text_at 0 32)))))))
 
 abbrev pub rank_row_at : Reader Ranked
 rank_row_at = shaped (λ x. record { test = x.0; gain = x.1 }) (pair (number_at w32) (number_at w64))
 
 -- BadMagic has no number but 0.
-abbrev pub number_limit : ℕ → ℕ
-number_limit code = if code == 2 then 1 else 2 ^ 64
+abbrev pub greatest_number : ℕ → ℕ
+greatest_number code = if code == 2 then 0 else 2 ^ 64 - 1
 
 unfoldable pub record_fault_at : Reader (ℕ × ℕ)
 record_fault_at bytes = do
-  code ← number_within w8 1 7 bytes
-  number ← number_within w64 0 (number_limit code.0) code.1
+  code ← number_within w8 1 6 bytes
+  number ← number_within w64 0 (greatest_number code.0) code.1
   Ok ((code.0, number.0), number.1)
 
 -- ---- bodies

@@ -58,17 +58,17 @@ pub(crate) fn u64_at(bytes: &[u8]) -> Result<(u64, &[u8]), BadAt>
     Ok((number, rest))
 }
 
-/// A number in one byte, from the least on and below the limit.
+/// A number in one byte, from the least to the most.
 #[inline]
 #[tactic(auto, unfolding(crate::specs::Reading::number_within))]
-pub(crate) fn u8_within(least: u8, limit: u8, bytes: &[u8]) -> Result<(u8, &[u8]), BadAt>
-    ensures { Gives (λ x. (x.0, x.1.now)) result (number_within w8 least limit bytes.now) }
+pub(crate) fn u8_within(least: u8, most: u8, bytes: &[u8]) -> Result<(u8, &[u8]), BadAt>
+    ensures { Gives (λ x. (x.0, x.1.now)) result (number_within w8 least most bytes.now) }
 {
     let (number, rest) = u8_at(bytes)?;
     if number < least {
         return Err(BadAt { left: bytes.len() });
     }
-    if number >= limit {
+    if number > most {
         return Err(BadAt { left: bytes.len() });
     }
     Ok((number, rest))
@@ -131,7 +131,7 @@ pub(crate) fn text_at(least: u8, low: u8, bytes: &[u8]) -> Result<(&[u8], &[u8])
 // The length of a text, from the least on.
 #[tactic(auto, unfolding(crate::specs::Reading::number_within))]
 fn length_at(least: u8, bytes: &[u8]) -> Result<(u8, &[u8]), BadAt>
-    ensures { Gives (λ x. (x.0, x.1.now)) result (number_within w8 least 256 bytes.now) }
+    ensures { Gives (λ x. (x.0, x.1.now)) result (number_within w8 least 255 bytes.now) }
 {
     let (count, rest) = u8_at(bytes)?;
     if count < least {

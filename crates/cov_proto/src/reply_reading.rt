@@ -1,12 +1,12 @@
 //! Replies from their bodies.
-ghost use Rattle.std.specs.Prelude.{◌≡◌, ◌≤◌, ◌^◌, length, IfOk, IfErr, false};
+ghost use Rattle.std.specs.Prelude.{◌≡◌, ◌≤◌, ◌-◌, ◌^◌, length, IfOk, IfErr, false};
 ghost use Rattle.std.specs.Int.{w64};
 ghost use Rattle.cov_proto.specs.Frames.{longest_body};
 ghost use Rattle.cov_proto.specs.Given.{Gives, GivesOrLacks, MayLack};
 ghost use Rattle.cov_proto.specs.Laws.{SpellsReply, HasNoReply};
 ghost use Rattle.cov_proto.specs.Reading.{number_within};
 ghost use Rattle.cov_proto.specs.Replies.{counts_at, coverage_at, tests_at, ranks_at, path_is_at, chunk_at};
-ghost use Rattle.cov_proto.specs.Replies.{outside_at, bad_record_at, full_at, bad_design_at, number_limit};
+ghost use Rattle.cov_proto.specs.Replies.{outside_at, bad_record_at, full_at, bad_design_at, greatest_number};
 ghost use Rattle.cov_proto.specs.Replies.{bare_at, number_reply_at, body_at, is_reply_tag, tagged_at};
 ghost use Rattle.cov_proto.specs.Replies.{takes_memory, begins_with_text, MayWant};
 ghost use Rattle.cov_proto.specs.Replies.{reply_left, reply_read, HasReadReply};
@@ -105,7 +105,7 @@ fn outside(bytes: &[u8]) -> Result<Body, BadAt>
 // The number 0.
 #[tactic(auto, unfolding(crate::specs::Reading::number_within))]
 fn zero_at(bytes: &[u8]) -> Result<(u64, &[u8]), BadAt>
-    ensures { Gives (λ x. (x.0, x.1.now)) result (number_within w64 0 1 bytes.now) }
+    ensures { Gives (λ x. (x.0, x.1.now)) result (number_within w64 0 0 bytes.now) }
 {
     let (number, rest) = u64_at(bytes)?;
     if number != 0 {
@@ -117,7 +117,7 @@ fn zero_at(bytes: &[u8]) -> Result<(u64, &[u8]), BadAt>
 // Any number of 64 bits.
 #[tactic(auto, unfolding(crate::specs::Reading::number_within))]
 fn any_u64_at(bytes: &[u8]) -> Result<(u64, &[u8]), BadAt>
-    ensures { Gives (λ x. (x.0, x.1.now)) result (number_within w64 0 (2 ^ 64) bytes.now) }
+    ensures { Gives (λ x. (x.0, x.1.now)) result (number_within w64 0 (2 ^ 64 - 1) bytes.now) }
 {
     let (number, rest) = u64_at(bytes)?;
     Ok((number, rest))
@@ -125,7 +125,7 @@ fn any_u64_at(bytes: &[u8]) -> Result<(u64, &[u8]), BadAt>
 
 // The number of a fault of a record: 0 for BadMagic, whose code is 2.
 fn fault_number(code: u8, bytes: &[u8]) -> Result<(u64, &[u8]), BadAt>
-    ensures { Gives (λ x. (x.0, x.1.now)) result (number_within w64 0 (number_limit code) bytes.now) }
+    ensures { Gives (λ x. (x.0, x.1.now)) result (number_within w64 0 (greatest_number code) bytes.now) }
 {
     if code == 2 {
         return zero_at(bytes);
@@ -137,7 +137,7 @@ fn fault_number(code: u8, bytes: &[u8]) -> Result<(u64, &[u8]), BadAt>
 fn bad_record(bytes: &[u8]) -> Result<Body, BadAt>
     ensures { Gives (λ x. x) result (bad_record_at bytes.now) }
 {
-    let (code, rest) = u8_within(1, 7, bytes)?;
+    let (code, rest) = u8_within(1, 6, bytes)?;
     let (number, rest) = fault_number(code, rest)?;
     end(rest)?;
     Ok(Body::BadRecord { code, number })

@@ -12,15 +12,15 @@ use std::alloc::Global;
 use tally::Ranked;
 use ucis_model::{CountRow, CoverRow, HistoryKind, HistoryNode, Which};
 
-// How many kinds of bins there are.
-const KINDS: u8 = 4;
+// The number of the last kind of bins.
+const LAST_KIND: u8 = 3;
 
 #[inline]
 #[tactic(auto, unfolding(crate::specs::Reading::flag_at))]
 fn flag_at(bytes: &[u8]) -> Result<(bool, &[u8]), BadAt>
     ensures { Gives (λ x. (x.0, x.1.now)) result (flag_at bytes.now) }
 {
-    let (number, rest) = u8_within(0, 2, bytes)?;
+    let (number, rest) = u8_within(0, 1, bytes)?;
     Ok((number == 1, rest))
 }
 
@@ -29,7 +29,7 @@ fn flag_at(bytes: &[u8]) -> Result<(bool, &[u8]), BadAt>
 fn kind_at(bytes: &[u8]) -> Result<(BinKind, &[u8]), BadAt>
     ensures { Gives (λ x. (x.0, x.1.now)) result (kind_at bytes.now) }
 {
-    let (number, rest) = u8_within(0, KINDS, bytes)?;
+    let (number, rest) = u8_within(0, LAST_KIND, bytes)?;
     match number {
         0 => Ok((BinKind::CvgBin, rest)),
         1 => Ok((BinKind::IllegalBin, rest)),
@@ -42,7 +42,7 @@ fn kind_at(bytes: &[u8]) -> Result<(BinKind, &[u8]), BadAt>
 pub(crate) fn limit_at(bytes: &[u8]) -> Result<(Which, &[u8]), BadAt>
     ensures { Gives (λ x. (x.0, x.1.now)) result (limit_at bytes.now) }
 {
-    let (number, rest) = u8_within(0, 4, bytes)?;
+    let (number, rest) = u8_within(0, 3, bytes)?;
     match number {
         0 => Ok((Which::Tests, rest)),
         1 => Ok((Which::Bytes, rest)),
@@ -108,7 +108,7 @@ fn test_row(alloc: Global, bytes: &[u8]) -> Result<(HistoryNode, &[u8]), Fault>
     ensures { GivesOrLacks (λ x. (x.0, x.1.now)) result (test_row_at bytes.now) }
 {
     let (point, rest) = u64_at(bytes)?;
-    let (status, rest) = u8_within(0, 4, rest)?;
+    let (status, rest) = u8_within(0, 3, rest)?;
     let (seed, rest) = u64_at(rest)?;
     let (time, rest) = u64_at(rest)?;
     let (digest, rest) = digest_at(rest)?;
