@@ -10,7 +10,8 @@ use Rattle.cov_tree.specs.declared.literal.Literal.{Literal}
 use Rattle.cov_lexer.specs.Forms.{Piece, Separator, Item, Spells, IsPiece}
 use Rattle.cov_lexer.specs.Spellings.{kind_of}
 use Rattle.cov_lexer.specs.Literals.{literal_of}
-use Rattle.cov_lexer.specs.Lexes.{IsToken, IsWithin, Covers, Lexes, IsNothing, IsFaultAt, IsFault, Ascend, place, opens_comment, name_limit, AllWithin, IsSpelled, AllSpelled}
+use Rattle.cov_ground.specs.Limits.{longest_name}
+use Rattle.cov_lexer.specs.Lexes.{IsToken, IsWithin, Covers, Lexes, IsNothing, IsFaultAt, IsFault, Ascend, place, opens_comment, AllWithin, IsSpelled, AllSpelled}
 
 pub piece_same : (text : List ℕ) (i : ℕ) (p q : Piece) (j k : ℕ) → IsPiece text i p j → IsPiece text i q k → (j ≡ k) × (p ≡ q)
 piece_same text i p q j k x y =
@@ -84,7 +85,7 @@ one_list text ts us h g = (covers_meet text h.0 g.0 0 ts us (length text) (lengt
 token_spells : (text : List ℕ) (k n : ℕ) → ((p : Piece) (m : ℕ) → Spells text k p m → ⊥) → (IsPiece text k Separator n ⊎ ((t : TokenKind) × IsToken text k t n)) → ⊥
 token_spells text k n none s = elim s [ inl p ↦ none Separator n p.spells | inr p ↦ none (Item p.0) n p.1.piece.spells ]
 
-stuck_at_name : (text : List ℕ) (k n m : ℕ) → IsPiece text k (Item Ident) n → k + name_limit < n → (IsPiece text k Separator m ⊎ ((t : TokenKind) × IsToken text k t m)) → ⊥
+stuck_at_name : (text : List ℕ) (k n m : ℕ) → IsPiece text k (Item Ident) n → k + longest_name < n → (IsPiece text k Separator m ⊎ ((t : TokenKind) × IsToken text k t m)) → ⊥
 stuck_at_name text k n m p l s = elim s [
   | inl q ↦ (let e = (piece_same text k (Item Ident) Separator n m p q).1 in absurd (cc))
   | inr q ↦ (let e = piece_same text k (Item Ident) (Item q.0) n m p q.1.piece in

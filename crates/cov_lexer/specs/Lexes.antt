@@ -1,5 +1,6 @@
 -- The tokens of a text, and why a text has none.
 use Rattle.std.specs.Prelude.{◌≡◌, ◌≢◌, ℕ, zero, suc, ◌+◌, ◌<◌, ◌≤◌, List, [], ◌∷◌, Bool, true, false, codes, ◌⊎◌, length, slice_index, slice_range, None, IsSome}
+use Rattle.cov_ground.specs.Limits.{longest_name}
 use Rattle.cov_lexer.specs.declared.token.TokenKind.{TokenKind}
 use Rattle.cov_lexer.specs.declared.token.TokenKind.TheVariants.{Ident, Keyword, System, Decimal, Based, Text, Operator, NotSupported}
 use Rattle.cov_lexer.specs.declared.token.Token.{Token}
@@ -11,16 +12,12 @@ use Rattle.cov_lexer.specs.Operators.{stands}
 use Rattle.cov_lexer.specs.Forms.{Piece, Separator, Item, Spells, IsPiece}
 use Rattle.cov_lexer.specs.Literals.{literal_of}
 
--- the greatest number of bytes of a name
-abbrev pub name_limit : ℕ
-name_limit = 1024
-
 abbrev pub opens_comment : List ℕ → ℕ → Bool
 opens_comment text i = stands text i (codes "/*")
 
 -- a name is within its limit, and a literal has a meaning
 abbrev pub IsWithin : List ℕ → ℕ → TokenKind → ℕ → Type 0
-IsWithin text i Ident j = j ≤ i + name_limit
+IsWithin text i Ident j = j ≤ i + longest_name
 IsWithin text i Decimal j = IsSome (literal_of (slice_range text i j))
 IsWithin text i Based j = IsSome (literal_of (slice_range text i j))
 IsWithin text i Keyword j = Unit {0}
@@ -68,7 +65,7 @@ abbrev pub IsFaultAt : List ℕ → LexFault → Type 0
 IsFaultAt text (BadByte k) = IsNothing text k × (slice_index text k ≢ 34)
 IsFaultAt text (OpenString k) = IsNothing text k × (slice_index text k ≡ 34)
 IsFaultAt text (OpenComment k) = (opens_comment text k ≡ true) × ((n : ℕ) → Spells text k Separator n → ⊥)
-IsFaultAt text (NameTooLong k) = (n : ℕ) × IsPiece text k (Item Ident) n × (opens_comment text k ≡ false) × (k + name_limit < n)
+IsFaultAt text (NameTooLong k) = (n : ℕ) × IsPiece text k (Item Ident) n × (opens_comment text k ≡ false) × (k + longest_name < n)
 IsFaultAt text (LiteralTooWide k) =
     (n : ℕ) × (kind : TokenKind) × ((kind ≡ Decimal) ⊎ (kind ≡ Based)) × IsPiece text k (Item kind) n × (opens_comment text k ≡ false) × (literal_of (slice_range text k n) ≡ None)
 IsFaultAt text Memory = ⊥

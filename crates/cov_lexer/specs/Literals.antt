@@ -1,6 +1,7 @@
 -- What an integer literal means, by its parts (IEEE 1800-2017, 5.7.1).
 use Rattle.std.specs.Prelude.{◌≡◌, ℕ, ◌+◌, ◌-◌, ◌*◌, ◌^◌, List, [], ◌∷◌, Bool, true, false, not, ◌&&◌, ◌||◌, ◌⊎◌, nat_eq, nat_le, nat_lt, cond, bit_or, count_by, find, take, drop, length, slice_index, Option, Some, None}
 use Rattle.std.specs.List.{prefix_len}
+use Rattle.cov_ground.specs.Limits.{most_bits}
 use Rattle.cov_tree.specs.declared.literal.Literal.{Literal}
 use Rattle.cov_lexer.specs.declared.bytes.Base.{Base}
 use Rattle.cov_lexer.specs.declared.bytes.Base.TheVariants.{Binary, Octal, Decimal, Hexadecimal}
@@ -65,13 +66,13 @@ made sized signed base width digits =
     (Some (record { width = width; sized = sized; signed = signed; bits = value_of base digits; free = bit_or (free_of base digits) (above base width digits) }))
     None
 
--- without a size, 32 bits where the digits fit them, else 64
+-- without a size, 32 bits where the digits fit them, else most_bits
 abbrev pub natural_width : Base → List ℕ → ℕ
-natural_width base digits = cond (fits_width base 32 digits) 32 64
+natural_width base digits = cond (fits_width base 32 digits) 32 most_bits
 
--- a size is 1 to 64
+-- a size is 1 to most_bits
 abbrev pub of_size : Bool → Base → ℕ → List ℕ → Option Literal
-of_size signed base size digits = cond (nat_lt 0 size && nat_le size 64) (made true signed base size digits) None
+of_size signed base size digits = cond (nat_lt 0 size && nat_le size most_bits) (made true signed base size digits) None
 
 -- the meaning of a based literal: of the digits of its size (none where it has no size), whether it is signed, its base and
 -- its digits; None where it is too wide

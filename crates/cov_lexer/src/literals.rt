@@ -1,10 +1,12 @@
 //! What an integer literal means.
 ghost use Rattle.std.specs.Prelude.{◌≡◌, ◌≤◌, ◌⊎◌, ◌^◌, ◌*◌, ◌+◌, ◌&&◌, MatchOption, IfSome, IfNone, None, find, not, count_by, nat_lt, false, length, slice_range, ℕ};
+ghost use Rattle.cov_ground.specs.Limits.{most_bits};
 ghost use Rattle.cov_lexer.specs.declared.bytes.Base.TheVariants.{Decimal};
 ghost use Rattle.cov_lexer.specs.Literals.{digit_value, digit_free, is_gap, natural_width, value_of, free_of, above, made, meaning, lettered, based_literal, decimal_literal, literal_of, leads_unknown, IsDecimal, IsBased, IsLiteral, IsNumber};
 
 use crate::bytes::{Base, Class, is_digit, is_sign, is_unknown};
 use crate::runs::{byte_at, run_end};
+use cov_ground::limits::MOST_BITS;
 use cov_tree::Literal;
 
 /// The digits of a literal as bits.
@@ -112,7 +114,7 @@ fn meaning(size: &[u8], signed: bool, base: Base, digits: &[u8]) -> Option<Liter
     if width == 0 {
         return None;
     }
-    if width > 64 {
+    if width > u64::from(MOST_BITS) {
         return None;
     }
     let read = read_digits(digits, base)?;
@@ -124,7 +126,7 @@ fn unsized_literal(signed: bool, base: Base, digits: &[u8]) -> Option<Literal>
     ensures { result ≡ made false signed base (natural_width base digits.now) digits.now }
 {
     let read = read_digits(digits, base)?;
-    let width = if read.fits(32) { 32 } else { 64 };
+    let width = if read.fits(32) { 32 } else { MOST_BITS };
     made(read, false, signed, base, width, digits)
 }
 
@@ -139,7 +141,7 @@ fn made(
 ) -> Option<Literal>
     requires bits { read.bits ≡ value_of base digits.now }
     requires free { read.free ≡ free_of base digits.now }
-    requires width { width ≤ 64 }
+    requires width { width ≤ most_bits }
     ensures { result ≡ made sized signed base width digits.now }
 {
     if !read.fits(width) {
@@ -157,7 +159,7 @@ fn made(
 impl Digits {
     /// Whether all its bits are below the width.
     fn fits(self, width: u8) -> bool
-        requires { width ≤ 64 }
+        requires { width ≤ most_bits }
         ensures { result ≡ (nat_lt self.bits (2 ^ width) && nat_lt self.free (2 ^ width)) }
     {
         u128::from(self.bits) < limit(width) && u128::from(self.free) < limit(width)
@@ -166,7 +168,7 @@ impl Digits {
 
 /// The bits of the width above all digits, where the leftmost digit is unknown.
 fn above(base: Base, width: u8, digits: &[u8]) -> u64
-    requires { width ≤ 64 }
+    requires { width ≤ most_bits }
     ensures { result ≡ above base width digits.now }
 {
     if !leads_unknown(digits) {
@@ -188,7 +190,7 @@ fn count_digits(digits: &[u8]) -> usize
 
 /// The least number that this many bits don't hold.
 fn limit(width: u8) -> u128
-    requires { width ≤ 64 }
+    requires { width ≤ most_bits }
     ensures { result ≡ 2 ^ width }
 {
     1 << width

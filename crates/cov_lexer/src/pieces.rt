@@ -13,9 +13,10 @@ use crate::operators::{operator_at, sort_of};
 use crate::runs::{byte_at, run_end, stands};
 use crate::spellings::keyword;
 use crate::token::{LexFault, TokenKind};
+use cov_ground::limits::LONGEST_NAME;
 
 /// The greatest number of bytes of a name.
-const NAME_LIMIT: usize = 1024;
+const NAME_LIMIT: usize = LONGEST_NAME as usize;
 
 /// What a token is, and what it spells.
 #[derive(Clone, Copy)]
