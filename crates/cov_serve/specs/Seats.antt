@@ -18,10 +18,14 @@ number_of (b ∷ c ∷ []) = then_digit (digit_of b) (digit_of c)
 number_of (a ∷ b ∷ c ∷ []) = then_digit (then_digit (digit_of a) (digit_of b)) (digit_of c)
 number_of other = None
 
--- a number from 1 to 256
+-- the most seats of a server, each of a caller that is served at the time
+abbrev pub most_callers : ℕ
+most_callers = 256
+
+-- a number from 1 to that of the most callers
 abbrev pub if_seats : Option ℕ → Option ℕ
 if_seats None = None
-if_seats (Some n) = if nat_le 1 n then (if nat_le n 256 then Some n else None) else None
+if_seats (Some n) = if nat_le 1 n then (if nat_le n most_callers then Some n else None) else None
 
 abbrev pub seats_of : List ℕ → Option ℕ
 seats_of word = if_seats (number_of word)

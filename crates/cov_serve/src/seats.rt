@@ -1,6 +1,9 @@
 //! The number of seats.
 ghost use Rattle.std.specs.Prelude.{◌≡◌, ◌≤◌, IfSome};
-ghost use Rattle.cov_serve.specs.Seats.{digit_of, number_of, seats_of};
+ghost use Rattle.cov_serve.specs.Seats.{most_callers, digit_of, number_of, seats_of};
+
+/// The most seats of a server, each of a caller that is served at the time.
+const MOST_CALLERS: u32 = 256;
 
 /// The number of a decimal digit.
 fn digit(byte: u8) -> Option<u32>
@@ -37,8 +40,12 @@ fn number(word: &[u8]) -> Option<u32>
 pub(crate) fn seats(word: &[u8]) -> Option<u32>
     ensures number { result ≡ seats_of word.now }
     ensures some { IfSome result (λ n. 1 ≤ n) }
-    ensures most { IfSome result (λ n. n ≤ 256) }
+    ensures most { IfSome result (λ n. n ≤ most_callers) }
 {
     let n = number(word)?;
-    if 1 <= n && n <= 256 { Some(n) } else { None }
+    if 1 <= n && n <= MOST_CALLERS {
+        Some(n)
+    } else {
+        None
+    }
 }

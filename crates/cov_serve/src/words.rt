@@ -1,5 +1,6 @@
 //! The words, and which of them is what.
 ghost use Rattle.std.specs.Prelude.{◌≡◌, ◌≤◌, length, map, option_map, string_bytes, IfSome};
+ghost use Rattle.cov_serve.specs.Seats.{most_callers};
 ghost use Rattle.cov_serve.specs.Words.{behind, readers_of, journal_of, flags_of, served_by, IsWithin};
 
 use crate::seats::seats;
@@ -70,7 +71,7 @@ fn journal(at: u32, words: &[String]) -> Option<(Option<u32>, Option<u32>)>
 fn flags(words: &[String]) -> Option<ServeWords>
     ensures words { result ≡ flags_of (map string_bytes words.now) }
     ensures some { IfSome result (λ w. 1 ≤ w.seats) }
-    ensures most { IfSome result (λ w. w.seats ≤ 256) }
+    ensures most { IfSome result (λ w. w.seats ≤ most_callers) }
 {
     let (seats, at, rest) = match flagged("--seats", words) {
         Some((value, rest)) => (seats(value)?, 6, rest),
@@ -90,7 +91,7 @@ fn flags(words: &[String]) -> Option<ServeWords>
 fn said(words: &[String]) -> Option<ServeWords>
     ensures words { result ≡ served_by (map string_bytes words.now) }
     ensures some { IfSome result (λ w. 1 ≤ w.seats) }
-    ensures most { IfSome result (λ w. w.seats ≤ 256) }
+    ensures most { IfSome result (λ w. w.seats ≤ most_callers) }
 {
     let (_, rest) = flagged("serve", words)?;
     let (_, rest) = flagged("--listen", rest)?;
@@ -104,7 +105,7 @@ pub fn serve_words(words: &[String]) -> Option<ServeWords>
     ensures words { result ≡ served_by (map string_bytes words.now) }
     ensures within { IfSome result (IsWithin (length words.now)) }
     ensures some { IfSome result (λ w. 1 ≤ w.seats) }
-    ensures most { IfSome result (λ w. w.seats ≤ 256) }
+    ensures most { IfSome result (λ w. w.seats ≤ most_callers) }
 {
     said(words)
 }
