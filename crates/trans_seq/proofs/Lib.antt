@@ -13,4 +13,5 @@ pub mod WordLemmas
 pub mod MetLemmas
 pub mod Numbers
 pub mod HeldLemmas
+pub mod AloneLemmas
 pub mod RunLemmas

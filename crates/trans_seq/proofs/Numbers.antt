@@ -65,7 +65,7 @@ written-set_of xs = written-runs (ascending xs)
 
 -- ---- ascending lists
 
-abbrev AscendsFrom : ℤ → List ℤ → Type 0
+abbrev pub AscendsFrom : ℤ → List ℤ → Type 0
 AscendsFrom low [] = Unit {0}
 AscendsFrom low (x ∷ xs) = (low ≤ℤ x) × AscendsFrom (x +ℤ pos 1) xs
 
@@ -101,6 +101,11 @@ ascends (x ∷ xs) = with (ascends xs)
     with r = by_lt_z x r.0
         (λ lt. (x, ascends_put x x (ascending xs) (omega (arith, ints)) (ascends_lower x r.0 (ascending xs) (omega (arith, ints, lt)) r.1)))
         (λ le. (r.0, ascends_put r.0 x (ascending xs) le r.1))
+
+pub ordered : (set : List (ℤ × ℤ)) → set_of (written set) ≡ set → (low : ℤ) × AscendsFrom low (written set)
+ordered set same =
+    let r = ascends (written set) in
+    (r.0, subst (AscendsFrom r.0) (sym (sym (ap written same) ∙ written-set_of (written set))) r.1)
 
 put_first : (x : ℤ) (xs : List ℤ) → AscendsFrom (x +ℤ pos 1) xs → put x xs ≡ x ∷ xs
 put_first x [] h = refl

@@ -3,6 +3,7 @@
 //! Transition sequences (IEEE 1800-2017, 19.5.2): their lists of samples, by definition and by search.
 #![tactic(auto)]
 
+mod alone;
 mod fault;
 mod found;
 mod held;

@@ -8,6 +8,7 @@ ghost use Rattle.trans_seq.specs.Cells.{cells_of_repeat, cells_of_items};
 ghost use Rattle.trans_seq.specs.Windows.{HasWord, SomeHasWord};
 ghost use Rattle.trans_seq.specs.Lists.{lengths, by_lengths, from_on, all_of, listed, is_endless, has_endless as seq_has_endless, IsShort, IsFirstLong, HasEndless, Expands, RefusesToExpand, ExpandsAll, RefusesToExpandAll, lists_by_all, listed_by_all};
 
+use crate::alone::lists_of_items;
 use crate::fault::ExpandFault;
 use crate::found::{Found, none_found, take_all, take_length};
 use crate::held::{Known, none_known};
@@ -222,10 +223,68 @@ pub fn expand_all(alloc: Global, seqs: &[Seq]) -> Result<Vec<List<Int>>, ExpandF
     if let Some(cells) = first_too_long(seqs) {
         return Err(ExpandFault::TooLong { cells });
     }
-    merged(alloc, seqs)
+    distinct(alloc, seqs)
 }
 
 /// The distinct lists of the sequences, each of which is within the limit on values.
+fn distinct(alloc: Global, seqs: &[Seq]) -> Result<Vec<List<Int>>, ExpandFault>
+    requires bounded { list_any seq_has_endless seqs.now ≡ false }
+    requires short { All IsShort seqs.now }
+    ensures lists { IfOk result (λ lists. lists.items ≡ listed_by_all seqs.now) }
+    ensures few { IfOk result (λ lists. length (listed_by_all seqs.now) ≤ most_bins) }
+    ensures err { IfErr result (FailsAfter [] (lists_by_all seqs.now)) }
+{
+    match seqs {
+        [seq] => alone(alloc, seq),
+        _ => merged(alloc, seqs),
+    }
+}
+
+/// The lists of a sequence by itself, which are distinct.
+fn alone(alloc: Global, seq: &Seq) -> Result<Vec<List<Int>>, ExpandFault>
+    requires bounded { seq_has_endless seq.now ≡ false }
+    requires short { IsShort seq.now }
+    ensures lists { IfOk result (λ lists. lists.items ≡ listed seq.now.items) }
+    ensures few { IfOk result (λ lists. length (listed seq.now.items) ≤ most_bins) }
+    ensures err { IfErr result (FailsAfter [] (listed seq.now.items)) }
+{
+    let items = seq.items.as_slice();
+    let is_empty = !all_have_list(items);
+    if is_empty {
+        return Ok(Vec::new(alloc));
+    }
+    match spread(alloc, items)? {
+        Some(others) => spread_lists(alloc, items, others.as_slice()),
+        None => expanded(alloc, seq),
+    }
+}
+
+/// The lists of items that have lists of one length alone, with one number of each set of the others.
+fn spread_lists(
+    alloc: Global,
+    items: &[Item],
+    others: &[Item],
+) -> Result<Vec<List<Int>>, ExpandFault>
+    requires { AreSpread items.now others.now }
+    ensures lists { IfOk result (λ lists. lists.items ≡ listed items.now) }
+    ensures few { IfOk result (λ lists. length (listed items.now) ≤ most_bins) }
+    ensures err { IfErr result (FailsAfter [] (listed items.now)) }
+{
+    lists_of_items(alloc, others)
+}
+
+/// The lists of a sequence as they are written out.
+fn expanded(alloc: Global, seq: &Seq) -> Result<Vec<List<Int>>, ExpandFault>
+    requires bounded { seq_has_endless seq.now ≡ false }
+    requires short { IsShort seq.now }
+    ensures lists { IfOk result (λ lists. lists.items ≡ listed seq.now.items) }
+    ensures few { IfOk result (λ lists. length (listed seq.now.items) ≤ most_bins) }
+    ensures err { IfErr result (FailsAfter [] (listed seq.now.items)) }
+{
+    expand(alloc, seq)
+}
+
+/// The distinct lists of several sequences, each of which is within the limit on values.
 fn merged(alloc: Global, seqs: &[Seq]) -> Result<Vec<List<Int>>, ExpandFault>
     requires bounded { list_any seq_has_endless seqs.now ≡ false }
     requires short { All IsShort seqs.now }

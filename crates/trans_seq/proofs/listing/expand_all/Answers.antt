@@ -12,4 +12,4 @@ returns-clause-windows c =
     let seqs = c.args.seqs.now in
     if_ok (λ lists. lists.items ≡ listed_by_all seqs) (λ lists. (w : Word) → Contains lists.items w ↔ SomeHasWord seqs w)
     (λ lists is w. subst (λ ls. Contains ls w ↔ InSome seqs (map Some w)) (sym is) (all-windows seqs (sym c.some_has_unbounded.ensures ∙ c.if-some_has_unbounded.false) w))
-    c.merged.result c.merged.ensures.lists
+    c.distinct.result c.distinct.ensures.lists

@@ -1,0 +1,16 @@
+use Rattle.std.proofs.Common.{◌≡◌, ◌+◌, ◌*◌, length, take}
+use Rattle.cov_base.specs.Sets.{written}
+use Rattle.trans_seq.specs.Alone.{ended_by, Adds}
+use Rattle.trans_seq.proofs.alone.+add_lists.Given as goal
+
+abbrev pub decreases-add_lists : goal.decreases-add_lists
+decreases-add_lists l = 2 * length l.items.now
+
+abbrev pub decreases-add_numbers : goal.decreases-add_numbers
+decreases-add_numbers l = 2 * length l.rest.now + 1
+
+abbrev pub invariant-add_numbers-loop-k : goal.invariant-add_numbers-loop-k
+invariant-add_numbers-loop-k l = record {
+  first : l.first.items ≡ l.initial.first.items;
+  adds : Adds l.initial.lists.items l.lists.items (ended_by l.tail l.initial.first.items (take l.k (written l.set)) l.rest);
+}

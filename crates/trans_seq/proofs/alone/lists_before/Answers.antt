@@ -1,0 +1,11 @@
+use Rattle.std.proofs.Common.{rules, ◌≡◌, [], ◌++◌, length, ap, sym, ◌∙◌}
+use Rattle.trans_seq.specs.Held.{words, begun}
+use Rattle.trans_seq.specs.Alone.{ended, Exceeds}
+use Rattle.trans_seq.proofs.AloneLemmas.{begun-all}
+use Rattle.trans_seq.proofs.alone.lists_before.Goals as goal
+
+pub returns-clause-lists : goal.returns-clause-lists
+returns-clause-lists c =
+    c.in_ok-add_lists.ensures.ok.are
+    ∙ ap (λ l. l ++ ended c.args.tail.now (begun c.new-first.result.items c.args.items.now)) c.new-lists.ensures.items
+    ∙ ap (λ l. ended c.args.tail.now l) (begun-all c.new-first.result.items c.args.items.now c.new-first.ensures.items)
