@@ -1,17 +1,17 @@
 -- Lists of items of which each stands once, where nothing was found before.
-use Rattle.std.proofs.Common.{◌≡◌, ℕ, ◌+◌, ◌<◌, ◌≤◌, ◌⊎◌, List, [], ◌∷◌, ◌++◌, length, take, drop, get_or, map, refl, ap, sym, ◌∙◌, subst, inl, inr, arith, append_assoc, append-nil, length-append, length-drop, ◌-◌, Bool, true, false, cond, zero, suc}
-use Rattle.std.specs.Prelude.{ℤ, pos, ◌+ℤ◌, ◌≤ℤ◌, ◌<ℤ◌, Option, Some, None, slice_get, IfSome}
+use Rattle.std.proofs.Common.{◌≡◌, ℕ, ◌+◌, ◌<◌, ◌≤◌, List, [], ◌∷◌, ◌++◌, length, take, drop, get_or, map, refl, ap, sym, ◌∙◌, subst, inl, inr, arith, append_assoc, append-nil, length-append, length-drop, ◌-◌, Bool, true, false, cond}
+use Rattle.std.specs.Prelude.{ℤ, pos, ◌+ℤ◌, ◌≤ℤ◌, Option, Some, None, slice_get, IfSome}
 use Rattle.std.specs.List.{flat_map}
 use Rattle.std.proofs.lemmas.Bool.{false≢true}
 use Rattle.std.proofs.lemmas.Int.{ints}
 use Rattle.std.proofs.lemmas.List.{take_all, take_more, take-append-drop}
-use Rattle.cov_base.specs.Sets.{written, set_of, ascending}
+use Rattle.cov_base.specs.Sets.{written, set_of}
 use Rattle.cov_ground.specs.Limits.{most_bins}
 use Rattle.trans_seq.specs.declared.seq.Item.{Item}
 use Rattle.trans_seq.specs.declared.seq.Seq.{Seq}
 use Rattle.trans_seq.specs.declared.fault.ExpandFault.{ExpandFault}
 use Rattle.trans_seq.specs.declared.fault.ExpandFault.TheVariants.{Unbounded, TooLong, TooManyBins, Memory}
-use Rattle.trans_seq.specs.Lists.{is_among, news, all_of, listed, by_lengths, lists_by_all, listed_by_all}
+use Rattle.trans_seq.specs.Lists.{is_among, news, all_of, listed, lists_by_all, listed_by_all}
 use Rattle.trans_seq.specs.Found.{FailsAfter}
 use Rattle.trans_seq.specs.Held.{words, begun, AreSpread}
 use Rattle.trans_seq.specs.Alone.{ended, ended_by, Adds, Exceeds, AreOrdered}

@@ -1,7 +1,6 @@
 use Rattle.std.proofs.Common.{rules, ◌≡◌, ◌+◌, ◌<◌, List, [], ◌∷◌, ◌++◌, length, take, ap, subst, sym, ◌∙◌, arith}
 use Rattle.std.specs.Prelude.{ℤ}
 use Rattle.std.specs.List.{flat_map}
-use Rattle.std.proofs.lemmas.List.{take_all}
 use Rattle.cov_base.specs.Sets.{written}
 use Rattle.trans_seq.specs.Held.{begun}
 use Rattle.trans_seq.specs.Alone.{ended, ended_by, Adds, Exceeds}
@@ -9,7 +8,7 @@ use Rattle.trans_seq.proofs.News.{Word}
 use Rattle.trans_seq.proofs.FoundLemmas.{value_at, none_at, popped}
 use Rattle.trans_seq.proofs.ListingLemmas.{others, split, if_err}
 use Rattle.trans_seq.proofs.HeldLemmas.{on-ok}
-use Rattle.trans_seq.proofs.AloneLemmas.{adds_part, exceeds_part, exceeds_same, ended-item}
+use Rattle.trans_seq.proofs.AloneLemmas.{adds_part, exceeds_part, ended-item}
 use Rattle.trans_seq.proofs.alone.+add_lists.Goals as goal
 use Rattle.trans_seq.proofs.alone.+add_lists.Goals.{add_numbers-in-Some+in_ok-push+in_ok-add_lists, add_numbers-in_default}
 

@@ -1,4 +1,4 @@
-use Rattle.std.proofs.Common.{◌+◌, ◌≤◌, ◌<◌, length, arith}
+use Rattle.std.proofs.Common.{arith}
 use Rattle.trans_seq.proofs.AloneLemmas.{ordered_next, ordered_all}
 use Rattle.trans_seq.proofs.alone.before_tail.Goals as goal
 use Rattle.trans_seq.proofs.alone.before_tail.Goals.{then-has_more, else-has_more}

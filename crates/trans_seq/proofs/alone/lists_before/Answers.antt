@@ -1,6 +1,6 @@
-use Rattle.std.proofs.Common.{rules, ◌≡◌, [], ◌++◌, length, ap, sym, ◌∙◌}
-use Rattle.trans_seq.specs.Held.{words, begun}
-use Rattle.trans_seq.specs.Alone.{ended, Exceeds}
+use Rattle.std.proofs.Common.{◌++◌, ap, ◌∙◌}
+use Rattle.trans_seq.specs.Held.{begun}
+use Rattle.trans_seq.specs.Alone.{ended}
 use Rattle.trans_seq.proofs.AloneLemmas.{begun-all}
 use Rattle.trans_seq.proofs.alone.lists_before.Goals as goal
 

@@ -1,6 +1,6 @@
-use Rattle.std.proofs.Common.{◌≡◌, ◌-◌, [], ◌∷◌, length, take, drop, ap, sym, ◌∙◌, subst, IfSome}
+use Rattle.std.proofs.Common.{◌≡◌, ◌-◌, [], ◌∷◌, length, take, drop, ap, ◌∙◌, subst, IfSome}
 use Rattle.trans_seq.specs.Held.{words}
-use Rattle.trans_seq.specs.Alone.{ended, Exceeds}
+use Rattle.trans_seq.specs.Alone.{ended}
 use Rattle.trans_seq.proofs.ListingLemmas.{if_ok, if_err}
 use Rattle.trans_seq.proofs.AloneLemmas.{words-split, ended-none, exceeds_same}
 use Rattle.trans_seq.proofs.alone.lists_of_items.Goals as goal

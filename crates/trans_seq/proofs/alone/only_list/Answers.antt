@@ -1,4 +1,4 @@
-use Rattle.std.proofs.Common.{◌<◌, length, arith}
+use Rattle.std.proofs.Common.{arith}
 use Rattle.trans_seq.proofs.AloneLemmas.{words_next}
 use Rattle.trans_seq.proofs.alone.only_list.Goals as goal
 

@@ -1,4 +1,4 @@
-use Rattle.std.proofs.Common.{◌≡◌, length, arith}
+use Rattle.std.proofs.Common.{arith}
 use Rattle.trans_seq.proofs.AloneLemmas.{only-number}
 use Rattle.trans_seq.proofs.alone.only_number.Goals as goal
 

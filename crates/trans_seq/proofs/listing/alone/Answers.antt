@@ -1,4 +1,4 @@
-use Rattle.std.proofs.Common.{◌≡◌, ◌≤◌, [], length, ap, sym, ◌∙◌, subst, arith}
+use Rattle.std.proofs.Common.{◌≡◌, [], length, ap, sym, ◌∙◌, subst, arith}
 use Rattle.trans_seq.specs.Lists.{listed}
 use Rattle.trans_seq.specs.Found.{SomeNoList}
 use Rattle.trans_seq.proofs.ListingLemmas.{none_listed}
