@@ -14,7 +14,7 @@ use cov_base::{Int, Memory, ValueSet};
 use std::alloc::Global;
 
 /// Numbers of a set that are gone through without a look at what is known of them.
-const FEW_NUMBERS: u128 = 16;
+const FEW_NUMBERS: u128 = 3;
 
 fn add_once(alloc: Global, item: &Item, times: u32, items: &mut Vec<Item>) -> Result<(), Memory>
     ensures { OnOk result (items.new.items ≡ items.old.items ++ replicate times (item_once item.now)) }
