@@ -136,6 +136,14 @@ pub none_left : (set known left : List (ℤ × ℤ)) → set ≡ [] → left ≡
 unfolding without written
 none_left set known left none is = ap written is ∙ sym (ap (λ s. without (written s) (written known)) none)
 
+kept_all : (xs : List ℤ) → xs ≡ filter (λ v. not (is_in [] v)) xs
+kept_all [] = refl
+kept_all (x ∷ xs) = ap (λ (l : List ℤ). x ∷ l) (kept_all xs)
+
+pub none_known_left : (set known left : List (ℤ × ℤ)) → known ≡ [] → left ≡ set → written left ≡ without (written set) (written known)
+unfolding without written
+none_known_left set known left none is = ap written is ∙ kept_all (written set) ∙ sym (ap (λ k. without (written set) (written k)) none)
+
 pub none_written : written [] ≡ []
 unfolding written
 none_written = refl

@@ -51,6 +51,9 @@ fn unknown_numbers(alloc: Global, set: &ValueSet, known: &ValueSet) -> Result<Va
     if set.intervals().is_empty() {
         return Ok(ValueSet::new(alloc));
     }
+    if known.intervals().is_empty() {
+        return Ok(set.copy(alloc)?);
+    }
     set.minus(alloc, known)
 }
 
