@@ -81,7 +81,8 @@ fn count_one(
 
 /// Counts the bins at these places, whose rules are met, where their guards hold, and puts the numbers of the coverage
 /// bins among them into the row.
-pub(crate) fn count_met(
+#[inline(always)]
+fn count_each(
     entries: &[Entry],
     item: &ItemInfo,
     env: &[Option<Int>],
@@ -99,5 +100,51 @@ pub(crate) fn count_met(
     for place in met {
         count_one(entries, item, env, *place, counts, row)?;
     }
+    Ok(())
+}
+
+/// The same, for bins that differ in kind or guard.
+#[inline(never)]
+fn count_apart(
+    entries: &[Entry],
+    item: &ItemInfo,
+    env: &[Option<Int>],
+    met: &[u32],
+    counts: &mut [u64],
+    row: &mut Vec<u32>,
+) -> Result<(), Memory>
+    requires entries { AreEntries item.now.bins entries.now }
+    requires within { All (λ place. place < length item.now.bins) met.now }
+    requires once { AllPairs (λ a b. a ≢ b) met.now }
+    requires counts { item.now.first_bin + length item.now.bins ≤ length counts.old }
+    requires none { row.old.items ≡ [] }
+    ensures { OnOk result (AllTaken item.now env.now met.now counts.old counts.new row.new.items) }
+{
+    count_each(entries, item, env, met, counts, row)?;
+    Ok(())
+}
+
+/// The same. It is quick where each bin counts for coverage and has no guard.
+#[inline(always)]
+pub(crate) fn count_met(
+    entries: &[Entry],
+    item: &ItemInfo,
+    env: &[Option<Int>],
+    met: &[u32],
+    counts: &mut [u64],
+    row: &mut Vec<u32>,
+) -> Result<(), Memory>
+    requires entries { AreEntries item.now.bins entries.now }
+    requires within { All (λ place. place < length item.now.bins) met.now }
+    requires once { AllPairs (λ a b. a ≢ b) met.now }
+    requires counts { item.now.first_bin + length item.now.bins ≤ length counts.old }
+    requires none { row.old.items ≡ [] }
+    ensures { OnOk result (AllTaken item.now env.now met.now counts.old counts.new row.new.items) }
+{
+    if entries.is_empty() {
+        count_each(entries, item, env, met, counts, row)?;
+        return Ok(());
+    }
+    count_apart(entries, item, env, met, counts, row)?;
     Ok(())
 }

@@ -29,6 +29,7 @@ fn key_in(lookup: &Lookup, value: &Option<Int>) -> Option<u64>
 
 /// Takes a point of bins of values alone over the next value of its trace, which has this key: its bins are counted as the
 /// index has them.
+#[inline(always)]
 fn sample_key(
     plan: &PointPlan,
     lookup: &Lookup,
@@ -63,6 +64,7 @@ fn sample_key(
 }
 
 /// Takes any point over the next value of its trace.
+#[inline(never)]
 fn sample_any(
     plan: &PointPlan,
     item: &ItemInfo,
@@ -99,6 +101,7 @@ fn sample_any(
 }
 
 /// Takes the point over the next value of its trace.
+#[inline(always)]
 fn sample_value(
     plan: &PointPlan,
     item: &ItemInfo,
@@ -138,6 +141,7 @@ impl PointPlan {
     /// the bins that are hit, and puts into `row` the numbers of those among its coverage bins. `counts` are those of the
     /// whole design. A sample takes memory only where more bins are met, or more windows are open, than at each sample
     /// before. After want of memory the state and the counts are of no use.
+    #[inline(always)]
     pub fn sample(
         &self,
         item: &ItemInfo,

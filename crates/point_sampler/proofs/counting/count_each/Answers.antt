@@ -3,7 +3,7 @@ use Rattle.std.specs.Prelude.{Contains}
 use Rattle.std.proofs.lemmas.List.{take_more, get_or-take, length-take-le, get_or_default}
 use Rattle.point_sampler.specs.Met.{AllTaken}
 use Rattle.point_sampler.proofs.Taking.{all_taken_more}
-use Rattle.point_sampler.proofs.counting.count_met.Goals as goal
+use Rattle.point_sampler.proofs.counting.count_each.Goals as goal
 
 pub loop-place-preserved : goal.loop-place-preserved
 loop-place-preserved c =

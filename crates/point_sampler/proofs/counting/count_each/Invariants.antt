@@ -1,6 +1,6 @@
 use Rattle.std.proofs.Common.{◌≡◌, length, take}
 use Rattle.point_sampler.specs.Met.{AllTaken}
-use Rattle.point_sampler.proofs.counting.count_met.Given as goal
+use Rattle.point_sampler.proofs.counting.count_each.Given as goal
 
 abbrev pub invariant-loop-place : goal.invariant-loop-place
 invariant-loop-place l = record {
