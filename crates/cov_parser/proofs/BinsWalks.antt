@@ -35,7 +35,7 @@ use Rattle.cov_grammar.proofs.Steps.{Leads, leads_self, then, here_reads, right,
 use Rattle.cov_grammar.proofs.Steps as walk
 use Rattle.cov_grammar.proofs.ExprLaws.{expr_firsts, whole_expr_lawful, expr_lawful}
 use Rattle.cov_grammar.proofs.BinsLaws.{no_comma, ident_lawful, guard_lawful, range_end_lawful, span_lawful, elem_lawful, elems_lawful, repetition_lawful, step_lawful, seq_lawful, keep_lawful, option_value_lawful, bins_word_lawful, bins_head_lawful, size_lawful, seqs_lawful, values_lawful, default_right_lawful, right_lawful, sized_head_lawful, bins_rest_lawful}
-use Rattle.cov_parser.proofs.Chains.{Chain, chain_fails, chain_breaks, chain_ends, no_part, part}
+use Rattle.cov_parser.proofs.Chains.{no_part, part}
 
 module _ (text : List ℕ) (ts : List Marked) where
   abbrev pub w : (k : Kind) → Lawful ts (λ _. one ts (k ∷ []))
@@ -97,22 +97,6 @@ module _ (text : List ℕ) (ts : List Marked) where
         Leads (λ r. behind (both pair (range_end text ts r) (ahead (word ts Colon) (range_end text ts r))) (word ts CloseSquare)) d m (elem text ts s) d p (λ x. Span x.0 x.1 k.at)
     unfolding span
     span_leads r h = walk.step _ (lawful_one ts squares) span_rest_lawful refl (spans h) r
-
-    -- elements
-    abbrev pub Elems : Room → Place → List Elem → Place → Type 0
-    Elems d o xs p = Chain (elem_lawful text ts s) (Comma ∷ []) (no_comma s) d o xs p
-
-    pub elems_fails : {d : Room} {p : Place} {e : Stop} → Fails (elem text ts s) d p e → Fails (elems text ts s) d p e
-    unfolding elems
-    elems_fails f = chain_fails (elem_lawful text ts s) (Comma ∷ []) (no_comma s) f
-
-    pub elems_breaks : {d : Room} {o : Place} (xs : List Elem) {p : Place} {t : Marked} {q : Place} {e : Stop} → Elems d o xs p → Reads (λ _. word ts Comma) d p t q → Fails (elem text ts s) d q e → Fails (elems text ts s) d o e
-    unfolding elems
-    elems_breaks xs l r f = chain_breaks (elem_lawful text ts s) (Comma ∷ []) (no_comma s) xs l r f
-
-    pub elems_ends : {d : Room} {o : Place} (xs : List Elem) {p : Place} → Elems d o xs p → (In ts p.at (Comma ∷ []) → ⊥) → Reads (elems text ts s) d o xs p
-    unfolding elems
-    elems_ends xs l n = chain_ends (elem_lawful text ts s) (Comma ∷ []) (no_comma s) xs l n
 
   -- "with" "(" expr ")", and a guard
   pub keep_reads : {d : Room} {p : Place} {k : Marked} {m : Place} {t : Expr} {q : Place} → Reads (λ _. word ts WithWord) d p k m → Reads (λ r. ahead (word ts OpenParen) (behind (expr text ts r) (word ts CloseParen))) d m t q → Reads (keep text ts) d p t q
@@ -228,22 +212,6 @@ module _ (text : List ℕ) (ts : List Marked) where
   pub seq_leads : (d : Room) (p : Place) → Leads (λ r. ahead (word ts OpenParen) (behind (fold snoc (map_to (λ x. x ∷ []) (step text ts r)) (ahead (word ts FatArrow) (step text ts r))) (word ts CloseParen))) d p (seq text ts) d p (λ x. x)
   unfolding seq
   seq_leads d p = leads_self (seq text ts) d p
-
-  -- sequences
-  abbrev pub Seqs : Room → Place → List (List Step) → Place → Type 0
-  Seqs d o xs p = Chain (seq_lawful text ts) (Comma ∷ []) refl d o xs p
-
-  pub seqs_fails : {d : Room} {p : Place} {e : Stop} → Fails (seq text ts) d p e → Fails (seqs text ts) d p e
-  unfolding seqs
-  seqs_fails f = chain_fails (seq_lawful text ts) (Comma ∷ []) refl f
-
-  pub seqs_breaks : {d : Room} {o : Place} (xs : List (List Step)) {p : Place} {t : Marked} {q : Place} {e : Stop} → Seqs d o xs p → Reads (λ _. word ts Comma) d p t q → Fails (seq text ts) d q e → Fails (seqs text ts) d o e
-  unfolding seqs
-  seqs_breaks xs l r f = chain_breaks (seq_lawful text ts) (Comma ∷ []) refl xs l r f
-
-  pub seqs_ends : {d : Room} {o : Place} (xs : List (List Step)) {p : Place} → Seqs d o xs p → (In ts p.at (Comma ∷ []) → ⊥) → Reads (seqs text ts) d o xs p
-  unfolding seqs
-  seqs_ends xs l n = chain_ends (seq_lawful text ts) (Comma ∷ []) refl xs l n
 
   -- an option
   quoted_lawful : Lawful ts (λ _. map_to (λ (t : Marked). Text (slice_range text (t.at + 1) (t.at + t.len - 1))) (word ts Quoted))

@@ -1,5 +1,5 @@
 -- Lists with separators, and parts that begin with a word of their own.
-use Rattle.std.proofs.Common.{◌≡◌, ◌+◌, ◌-◌, ◌<◌, List, [], ◌∷◌, ◌++◌, Some, None, true, length, refl, subst, arith, append-nil}
+use Rattle.std.proofs.Common.{◌≡◌, ◌+◌, ◌-◌, ◌<◌, List, [], ◌∷◌, ◌++◌, Some, None, Result, Ok, Err, true, length, refl, sym, subst, arith, append-nil}
 use Rattle.cov_lexer.specs.declared.kind.Kind.{Kind}
 use Rattle.cov_grammar.specs.declared.marked.Marked.{Marked}
 use Rattle.cov_grammar.specs.declared.place.Place.{Place}
@@ -7,12 +7,19 @@ use Rattle.cov_grammar.specs.declared.place.Room.{Room}
 use Rattle.cov_grammar.specs.declared.place.Stop.{Stop}
 use Rattle.cov_grammar.specs.declared.place.Stop.TheVariants.{Memory, Syntax, TooDeep}
 use Rattle.cov_grammar.specs.Rule.{Rule, In, one, both, fold, many, map_to, maybe}
-use Rattle.cov_grammar.specs.Parses.{Reads, Fails}
+use Rattle.cov_grammar.specs.Parses.{Reads, Fails, Parses}
 use Rattle.cov_grammar.specs.Expressions.{snoc}
 use Rattle.cov_grammar.proofs.Sets.{disjoint, when, when-nothing}
 use Rattle.cov_grammar.proofs.Lawful.{Lawful, facts_of, reads_only, lawful_one, lawful_map, lawful_both}
 use Rattle.cov_grammar.proofs.Compose.{map_reads, map_fails}
 use Rattle.cov_grammar.proofs.Steps.{Leads, leads_self, step, without, maybe_step, fold_starts, fold_fails, item_read, item_fails, no_item, one_next, item_falls}
+
+-- what follows in a list leads to all that is put to those before
+abbrev pub More : {T : Type 0} (ts : List Marked) (A : Room → Rule T) (seps : List Kind) → Room → Place → List T → List T → Place → Type 0
+More ts A seps d o before xs p = Leads (λ r. many snoc (both (λ _ b. b) (one ts seps) (A r)) xs) d p (λ r. many snoc (both (λ _ b. b) (one ts seps) (A r)) before) d o (λ x. x)
+
+of_kinds : (ts : List Marked) {ks ls : List Kind} → ks ≡ ls → {d : Room} {p : Place} {t : Marked} {q : Place} → Reads (λ _. one ts ks) d p t q → Reads (λ _. one ts ls) d p t q
+of_kinds ts e {d = d} {p = p} {t = t} {q = q} r = subst (λ ks. Reads (λ _. one ts ks) d p t q) e r
 
 -- A { separator A }
 module _ {T : Type 0} {ts : List Marked} {A : Room → Rule T} (la : Lawful ts A) (seps : List Kind) (apart : disjoint la.cont seps ≡ true) where
@@ -37,18 +44,34 @@ module _ {T : Type 0} {ts : List Marked} {A : Room → Rule T} (la : Lawful ts A
   unfolding item_lawful
   chain_fails f = fold_fails snoc (lawful_map la _) item_lawful refl first_apart again (map_fails _ la f)
 
-  pub chain_next : {d : Room} {o : Place} (xs : List T) {p : Place} {t : Marked} {q : Place} {x : T} {k : Place} → Chain d o xs p → Reads (λ _. one ts seps) d p t q → Reads A d q x k → Chain d o (snoc xs x) k
-  chain_next xs l r n = item_read snoc (λ _ b. b) (lawful_one ts seps) la refl refl again xs l r n
+  pub more_next : {d : Room} {o : Place} (before xs : List T) {ks : List Kind} (e : ks ≡ seps) {p : Place} {t : Marked} {q : Place} {x : T} {k : Place} → More ts A seps d o before xs p →
+      Reads (λ _. one ts ks) d p t q → Reads A d q x k → More ts A seps d o before (snoc xs x) k
+  more_next before xs e l r n = item_read snoc (λ _ b. b) (lawful_one ts seps) la refl refl again xs l (of_kinds ts e r) n
 
-  pub chain_breaks : {d : Room} {o : Place} (xs : List T) {p : Place} {t : Marked} {q : Place} {s : Stop} → Chain d o xs p → Reads (λ _. one ts seps) d p t q → Fails A d q s →
-      Fails (λ r. fold snoc (map_to (λ x. x ∷ []) (A r)) (both (λ _ b. b) (one ts seps) (A r))) d o s
-  chain_breaks xs l r n = item_fails snoc (λ _ b. b) (lawful_one ts seps) la refl refl again xs l r (let e = (one_next ts seps r).0 in omega arith) n
+  pub more_breaks : {d : Room} {o : Place} (before xs : List T) {ks : List Kind} (e : ks ≡ seps) {p : Place} {t : Marked} {q : Place} {s : Stop} → More ts A seps d o before xs p →
+      Reads (λ _. one ts ks) d p t q → Fails A d q s → Fails (λ r. many snoc (both (λ _ b. b) (one ts seps) (A r)) before) d o s
+  more_breaks before xs {ks = ks} e l r n = item_fails snoc (λ _ b. b) (lawful_one ts seps) la refl refl again xs l (of_kinds ts e r) (let e = (one_next ts ks r).0 in omega arith) n
 
-  pub chain_ends : {d : Room} {o : Place} (xs : List T) {p : Place} → Chain d o xs p → (In ts p.at seps → ⊥) → Reads (λ r. fold snoc (map_to (λ x. x ∷ []) (A r)) (both (λ _ b. b) (one ts seps) (A r))) d o xs p
-  chain_ends xs {p = p} l n = no_item snoc (λ _ b. b) (lawful_one ts seps) la refl refl again xs l (λ h. n (subst (λ ks. In ts p.at ks) (append-nil seps) h))
+  pub more_ends : {d : Room} {o : Place} (before xs : List T) {ks : List Kind} (e : ks ≡ seps) {p : Place} → More ts A seps d o before xs p → (In ts p.at ks → ⊥) →
+      Reads (λ r. many snoc (both (λ _ b. b) (one ts seps) (A r)) before) d o xs p
+  more_ends before xs e {p = p} l n = no_item snoc (λ _ b. b) (lawful_one ts seps) la refl refl again xs l (λ h. n (subst (λ ks. In ts p.at ks) (sym e) (subst (λ ks. In ts p.at ks) (append-nil seps) h)))
 
-  pub chain_falls : {d : Room} {p : Place} {t : Marked} {q : Place} {x : T} {k : Place} → Reads (λ _. one ts seps) d p t q → Reads A d q x k → length ts - k.at < length ts - p.at
-  chain_falls r n = item_falls la seps r refl n
+  pub more_falls : {ks : List Kind} (e : ks ≡ seps) {d : Room} {p : Place} {t : Marked} {q : Place} {x : T} {k : Place} → Reads (λ _. one ts ks) d p t q → Reads A d q x k → length ts - k.at < length ts - p.at
+  more_falls e r n = item_falls la seps (of_kinds ts e r) refl n
+
+-- what a rule without room reads is read with any room
+fails_always : {T : Type 0} {A : Rule T} {d : Room} {p : Place} (s : Stop) → Fails (λ _. A) d p s → (r : Room) → Fails (λ _. A) r p s
+fails_always Memory f r = record { cause = tt }
+fails_always (Syntax k) f r = record { cause = record { begins = f.cause.begins; reach = f.cause.reach; none = f.cause.none } }
+fails_always (TooDeep k) f r = record { cause = record { begins = f.cause.begins; more = f.cause.more; deeper = f.cause.deeper; reach = f.cause.reach } }
+
+always : {T : Type 0} (A : Rule T) (d : Room) (p : Place) (x : Result (T × Place) Stop) → Parses (λ _. A) d p x → (r : Room) → Parses (λ _. A) r p x
+always A d p (Ok x) h r = record { derives = h.derives; reach = h.reach }
+always A d p (Err s) h r = fails_always s h r
+
+pub more_always : {T : Type 0} (ts : List Marked) (A : Rule T) (seps : List Kind) {before first : List T} → before ≡ first → (d : Room) (p : Place) (x : Result (List T × Place) Stop) →
+    Parses (λ _. many snoc (both (λ _ b. b) (one ts seps) A) before) d p x → (r : Room) → Parses (λ _. many snoc (both (λ _ b. b) (one ts seps) A) first) r p x
+more_always {T = T} ts A seps {before = before} e d p x h r = subst (λ (l : List T). Parses (λ _. many snoc (both (λ _ b. b) (one ts seps) A) l) r p x) e (always (many snoc (both (λ _ b. b) (one ts seps) A) before) d p x h r)
 
 -- a part that begins with a word of its own, or nothing
 module _ {T : Type 0} {ts : List Marked} {B : Room → Rule T} (ks : List Kind) (lb : Lawful ts B) where

@@ -33,7 +33,6 @@ use Rattle.cov_grammar.proofs.BinsLaws.{ident_lawful}
 use Rattle.cov_grammar.proofs.GroupLaws.{option_words, item_firsts, label_lawful, member_lawful}
 use Rattle.cov_grammar.proofs.DesignLaws.{append, directions, type_text_lawful, value_lawful, formal_rest_lawful, formal_lawful, formal_list_lawful, formal_parens_lawful, formals_lawful, edge_lawful, event_lawful, argument_type_lawful, argument_rest_lawful, argument_lawful, argument_list_lawful, argument_parens_lawful, sample_lawful, function_lawful, sampled_lawful, event_or_sampled_lawful, sampling_lawful, members_lawful, group_end_lawful, group_head_lawful, group_body_lawful, group_rest_lawful}
 use Rattle.cov_parser.proofs.DesignWalks.{Members}
-use Rattle.cov_parser.proofs.Chains.{Chain, chain_fails, chain_breaks, chain_ends}
 
 -- a list of kinds without its first
 or_rest : (a b : Bool) → (a || b) ≡ true → ((a || false) ≡ true → ⊥) → b ≡ true
@@ -315,24 +314,6 @@ module _ (text : List ℕ) (ts : List Marked) where
   abbrev edge_list_lawful : Lawful ts edge_list
   edge_list_lawful = lawful_fold snoc (lawful_map (edge_lawful text ts) single) more_edge_lawful refl refl refl
 
-  abbrev pub Edges : Room → Place → List EdgeText → Place → Type 0
-  Edges d o es p = Leads (λ e. many snoc (ahead (one ts between) (edge text ts e)) es) d p edge_list d o (λ x. x)
-
-  pub no_edge : {d : Room} {p : Place} {e : Stop} → Fails (edge text ts) d p e → Fails edge_list d p e
-  no_edge f = fold_fails snoc (lawful_map (edge_lawful text ts) single) more_edge_lawful refl refl refl (map_fails single (edge_lawful text ts) f)
-
-  pub first_edge : {d : Room} {p : Place} {x : EdgeText} {q : Place} → Reads (edge text ts) d p x q → Edges d p (x ∷ []) q
-  first_edge r = fold_starts snoc (lawful_map (edge_lawful text ts) single) more_edge_lawful refl refl refl (map_reads single (edge_lawful text ts) r)
-
-  pub edge_fails : {d : Room} {o : Place} (es : List EdgeText) {p : Place} {t : Marked} {q : Place} {e : Stop} → Edges d o es p → Reads (λ _. one ts between) d p t q → Fails (edge text ts) d q e → Fails edge_list d o e
-  edge_fails es l r f = item_fails snoc (λ _ b. b) (lawful_one ts between) (edge_lawful text ts) refl refl refl es l r (let n = (one_next ts between r).0 in omega arith) f
-
-  pub edge_read : {d : Room} {o : Place} (es : List EdgeText) {p : Place} {t : Marked} {q : Place} {x : EdgeText} {k : Place} → Edges d o es p → Reads (λ _. one ts between) d p t q → Reads (edge text ts) d q x k → Edges d o (es ++ x ∷ []) k
-  edge_read es l r s = item_read snoc (λ _ b. b) (lawful_one ts between) (edge_lawful text ts) refl refl refl es l r s
-
-  pub edges_end : {d : Room} {o : Place} (es : List EdgeText) {p : Place} → Edges d o es p → (In ts p.at between → ⊥) → Reads edge_list d o es p
-  edges_end es l n = no_item snoc (λ _ b. b) (lawful_one ts between) (edge_lawful text ts) refl refl refl es l n
-
   -- "(" edge { ( "or" | "," ) edge } ")"
   abbrev closed_lawful : Lawful ts (λ e. behind (edge_list e) (word ts CloseParen))
   closed_lawful = lawful_both _ edge_list_lawful (w CloseParen) refl
@@ -380,22 +361,6 @@ module _ (text : List ℕ) (ts : List Marked) where
       Leads (λ _. ident text ts) d m (argument text ts) d p (argument_of (offset ts p.at) x)
   argument_typed {p = p} r s = step (argument_of (offset ts p.at)) (argument_type_lawful text ts) (ident_lawful text ts) refl argument_starts
       (both_reads _ (lawful_maybe (w InputWord) refl) (type_text_lawful text ts) refl r s)
-
-  -- sarg { "," sarg }
-  abbrev pub Arguments : Room → Place → List Formal → Place → Type 0
-  Arguments d o xs p = Chain (argument_lawful text ts) (Comma ∷ []) refl d o xs p
-
-  pub no_argument : {d : Room} {p : Place} {e : Stop} → Fails (argument text ts) d p e → Fails (argument_list text ts) d p e
-  unfolding argument_list
-  no_argument f = chain_fails (argument_lawful text ts) (Comma ∷ []) refl f
-
-  pub argument_fails : {d : Room} {o : Place} (xs : List Formal) {p : Place} {t : Marked} {q : Place} {e : Stop} → Arguments d o xs p → Reads (λ _. word ts Comma) d p t q → Fails (argument text ts) d q e → Fails (argument_list text ts) d o e
-  unfolding argument_list
-  argument_fails xs l r f = chain_breaks (argument_lawful text ts) (Comma ∷ []) refl xs l r f
-
-  pub arguments_end : {d : Room} {o : Place} (xs : List Formal) {p : Place} → Arguments d o xs p → (In ts p.at (Comma ∷ []) → ⊥) → Reads (argument_list text ts) d o xs p
-  unfolding argument_list
-  arguments_end xs l n = chain_ends (argument_lawful text ts) (Comma ∷ []) refl xs l n
 
   -- "(" [ sarg { "," sarg } ] ")"
   abbrev pub argument_end : Room → Rule (Option (List Formal))

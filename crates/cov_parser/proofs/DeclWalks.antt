@@ -25,7 +25,7 @@ use Rattle.cov_grammar.proofs.Steps.{Leads, leads_self, then, both_opens, one_he
 use Rattle.cov_grammar.proofs.ExprLaws.{expr_firsts, expr_lawful}
 use Rattle.cov_grammar.proofs.BinsLaws.{ident_lawful}
 use Rattle.cov_grammar.proofs.DesignLaws.{vector_lawful, built_in_lawful, value_lawful, enum_name_lawful, enum_names_lawful, enum_body_lawful, enum_rest_lawful, enum_decl_lawful, more_name_lawful, built_in_decl_lawful, expr_list_lawful, arguments_lawful, instance_rest_lawful, variables_rest_lawful, two_names_lawful, named_rest_lawful, named_decl_lawful, group_lawful}
-use Rattle.cov_parser.proofs.Chains.{Chain, chain_first, chain_fails, chain_breaks, chain_ends}
+use Rattle.cov_parser.proofs.Chains.{chain_first, chain_fails}
 
 -- where a part stops at its beginning, it is left out
 pub maybe_stuck : {T : Type 0} {ts : List Marked} {A : Room → Rule T} (la : Lawful ts A) {d : Room} {p : Place} → Stops A d p p.at → Reads (λ e. maybe (A e)) d p None p
@@ -73,40 +73,9 @@ module _ (text : List ℕ) (ts : List Marked) where
   unfolding enum_name
   constant_values {d = d} {p = p} r = step pair (ident_lawful text ts) (value_lawful text ts) refl (leads_self (enum_name text ts) d p) r
 
-  -- ename { "," ename }
-  abbrev pub Constants : Room → Place → List (List ℕ × Option Expr) → Place → Type 0
-  Constants d o xs p = Chain (enum_name_lawful text ts) (Comma ∷ []) refl d o xs p
-
-  pub constants_fail : {d : Room} {p : Place} {e : Stop} → Fails (enum_name text ts) d p e → Fails (enum_names text ts) d p e
-  unfolding enum_names
-  constants_fail f = chain_fails (enum_name_lawful text ts) (Comma ∷ []) refl f
-
-  pub constants_break : {d : Room} {o : Place} (xs : List (List ℕ × Option Expr)) {p : Place} {t : Marked} {q : Place} {e : Stop} → Constants d o xs p → Reads (λ _. word ts Comma) d p t q → Fails (enum_name text ts) d q e → Fails (enum_names text ts) d o e
-  unfolding enum_names
-  constants_break xs l r f = chain_breaks (enum_name_lawful text ts) (Comma ∷ []) refl xs l r f
-
-  pub constants_end : {d : Room} {o : Place} (xs : List (List ℕ × Option Expr)) {p : Place} → Constants d o xs p → (In ts p.at (Comma ∷ []) → ⊥) → Reads (enum_names text ts) d o xs p
-  unfolding enum_names
-  constants_end xs l n = chain_ends (enum_name_lawful text ts) (Comma ∷ []) refl xs l n
-
   -- expr { "," expr }
   abbrev pub expr_list : Room → Rule (List Expr)
   expr_list r = list_in text ts (expr text ts r)
-
-  abbrev pub Exprs : Room → Place → List Expr → Place → Type 0
-  Exprs d o xs p = Chain (expr_lawful text ts) (Comma ∷ []) refl d o xs p
-
-  pub exprs_fail : {d : Room} {p : Place} {e : Stop} → Fails (expr text ts) d p e → Fails expr_list d p e
-  unfolding list_in
-  exprs_fail f = chain_fails (expr_lawful text ts) (Comma ∷ []) refl f
-
-  pub exprs_break : {d : Room} {o : Place} (xs : List Expr) {p : Place} {t : Marked} {q : Place} {e : Stop} → Exprs d o xs p → Reads (λ _. word ts Comma) d p t q → Fails (expr text ts) d q e → Fails expr_list d o e
-  unfolding list_in
-  exprs_break xs l r f = chain_breaks (expr_lawful text ts) (Comma ∷ []) refl xs l r f
-
-  pub exprs_end : {d : Room} {o : Place} (xs : List Expr) {p : Place} → Exprs d o xs p → (In ts p.at (Comma ∷ []) → ⊥) → Reads expr_list d o xs p
-  unfolding list_in
-  exprs_end xs l n = chain_ends (expr_lawful text ts) (Comma ∷ []) refl xs l n
 
   -- [ "(" [ expr { "," expr } ] ")" ]
   abbrev pub maybe_arguments : Room → Rule (Option (Option (List Expr)))
@@ -222,21 +191,6 @@ module _ (text : List ℕ) (ts : List Marked) where
   -- { "," ident } behind the first names
   abbrev pub more : List Marked → Rule (List Marked)
   more xs = many snoc (ahead (word ts Comma) (word ts Ident)) xs
-
-  abbrev pub MoreNames : List Marked → Room → Place → List Marked → Place → Type 0
-  MoreNames first d o xs p = Leads (λ _. more xs) d p (λ _. more first) d o (λ x. x)
-
-  pub more_start : (first : List Marked) {d : Room} {p : Place} → MoreNames first d p first p
-  more_start first {d = d} {p = p} = leads_self (λ _. more first) d p
-
-  pub more_read : (first : List Marked) {d : Room} {o : Place} (xs : List Marked) {p : Place} {t : Marked} {q : Place} {x : Marked} {k : Place} → MoreNames first d o xs p → Reads (λ _. word ts Comma) d p t q → Reads (λ _. word ts Ident) d q x k → MoreNames first d o (xs ++ x ∷ []) k
-  more_read first xs l r s = item_read snoc (λ _ b. b) (w Comma) (w Ident) refl refl refl xs l r s
-
-  pub more_fails : (first : List Marked) {d : Room} {o : Place} (xs : List Marked) {p : Place} {t : Marked} {q : Place} {e : Stop} → MoreNames first d o xs p → Reads (λ _. word ts Comma) d p t q → Fails (λ _. word ts Ident) d q e → Fails (λ _. more first) d o e
-  more_fails first xs l r f = item_fails snoc (λ _ b. b) (w Comma) (w Ident) refl refl refl xs l r (let n = (one_next ts (Comma ∷ []) r).0 in omega arith) f
-
-  pub more_end : (first : List Marked) {d : Room} {o : Place} (xs : List Marked) {p : Place} → MoreNames first d o xs p → (In ts p.at (Comma ∷ []) → ⊥) → Reads (λ _. more first) d o xs p
-  more_end first xs l n = no_item snoc (λ _ b. b) (w Comma) (w Ident) refl refl refl xs l n
 
   -- vardecl, where the type is no name
   abbrev names : Rule (List Marked)

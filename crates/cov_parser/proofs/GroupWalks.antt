@@ -21,10 +21,11 @@ use Rattle.cov_grammar.specs.Groups.{Entry, Setting, Counting, put, nothing_put,
 use Rattle.cov_grammar.proofs.Sets.{disjoint, split, In_apart}
 use Rattle.cov_grammar.proofs.Lawful.{Lawful, facts_of, lawful_word, lawful_one, lawful_map, lawful_maybe, lawful_many, lawful_both}
 use Rattle.cov_grammar.proofs.Compose.{many_stuck, map_reads, map_fails, both_reads, both_fails, both_then_fails}
-use Rattle.cov_grammar.proofs.Steps.{Leads, leads_self, no_start, step, ends, left, right, many_next, many_ends, many_breaks, one_fails, fold_starts, fold_fails, item_read, item_fails, no_item, one_next, reads_more, reads_inside}
+use Rattle.cov_grammar.proofs.Steps.{Leads, leads_self, no_start, step, ends, left, right, map_leads, many_next, many_ends, many_breaks, one_fails, fold_starts, fold_fails, item_read, item_fails, no_item, one_next, reads_more, reads_inside}
 use Rattle.cov_grammar.proofs.ExprLaws.{expr_lawful}
 use Rattle.cov_grammar.proofs.BinsLaws.{ident_lawful, guard_lawful, bins_lawful, optset_lawful}
 use Rattle.cov_grammar.proofs.GroupLaws.{option_words, sel_lawful, cross_bins_lawful, point_entry_lawful, cross_entry_lawful, point_body_lawful, cross_body_lawful, crossed_lawful}
+use Rattle.cov_parser.specs.Bodies.{BesideOptions}
 
 abbrev Setting' : (A : Type 0) → OptDecl → Entry A
 Setting' A o = Setting o
@@ -148,15 +149,6 @@ module _ (text : List ℕ) (ts : List Marked) where
   unfolding crossed
   two_names r s u = fold_starts snoc two_lawful more_lawful refl refl refl (both_reads two_of (ident_lawful text ts) more_lawful refl r (both_reads _ (w Comma) (ident_lawful text ts) refl s u))
 
-  pub name_read : {d : Room} {o : Place} (names : List (List ℕ)) {p : Place} {t : Marked} {q : Place} {x : List ℕ} {k : Place} → Names d o names p → Reads (λ _. word ts Comma) d p t q → Reads (λ _. ident text ts) d q x k → Names d o (names ++ x ∷ []) k
-  name_read names l r s = item_read snoc (λ _ b. b) (w Comma) (ident_lawful text ts) refl refl refl names l r s
-
-  pub name_fails : {d : Room} {o : Place} (names : List (List ℕ)) {p : Place} {t : Marked} {q : Place} {e : Stop} → Names d o names p → Reads (λ _. word ts Comma) d p t q → Fails (λ _. ident text ts) d q e → Fails (λ _. crossed text ts) d o e
-  name_fails names l r f = item_fails snoc (λ _ b. b) (w Comma) (ident_lawful text ts) refl refl refl names l r (let n = (one_next ts (Comma ∷ []) r).0 in omega arith) f
-
-  pub names_end : {d : Room} {o : Place} (names : List (List ℕ)) {p : Place} → Names d o names p → (In ts p.at (Comma ∷ []) → ⊥) → Reads (λ _. crossed text ts) d o names p
-  names_end names l n = no_item snoc (λ _ b. b) (w Comma) (ident_lawful text ts) refl refl refl names l n
-
   -- cbins = word ident "=" sel [ guard ] ";"
   abbrev pub cross_rest : Room → Rule ((List ℕ × Sel) × Option Expr)
   cross_rest r = behind (both pair (both pair (ident text ts) (ahead (word ts Assign) (sel text ts r))) (maybe_guard r)) (word ts Semi)
@@ -209,33 +201,12 @@ module _ (text : List ℕ) (ts : List Marked) where
   entry X r = either (map_to Setting (optset text ts r)) (map_to Counting (X r))
 
   -- ";" | "{" { optset | X } "}"
-  module _ {A : Type 0} (X : Room → Rule A) (lx : Lawful ts X) (le : Lawful ts (entry X)) (filled : le.null ≡ false) (again : disjoint le.cont le.first ≡ true)
-      (shut : disjoint (le.cont ++ le.first) (CloseBrace ∷ []) ≡ true) where
+  module _ {A : Type 0} (X : Room → Rule A) where
     abbrev pub whole_body : Room → Rule (List OptDecl × List A)
     whole_body r = body text ts (X r) r
 
-    abbrev entries_lawful : Lawful ts (λ r. many put (entry X r) nothing_put)
-    entries_lawful = lawful_many le put filled again nothing_put
-
     abbrev pub braces : Room → Rule (List OptDecl × List A)
     braces r = behind (many put (entry X r) nothing_put) (word ts CloseBrace)
-
-    abbrev braces_lawful : Lawful ts braces
-    braces_lawful = lawful_both _ entries_lawful (w CloseBrace) shut
-
-    abbrev braced_lawful : Lawful ts (λ r. ahead (word ts OpenBrace) (braces r))
-    braced_lawful = lawful_both _ (w OpenBrace) braces_lawful refl
-
-    pub body_semi : {d : Room} {p : Place} {t : Marked} {q : Place} → In ts p.at (Semi ∷ []) → Reads (λ _. word ts Semi) d p t q → Reads whole_body d p ([], []) q
-    unfolding body
-    body_semi {d = d} {p = p} h r = (left (lawful_map (w Semi) _) braced_lawful refl refl (leads_self whole_body d p) h).reads (map_reads _ (w Semi) r)
-
-    no_semi : {d : Room} {p : Place} → (In ts p.at (Semi ∷ []) → ⊥) → Leads (λ r. ahead (word ts OpenBrace) (braces r)) d p whole_body d p (λ x. x)
-    unfolding body
-    no_semi {d = d} {p = p} n = right (lawful_map (w Semi) (λ _. nothing_put)) braced_lawful refl refl (leads_self whole_body d p) refl n
-
-    pub no_body : {d : Room} {p : Place} {e : Stop} → (In ts p.at (Semi ∷ []) → ⊥) → Fails (λ _. word ts OpenBrace) d p e → Fails whole_body d p e
-    no_body n f = ends _ (w OpenBrace) braces_lawful refl (no_semi n) f
 
     -- in the braces, with these entries read
     pub record InBody (d : Room) (o : Place) (lists : List OptDecl × List A) (p : Place) : Type 0 where
@@ -243,59 +214,64 @@ module _ (text : List ℕ) (ts : List Marked) where
       pub outer : Leads braces d opened whole_body d o (λ x. x)
       pub entries : Leads (λ r. many put (entry X r) lists) d p (λ r. many put (entry X r) nothing_put) d opened (λ x. x)
 
-    pub body_opens : {d : Room} {p : Place} {t : Marked} {q : Place} → (In ts p.at (Semi ∷ []) → ⊥) → Reads (λ _. word ts OpenBrace) d p t q → InBody d p ([], []) q
+  module _ {A : Type 0} {X : Room → Rule A} (b : BesideOptions text ts X) where
+    abbrev entries_lawful : Lawful ts (λ r. many put (entry X r) nothing_put)
+    entries_lawful = lawful_many b.entries put b.filled b.again nothing_put
+
+    abbrev braces_lawful : Lawful ts (braces X)
+    braces_lawful = lawful_both _ entries_lawful (w CloseBrace) b.shut
+
+    abbrev braced_lawful : Lawful ts (λ r. ahead (word ts OpenBrace) (braces X r))
+    braced_lawful = lawful_both _ (w OpenBrace) braces_lawful refl
+
+    pub body_semi : {d : Room} {p : Place} {t : Marked} {q : Place} → In ts p.at (Semi ∷ []) → Reads (λ _. word ts Semi) d p t q → Reads (whole_body X) d p ([], []) q
+    unfolding body
+    body_semi {d = d} {p = p} h r = (left (lawful_map (w Semi) _) braced_lawful refl refl (leads_self (whole_body X) d p) h).reads (map_reads _ (w Semi) r)
+
+    no_semi : {d : Room} {p : Place} → (In ts p.at (Semi ∷ []) → ⊥) → Leads (λ r. ahead (word ts OpenBrace) (braces X r)) d p (whole_body X) d p (λ x. x)
+    unfolding body
+    no_semi {d = d} {p = p} n = right (lawful_map (w Semi) (λ _. nothing_put)) braced_lawful refl refl (leads_self (whole_body X) d p) refl n
+
+    pub no_body : {d : Room} {p : Place} {e : Stop} → (In ts p.at (Semi ∷ []) → ⊥) → Fails (λ _. word ts OpenBrace) d p e → Fails (whole_body X) d p e
+    no_body n f = ends _ (w OpenBrace) braces_lawful refl (no_semi n) f
+
+    pub body_opens : {d : Room} {p : Place} {t : Marked} {q : Place} → (In ts p.at (Semi ∷ []) → ⊥) → Reads (λ _. word ts OpenBrace) d p t q → InBody X d p ([], []) q
     body_opens {d = d} {q = q} n r = record {
       opened = q;
       outer = step _ (w OpenBrace) braces_lawful refl (no_semi n) r;
       entries = leads_self (λ r. many put (entry X r) nothing_put) d q;
     }
 
-    entry_read : {d : Room} {o : Place} (lists : List OptDecl × List A) {p : Place} {x : Entry A} {q : Place} → InBody d o lists p → Reads (entry X) d p x q → InBody d o (put lists x) q
-    entry_read lists b r = record { opened = b.opened; outer = b.outer; entries = many_next put le filled again lists b.entries r }
+    pub entry_read : {d : Room} {o : Place} (lists more : List OptDecl × List A) {p : Place} {x : Entry A} {q : Place} → InBody X d o lists p → Reads (entry X) d p x q → more ≡ put lists x → InBody X d o more q
+    entry_read {d = d} {o = o} lists more {q = q} i r e =
+        subst (λ (m : List OptDecl × List A). InBody X d o m q) (sym e) (record { opened = i.opened; outer = i.outer; entries = many_next put b.entries b.filled b.again lists i.entries r })
 
-    entry_stops : {d : Room} {o : Place} (lists : List OptDecl × List A) {p : Place} (e : Stop) → InBody d o lists p → (In ts p.at (CloseBrace ∷ []) → ⊥) → Fails (entry X) d p e → Fails whole_body d o e
-    entry_stops lists Memory b n f = record { cause = tt }
-    entry_stops {d = d} {o = o} lists {p = p} (Syntax k) b n f =
-        elim (split k p.at ((facts_of le d).order p k f.cause.begins)) [
+    pub entry_stops : {d : Room} {o : Place} (lists : List OptDecl × List A) {p : Place} (e : Stop) → InBody X d o lists p → (In ts p.at (CloseBrace ∷ []) → ⊥) → Fails (entry X) d p e → Fails (whole_body X) d o e
+    entry_stops lists Memory i n f = record { cause = tt }
+    entry_stops {d = d} {o = o} lists {p = p} (Syntax k) i n f =
+        elim (split k p.at ((facts_of b.entries d).order p k f.cause.begins)) [
           | inl e ↦ (let stuck : Stops (entry X) d p p.at = subst (λ m. Stops (entry X) d p m) e f.cause in
-              subst (λ m. Fails whole_body d o (Syntax m)) (sym e)
-              ((step _ entries_lawful (w CloseBrace) shut b.outer (b.entries.reads (many_stuck put le filled again lists stuck))).fails (one_fails ts (CloseBrace ∷ []) d p n)))
-          | inr past ↦ ends _ entries_lawful (w CloseBrace) shut b.outer (many_breaks put le filled again lists b.entries past f)
+              subst (λ m. Fails (whole_body X) d o (Syntax m)) (sym e)
+              ((step _ entries_lawful (w CloseBrace) b.shut i.outer (i.entries.reads (many_stuck put b.entries b.filled b.again lists stuck))).fails (one_fails ts (CloseBrace ∷ []) d p n)))
+          | inr past ↦ ends _ entries_lawful (w CloseBrace) b.shut i.outer (many_breaks put b.entries b.filled b.again lists i.entries past f)
         ]
-    entry_stops lists (TooDeep k) b n f = ends _ entries_lawful (w CloseBrace) shut b.outer (many_breaks put le filled again lists b.entries tt f)
+    entry_stops lists (TooDeep k) i n f = ends _ entries_lawful (w CloseBrace) b.shut i.outer (many_breaks put b.entries b.filled b.again lists i.entries tt f)
+
+    pub body_closes : {d : Room} {o : Place} (lists : List OptDecl × List A) {p : Place} {t : Marked} {q : Place} → InBody X d o lists p → In ts p.at (CloseBrace ∷ []) → Reads (λ _. word ts CloseBrace) d p t q → Reads (whole_body X) d o lists q
+    body_closes lists {p = p} i h r =
+        (step _ entries_lawful (w CloseBrace) b.shut i.outer (many_ends put b.entries b.filled b.again lists i.entries (λ k. In_apart ts p.at b.entries.first (CloseBrace ∷ []) b.closed k h))).reads r
 
     abbrev setting_lawful : Lawful ts (λ r. map_to (Setting' A) (optset text ts r))
     setting_lawful = lawful_map (optset_lawful text ts) (Setting' A)
 
     abbrev counting_lawful : Lawful ts (λ r. map_to Counting (X r))
-    counting_lawful = lawful_map lx Counting
+    counting_lawful = lawful_map b.lawful Counting
 
-    module _ (full_x : lx.null ≡ false) (other : disjoint option_words lx.first ≡ true) where
-      pub option_read : {d : Room} {o : Place} (os : List OptDecl) (bs : List A) {p : Place} {x : OptDecl} {q : Place} → InBody d o (os, bs) p → In ts p.at option_words → Reads (optset text ts) d p x q → InBody d o (os ++ x ∷ [], bs) q
-      option_read {d = d} os bs {p = p} b h r = entry_read (os, bs) b
-          ((left setting_lawful counting_lawful full_x other (leads_self (entry X) d p) h).reads (map_reads (Setting' A) (optset_lawful text ts) r))
+    pub option_leads : {d : Room} {p : Place} → In ts p.at option_words → Leads (optset text ts) d p (entry X) d p (Setting' A)
+    option_leads {d = d} {p = p} h = map_leads (Setting' A) (optset_lawful text ts) (left setting_lawful counting_lawful b.full b.other (leads_self (entry X) d p) h)
 
-      pub option_fails : {d : Room} {o : Place} (os : List OptDecl) (bs : List A) {p : Place} {e : Stop} → InBody d o (os, bs) p → In ts p.at option_words → Fails (optset text ts) d p e → Fails whole_body d o e
-      option_fails {d = d} os bs {p = p} {e = e} b h f = entry_stops (os, bs) e b (In_apart ts p.at option_words (CloseBrace ∷ []) refl h)
-          ((left setting_lawful counting_lawful full_x other (leads_self (entry X) d p) h).fails (map_fails (Setting' A) (optset_lawful text ts) f))
-
-      pub bins_read : {d : Room} {o : Place} (os : List OptDecl) (bs : List A) {p : Place} {x : A} {q : Place} → InBody d o (os, bs) p → (In ts p.at option_words → ⊥) → Reads X d p x q → InBody d o (os, bs ++ x ∷ []) q
-      bins_read {d = d} os bs {p = p} b n r = entry_read (os, bs) b
-          ((right setting_lawful counting_lawful full_x other (leads_self (entry X) d p) refl n).reads (map_reads Counting lx r))
-
-      pub bins_fail : {d : Room} {o : Place} (os : List OptDecl) (bs : List A) {p : Place} {e : Stop} → InBody d o (os, bs) p → (In ts p.at option_words → ⊥) → (In ts p.at (CloseBrace ∷ []) → ⊥) → Fails X d p e → Fails whole_body d o e
-      bins_fail {d = d} os bs {p = p} {e = e} b n m f = entry_stops (os, bs) e b m
-          ((right setting_lawful counting_lawful full_x other (leads_self (entry X) d p) refl n).fails (map_fails Counting lx f))
-
-    pub body_closes : {d : Room} {o : Place} (lists : List OptDecl × List A) {p : Place} → InBody d o lists p → (In ts p.at le.first → ⊥) → Leads (λ _. word ts CloseBrace) d p whole_body d o (λ _. lists)
-    body_closes lists b n = step _ entries_lawful (w CloseBrace) shut b.outer (many_ends put le filled again lists b.entries n)
-
-  -- the bodies of points and of crosses
-  abbrev pub PointBody : Room → Place → List OptDecl × List BinsDecl → Place → Type 0
-  PointBody d o lists p = InBody (bins text ts) (bins_lawful text ts) (point_entry_lawful text ts) refl refl refl d o lists p
-
-  abbrev pub CrossBody : Room → Place → List OptDecl × List CrossBins → Place → Type 0
-  CrossBody d o lists p = InBody (cross_bins text ts) (cross_bins_lawful text ts) (cross_entry_lawful text ts) refl refl refl d o lists p
+    pub declaration_leads : {d : Room} {p : Place} → (In ts p.at option_words → ⊥) → Leads X d p (entry X) d p (λ x. Counting x)
+    declaration_leads {d = d} {p = p} n = map_leads Counting b.lawful (right setting_lawful counting_lawful b.full b.other (leads_self (entry X) d p) refl n)
 
   pub entry_falls : {A : Type 0} {X : Room → Rule A} (lx : Lawful ts X) → lx.null ≡ false → {d : Room} {p : Place} {x : A} {q : Place} → Reads X d p x q → length ts - q.at < length ts - p.at
   entry_falls lx full r = let l = reads_more lx full r in let i = reads_inside lx r l in omega arith

@@ -95,12 +95,6 @@ module _ (text : List ℕ) (ts : List Marked) where
   abbrev pub default_end : Size → Rule (Option Marked)
   default_end size = maybe (allow (is_scalar size) (word ts SequenceWord))
 
-  abbrev pub point_body : Room → Rule (List OptDecl × List BinsDecl)
-  point_body = λ r. body text ts (bins text ts r) r
-
-  abbrev pub cross_body : Room → Rule (List OptDecl × List CrossBins)
-  cross_body = λ r. body text ts (cross_bins text ts r) r
-
   abbrev pub conjunction : Room → Rule Sel
   conjunction = λ r. sand_in text ts r (sel_inner_at text ts r.operators r.levels)
 

@@ -1,14 +1,43 @@
 //! Crosses of coverpoints (IEEE 1800-2017, 19.6).
+ghost use Rattle.std.specs.Prelude.{[], ◌∷◌, refl};
+ghost use Rattle.cov_lexer.specs.declared.kind.Kind.TheVariants.{Comma};
 ghost use Rattle.cov_grammar.specs.Parses.{Parses};
+ghost use Rattle.cov_grammar.specs.Bins.{ident};
 ghost use Rattle.cov_grammar.specs.Groups.{cross, crossed, cross_bins};
+ghost use Rattle.cov_grammar.proofs.BinsLaws.{ident_lawful};
+ghost use Rattle.cov_grammar.proofs.GroupLaws.{cross_bins_lawful, cross_entry_lawful};
 ghost use Rattle.cov_parser.specs.Reading.{ParsesAlways, over};
-ghost use Rattle.cov_parser.specs.Parts.{cross_body};
 
 use crate::bins::bins_word_of;
-use crate::held::{Held, add};
+use crate::bodies::Declared;
+use crate::held::Held;
+use crate::lists::{Item, NO_ROOM};
 use crate::reader::Reader;
 use cov_grammar::{Kind, Place, Room, Stop};
-use cov_tree::{CrossBins, CrossDecl, List, Member, Name, OptDecl};
+use cov_tree::{CrossBins, CrossDecl, List, Member, Name};
+
+/// Names of coverpoints, with commas between them.
+#[derive(Drop)]
+struct PointNames;
+
+impl Item for PointNames {
+    type Tree = Name;
+
+    ghost rule = { λ _ text ts _. ident text ts };
+
+    ghost separators = { Comma ∷ [] };
+
+    fn separators(&self) -> &'static [Kind] {
+        &[Kind::Comma]
+    }
+
+    fn read(&self, reader: Reader<'_>, place: Place, _: Room) -> Result<(Held<Name>, Place), Stop> {
+        let (name, after) = reader.ident(place)?;
+        Ok((Held::of(name), after))
+    }
+
+    ghost separable = { λ _ text ts. record { lawful = ident_lawful text ts; apart = refl } };
+}
 
 impl Reader<'_> {
     /// A cross, with its label and the place of its first token.
@@ -24,7 +53,7 @@ impl Reader<'_> {
         let (_, at) = self.word(place, Kind::CrossWord)?;
         let (points, at) = self.crossed(at)?;
         let (guard, at) = self.guard(at, room)?;
-        let ((options, bins), after) = self.cross_body(at, room)?;
+        let ((options, bins), after) = self.body(at, room)?;
         let cross = CrossDecl {
             label: label.put(),
             points,
@@ -40,61 +69,15 @@ impl Reader<'_> {
     fn crossed(self, place: Place) -> Result<(List<Name>, Place), Stop>
         ensures { ParsesAlways (over self.entry crossed) place result }
     {
-        let mut names = List::new(self.alloc);
         let (first, at) = self.ident(place)?;
         let (_, at) = self.word(at, Kind::Comma)?;
-        let (second, mut at) = self.ident(at)?;
+        let (second, at) = self.ident(at)?;
+        let mut names = List::new(self.alloc);
         names.push(first)?;
         names.push(second)?;
-        while let Some((_, next)) = self.take(at, &[Kind::Comma]) {
-            let (name, after) = self.ident(next)?;
-            names.push(name)?;
-            at = after;
-        }
-        Ok((names, at))
-    }
-
-    /// `;`, or options and bins in braces.
-    fn cross_body(
-        self,
-        place: Place,
-        room: Room,
-    ) -> Result<((List<OptDecl>, List<CrossBins>), Place), Stop>
-        ensures { Parses (over self.entry cross_body) room place result }
-    {
-        let mut options = List::new(self.alloc);
-        let mut declarations = List::new(self.alloc);
-        if let Some((_, after)) = self.take(place, &[Kind::Semi]) {
-            return Ok(((options, declarations), after));
-        }
-        let (_, mut at) = self.word(place, Kind::OpenBrace)?;
-        while let Some((token, _)) = self.take(at, &ENTRY_KINDS) {
-            if token
-                .kind
-                .is_one_of(&[Kind::OptionWord, Kind::TypeOptionWord])
-            {
-                let (option, after) = self.option(at, room)?;
-                add(&mut options, option)?;
-                at = after;
-            } else {
-                let (declaration, after) = self.cross_bins(at, room)?;
-                add(&mut declarations, declaration)?;
-                at = after;
-            }
-        }
-        let (_, after) = self.word(at, Kind::CloseBrace)?;
-        Ok(((options, declarations), after))
+        self.more(at, NO_ROOM, &PointNames, names)
     }
 }
-
-/// What options and bins of a cross begin with.
-const ENTRY_KINDS: [Kind; 5] = [
-    Kind::OptionWord,
-    Kind::TypeOptionWord,
-    Kind::BinsWord,
-    Kind::IllegalBinsWord,
-    Kind::IgnoreBinsWord,
-];
 
 impl Reader<'_> {
     /// A bin of a cross.
@@ -121,4 +104,27 @@ impl Reader<'_> {
         };
         Ok((Held::of(declaration), after))
     }
+}
+
+impl Declared for CrossBins {
+    ghost rule = { cross_bins };
+
+    fn read(
+        reader: Reader<'_>,
+        place: Place,
+        room: Room,
+    ) -> Result<(Held<CrossBins>, Place), Stop> {
+        reader.cross_bins(place, room)
+    }
+
+    ghost beside = { λ text tokens. record {
+      lawful = cross_bins_lawful text tokens;
+      full = refl;
+      other = refl;
+      entries = cross_entry_lawful text tokens;
+      filled = refl;
+      again = refl;
+      shut = refl;
+      closed = refl;
+    } };
 }

@@ -1,14 +1,103 @@
 //! Enumerations, variables and instances (IEEE 1800-2017, 6.19, 6.8 and 19.3).
-ghost use Rattle.std.specs.Prelude.{◌≡◌, ◌∷◌, [], IfOk, IfErr};
+ghost use Rattle.std.specs.Prelude.{◌≡◌, ◌∷◌, [], refl, IfOk, IfErr};
+ghost use Rattle.cov_lexer.specs.declared.kind.Kind.TheVariants.{Comma, Ident};
+ghost use Rattle.cov_grammar.specs.Rule.{word};
 ghost use Rattle.cov_grammar.specs.Parses.{Reads, Fails, Parses};
+ghost use Rattle.cov_grammar.specs.Expressions.{expr};
 ghost use Rattle.cov_grammar.specs.Designs.{enum_name, enum_names, enum_decl, built_in_decl, named_decl, named_type, variables, instance_of, arguments_or};
+ghost use Rattle.cov_grammar.proofs.Lawful.{lawful_word};
+ghost use Rattle.cov_grammar.proofs.ExprLaws.{expr_lawful};
+ghost use Rattle.cov_grammar.proofs.DesignLaws.{enum_name_lawful};
 ghost use Rattle.cov_parser.specs.Reading.{ParsesAlways, over};
 ghost use Rattle.cov_parser.specs.Parts.{exprs, maybe_arguments, maybe_vector, more_names, name_list};
 
 use crate::held::{Held, add, alone};
+use crate::lists::{Item, NO_ROOM};
 use crate::reader::Reader;
 use cov_grammar::{Kind, Marked, Place, Room, Standing, Stop};
 use cov_tree::{Decl, Expr, List, Memory, Name, Shared, TypeText};
+
+/// Arguments of an instance, with commas between them.
+#[derive(Drop)]
+struct Arguments;
+
+impl Item for Arguments {
+    type Tree = Expr;
+
+    ghost rule = { λ _. expr };
+
+    ghost separators = { Comma ∷ [] };
+
+    fn separators(&self) -> &'static [Kind] {
+        &[Kind::Comma]
+    }
+
+    fn read(
+        &self,
+        reader: Reader<'_>,
+        place: Place,
+        room: Room,
+    ) -> Result<(Held<Expr>, Place), Stop> {
+        reader.whole_expr(place, room, Standing::Plain)
+    }
+
+    ghost separable = { λ _ text ts. record { lawful = expr_lawful text ts; apart = refl } };
+}
+
+/// Constants of an enumeration, with commas between them.
+#[derive(Drop)]
+struct Constants;
+
+impl Item for Constants {
+    type Tree = (Name, Option<Expr>);
+
+    ghost rule = { λ _. enum_name };
+
+    ghost separators = { Comma ∷ [] };
+
+    fn separators(&self) -> &'static [Kind] {
+        &[Kind::Comma]
+    }
+
+    fn read(
+        &self,
+        reader: Reader<'_>,
+        place: Place,
+        room: Room,
+    ) -> Result<(Held<(Name, Option<Expr>)>, Place), Stop> {
+        reader.constant(place, room)
+    }
+
+    ghost separable = { λ _ text ts. record { lawful = enum_name_lawful text ts; apart = refl } };
+}
+
+/// Names of variables, with commas between them.
+#[derive(Drop)]
+struct Names;
+
+impl Item for Names {
+    type Tree = Marked;
+
+    ghost rule = { λ _ _ ts _. word ts Ident };
+
+    ghost separators = { Comma ∷ [] };
+
+    fn separators(&self) -> &'static [Kind] {
+        &[Kind::Comma]
+    }
+
+    fn read(
+        &self,
+        reader: Reader<'_>,
+        place: Place,
+        _: Room,
+    ) -> Result<(Held<Marked>, Place), Stop> {
+        let (name, after) = reader.word(place, Kind::Ident)?;
+        Ok((Held::of(name), after))
+    }
+
+    ghost separable = { λ _ text ts. record { lawful = lawful_word ts Ident; apart = refl } };
+}
 
 impl Reader<'_> {
     /// Variables whose type has a word of its own.
@@ -35,15 +124,8 @@ impl Reader<'_> {
     fn more_names(self, place: Place, first: Marked) -> Result<(List<Marked>, Place), Stop>
         ensures { ParsesAlways (over self.entry more_names first) place result }
     {
-        let mut names = List::new(self.alloc);
-        names.push(first)?;
-        let mut at = place;
-        while let Some((_, next)) = self.take(at, &[Kind::Comma]) {
-            let (name, after) = self.word(next, Kind::Ident)?;
-            names.push(name)?;
-            at = after;
-        }
-        Ok((names, at))
+        let names = alone(self.alloc, Held::of(first))?;
+        self.more(place, NO_ROOM, &Names, names)
     }
 
     /// A variable of this type for each name.
@@ -134,17 +216,11 @@ impl Reader<'_> {
     }
 
     /// Arguments with commas between them.
+    #[tactic(auto, unfolding(cov_grammar::specs::Expressions::list_in))]
     fn exprs(self, place: Place, room: Room) -> Result<(List<Expr>, Place), Stop>
         ensures { Parses (over self.entry exprs) room place result }
     {
-        let (first, mut at) = self.whole_expr(place, room, Standing::Plain)?;
-        let mut args = alone(self.alloc, first)?;
-        while let Some((_, next)) = self.take(at, &[Kind::Comma]) {
-            let (arg, after) = self.whole_expr(next, room, Standing::Plain)?;
-            add(&mut args, arg)?;
-            at = after;
-        }
-        Ok((args, at))
+        self.list(place, room, &Arguments)
     }
 
     /// An enumeration.
@@ -179,6 +255,7 @@ impl Reader<'_> {
     }
 
     /// Constants with commas between them.
+    #[tactic(auto, unfolding(cov_grammar::specs::Designs::enum_names))]
     fn constants(
         self,
         place: Place,
@@ -186,14 +263,7 @@ impl Reader<'_> {
     ) -> Result<(List<(Name, Option<Expr>)>, Place), Stop>
         ensures { Parses (over self.entry enum_names) room place result }
     {
-        let (first, mut at) = self.constant(place, room)?;
-        let mut constants = alone(self.alloc, first)?;
-        while let Some((_, next)) = self.take(at, &[Kind::Comma]) {
-            let (constant, after) = self.constant(next, room)?;
-            add(&mut constants, constant)?;
-            at = after;
-        }
-        Ok((constants, at))
+        self.list(place, room, &Constants)
     }
 
     fn constant(self, place: Place, room: Room) -> Result<(Held<(Name, Option<Expr>)>, Place), Stop>

@@ -1,18 +1,74 @@
 //! Covergroups (IEEE 1800-2017, 19.3 and 19.8.1).
-ghost use Rattle.std.specs.Prelude.{◌≡◌, List, [], ◌∷◌, ◌++◌, IfOk, IfErr};
-ghost use Rattle.cov_lexer.specs.declared.kind.Kind.TheVariants.{Ident, CoverpointWord, CrossWord, OptionWord, TypeOptionWord};
+ghost use Rattle.std.specs.Prelude.{◌≡◌, List, [], ◌∷◌, ◌++◌, refl, IfOk, IfErr};
+ghost use Rattle.cov_lexer.specs.declared.kind.Kind.TheVariants.{Comma, OrWord, Ident, CoverpointWord, CrossWord, OptionWord, TypeOptionWord};
 ghost use Rattle.cov_grammar.specs.Rule.{In, same_word};
 ghost use Rattle.cov_grammar.specs.Parses.{Reads, Fails, Parses};
 ghost use Rattle.cov_grammar.specs.Expressions.{spelled};
 ghost use Rattle.cov_grammar.specs.Groups.{item, member};
 ghost use Rattle.cov_grammar.specs.Designs.{Written, with_formal, last_is_ref, is_ref_or, formal, formal_list, formals, edge, edge_kind, edge_or_any, argument, argument_list, argument_parens, sampling, members, group_end, group};
+ghost use Rattle.cov_grammar.proofs.DesignLaws.{argument_lawful, edge_lawful};
 ghost use Rattle.cov_parser.specs.Reading.{ParsesAlways, Took, over};
 ghost use Rattle.cov_parser.specs.Parts.{direction, edge_parens, edge_word, edges, maybe_input, maybe_label, sample_function};
 
 use crate::held::{Held, add, alone};
+use crate::lists::Item;
 use crate::reader::Reader;
 use cov_grammar::{Kind, Marked, Place, Room, Stop};
 use cov_tree::{Decl, EdgeKind, EdgeText, Formal, List, Member, Name};
+
+/// Arguments of a sample function, with commas between them.
+#[derive(Drop)]
+struct SampleArguments;
+
+impl Item for SampleArguments {
+    type Tree = Formal;
+
+    ghost rule = { λ _. argument };
+
+    ghost separators = { Comma ∷ [] };
+
+    fn separators(&self) -> &'static [Kind] {
+        &[Kind::Comma]
+    }
+
+    fn read(
+        &self,
+        reader: Reader<'_>,
+        place: Place,
+        room: Room,
+    ) -> Result<(Held<Formal>, Place), Stop> {
+        reader.argument(place, room)
+    }
+
+    ghost separable = { λ _ text ts. record { lawful = argument_lawful text ts; apart = refl } };
+}
+
+/// Parts of an event, with `or` or commas between them.
+#[derive(Drop)]
+struct Edges;
+
+impl Item for Edges {
+    type Tree = EdgeText;
+
+    ghost rule = { λ _. edge };
+
+    ghost separators = { OrWord ∷ Comma ∷ [] };
+
+    fn separators(&self) -> &'static [Kind] {
+        &[Kind::OrWord, Kind::Comma]
+    }
+
+    fn read(
+        &self,
+        reader: Reader<'_>,
+        place: Place,
+        room: Room,
+    ) -> Result<(Held<EdgeText>, Place), Stop> {
+        reader.edge(place, room)
+    }
+
+    ghost separable = { λ _ text ts. record { lawful = edge_lawful text ts; apart = refl } };
+}
 
 impl Reader<'_> {
     /// A covergroup.
@@ -171,17 +227,11 @@ impl Reader<'_> {
     }
 
     /// Arguments of a sample function with commas between them.
+    #[tactic(auto, unfolding(cov_grammar::specs::Designs::argument_list))]
     fn arguments(self, place: Place, room: Room) -> Result<(List<Formal>, Place), Stop>
         ensures { Parses (over self.entry argument_list) room place result }
     {
-        let (first, mut at) = self.argument(place, room)?;
-        let mut args = alone(self.alloc, first)?;
-        while let Some((_, next)) = self.take(at, &[Kind::Comma]) {
-            let (arg, after) = self.argument(next, room)?;
-            add(&mut args, arg)?;
-            at = after;
-        }
-        Ok((args, at))
+        self.list(place, room, &SampleArguments)
     }
 
     /// An argument of a sample function. It is `input`, whether it says so or not.
@@ -225,14 +275,7 @@ impl Reader<'_> {
     fn edges(self, place: Place, room: Room) -> Result<(List<EdgeText>, Place), Stop>
         ensures { Parses (over self.entry edges) room place result }
     {
-        let (first, mut at) = self.edge(place, room)?;
-        let mut edges = alone(self.alloc, first)?;
-        while let Some((_, next)) = self.take(at, &[Kind::OrWord, Kind::Comma]) {
-            let (edge, after) = self.edge(next, room)?;
-            add(&mut edges, edge)?;
-            at = after;
-        }
-        Ok((edges, at))
+        self.list(place, room, &Edges)
     }
 
     /// A part of an event.
@@ -269,8 +312,6 @@ fn edge_kind(kind: Kind) -> EdgeKind
         _ => EdgeKind::Both,
     }
 }
-
-impl Reader<'_> {}
 
 /// What a member begins with.
 const MEMBER_KINDS: [Kind; 6] = [

@@ -4,12 +4,14 @@
 #![tactic(auto)]
 
 mod bins;
+mod bodies;
 mod crosses;
 mod declarations;
 mod expr;
 mod fault;
 mod groups;
 mod held;
+mod lists;
 mod marks;
 mod operators;
 mod options;

@@ -1,13 +1,17 @@
 //! Coverpoints (IEEE 1800-2017, 19.5).
+ghost use Rattle.std.specs.Prelude.{refl};
 ghost use Rattle.cov_grammar.specs.Parses.{Parses};
+ghost use Rattle.cov_grammar.specs.Bins.{bins};
 ghost use Rattle.cov_grammar.specs.Groups.{point};
+ghost use Rattle.cov_grammar.proofs.BinsLaws.{bins_lawful};
+ghost use Rattle.cov_grammar.proofs.GroupLaws.{point_entry_lawful};
 ghost use Rattle.cov_parser.specs.Reading.{over};
-ghost use Rattle.cov_parser.specs.Parts.{point_body};
 
-use crate::held::{Held, add};
+use crate::bodies::Declared;
+use crate::held::Held;
 use crate::reader::Reader;
 use cov_grammar::{Kind, Place, Room, Standing, Stop};
-use cov_tree::{BinsDecl, List, Member, Name, OptDecl, PointDecl};
+use cov_tree::{BinsDecl, Member, Name, PointDecl};
 
 impl Reader<'_> {
     /// A coverpoint, with its label and the place of its first token.
@@ -23,7 +27,7 @@ impl Reader<'_> {
         let (_, at) = self.word(place, Kind::CoverpointWord)?;
         let (expr, at) = self.whole_expr(at, room, Standing::Plain)?;
         let (guard, at) = self.guard(at, room)?;
-        let ((options, bins), after) = self.point_body(at, room)?;
+        let ((options, bins), after) = self.body(at, room)?;
         let point = PointDecl {
             label: label.put(),
             expr: expr.put(),
@@ -34,46 +38,23 @@ impl Reader<'_> {
         };
         Ok((Held::of(Member::Point(point)), after))
     }
-
-    /// `;`, or options and bins in braces.
-    fn point_body(
-        self,
-        place: Place,
-        room: Room,
-    ) -> Result<((List<OptDecl>, List<BinsDecl>), Place), Stop>
-        ensures { Parses (over self.entry point_body) room place result }
-    {
-        let mut options = List::new(self.alloc);
-        let mut declarations = List::new(self.alloc);
-        if let Some((_, after)) = self.take(place, &[Kind::Semi]) {
-            return Ok(((options, declarations), after));
-        }
-        let (_, mut at) = self.word(place, Kind::OpenBrace)?;
-        while let Some((token, _)) = self.take(at, &ENTRY_KINDS) {
-            if token
-                .kind
-                .is_one_of(&[Kind::OptionWord, Kind::TypeOptionWord])
-            {
-                let (option, after) = self.option(at, room)?;
-                add(&mut options, option)?;
-                at = after;
-            } else {
-                let (declaration, after) = self.bins(at, room)?;
-                add(&mut declarations, declaration)?;
-                at = after;
-            }
-        }
-        let (_, after) = self.word(at, Kind::CloseBrace)?;
-        Ok(((options, declarations), after))
-    }
 }
 
-/// What options and bins begin with.
-const ENTRY_KINDS: [Kind; 6] = [
-    Kind::OptionWord,
-    Kind::TypeOptionWord,
-    Kind::WildcardWord,
-    Kind::BinsWord,
-    Kind::IllegalBinsWord,
-    Kind::IgnoreBinsWord,
-];
+impl Declared for BinsDecl {
+    ghost rule = { bins };
+
+    fn read(reader: Reader<'_>, place: Place, room: Room) -> Result<(Held<BinsDecl>, Place), Stop> {
+        reader.bins(place, room)
+    }
+
+    ghost beside = { λ text tokens. record {
+      lawful = bins_lawful text tokens;
+      full = refl;
+      other = refl;
+      entries = point_entry_lawful text tokens;
+      filled = refl;
+      again = refl;
+      shut = refl;
+      closed = refl;
+    } };
+}

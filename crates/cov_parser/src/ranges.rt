@@ -1,16 +1,49 @@
 //! Lists of values and ranges (IEEE 1800-2017, 19.5.1).
+ghost use Rattle.std.specs.Prelude.{[], ◌∷◌};
+ghost use Rattle.cov_lexer.specs.declared.kind.Kind.TheVariants.{Comma};
 ghost use Rattle.cov_grammar.specs.Parses.{Parses};
 ghost use Rattle.cov_grammar.specs.Bins.{range_end, elem, elems, values};
+ghost use Rattle.cov_grammar.proofs.BinsLaws.{elem_lawful, no_comma};
 ghost use Rattle.cov_parser.specs.Reading.{over};
 ghost use Rattle.cov_parser.specs.Parts.{in_parens, maybe_keep};
 
-use crate::held::{Held, add, alone};
+use crate::held::Held;
+use crate::lists::Item;
 use crate::reader::Reader;
 use cov_grammar::{Kind, Place, Room, Standing, Stop};
 use cov_tree::{Elem, End, Expr, List, Right};
 
+/// Numbers and ranges with commas between them.
+#[derive(Drop)]
+struct Elems(Standing);
+
+impl Item for Elems {
+    type Tree = Elem;
+
+    ghost rule = { λ item text ts. elem text ts item.0 };
+
+    ghost separators = { Comma ∷ [] };
+
+    fn separators(&self) -> &'static [Kind] {
+        &[Kind::Comma]
+    }
+
+    fn read(
+        &self,
+        reader: Reader<'_>,
+        place: Place,
+        room: Room,
+    ) -> Result<(Held<Elem>, Place), Stop> {
+        reader.elem(place, room, self.0)
+    }
+
+    ghost separable = { λ item text ts.
+        record { lawful = elem_lawful text ts item.0; apart = no_comma item.0 } };
+}
+
 impl Reader<'_> {
     /// Elements with commas between them.
+    #[tactic(auto, unfolding(cov_grammar::specs::Bins::elems))]
     pub(crate) fn elems(
         self,
         place: Place,
@@ -19,14 +52,7 @@ impl Reader<'_> {
     ) -> Result<(List<Elem>, Place), Stop>
         ensures { Parses (over self.entry elems standing) room place result }
     {
-        let (first, mut at) = self.elem(place, room, standing)?;
-        let mut elems = alone(self.alloc, first)?;
-        while let Some((_, next)) = self.take(at, &[Kind::Comma]) {
-            let (elem, after) = self.elem(next, room, standing)?;
-            add(&mut elems, elem)?;
-            at = after;
-        }
-        Ok((elems, at))
+        self.list(place, room, &Elems(standing))
     }
 
     /// A number or a range.

@@ -1,19 +1,77 @@
 //! Sequences of transitions (IEEE 1800-2017, 19.5.2).
-ghost use Rattle.std.specs.Prelude.{◌≡◌, IfOk, IfErr};
+ghost use Rattle.std.specs.Prelude.{◌≡◌, [], ◌∷◌, refl, IfOk, IfErr};
+ghost use Rattle.cov_lexer.specs.declared.kind.Kind.TheVariants.{Comma, FatArrow};
 ghost use Rattle.cov_grammar.specs.declared.place.Stop.TheVariants.{Memory};
 ghost use Rattle.cov_grammar.specs.Parses.{Reads, Parses};
 ghost use Rattle.cov_grammar.specs.Expressions.{expr};
 ghost use Rattle.cov_grammar.specs.Bins.{step, seq, seqs, high_or, times_or_once, times_of};
+ghost use Rattle.cov_grammar.proofs.BinsLaws.{seq_lawful, step_lawful};
 ghost use Rattle.cov_parser.specs.Reading.{over};
 ghost use Rattle.cov_parser.specs.Parts.{maybe_repetition, steps};
 
-use crate::held::{Held, add, alone};
+use crate::held::Held;
+use crate::lists::Item;
 use crate::reader::Reader;
 use cov_grammar::{Kind, Place, Room, Standing, Stop};
 use cov_tree::{Expr, List, Step, Times};
 
+/// Sequences of transitions, with commas between them.
+#[derive(Drop)]
+struct Sequences;
+
+impl Item for Sequences {
+    type Tree = List<Step>;
+
+    ghost rule = { λ _. seq };
+
+    ghost separators = { Comma ∷ [] };
+
+    fn separators(&self) -> &'static [Kind] {
+        &[Kind::Comma]
+    }
+
+    fn read(
+        &self,
+        reader: Reader<'_>,
+        place: Place,
+        room: Room,
+    ) -> Result<(Held<List<Step>>, Place), Stop> {
+        reader.sequence(place, room)
+    }
+
+    ghost separable = { λ _ text ts. record { lawful = seq_lawful text ts; apart = refl } };
+}
+
+/// Steps of a sequence, with `=>` between them.
+#[derive(Drop)]
+struct Steps;
+
+impl Item for Steps {
+    type Tree = Step;
+
+    ghost rule = { λ _. step };
+
+    ghost separators = { FatArrow ∷ [] };
+
+    fn separators(&self) -> &'static [Kind] {
+        &[Kind::FatArrow]
+    }
+
+    fn read(
+        &self,
+        reader: Reader<'_>,
+        place: Place,
+        room: Room,
+    ) -> Result<(Held<Step>, Place), Stop> {
+        reader.step(place, room)
+    }
+
+    ghost separable = { λ _ text ts. record { lawful = step_lawful text ts; apart = refl } };
+}
+
 impl Reader<'_> {
     /// Sequences with commas between them.
+    #[tactic(auto, unfolding(cov_grammar::specs::Bins::seqs))]
     pub(crate) fn sequences(
         self,
         place: Place,
@@ -21,39 +79,24 @@ impl Reader<'_> {
     ) -> Result<(List<List<Step>>, Place), Stop>
         ensures { Parses (over self.entry seqs) room place result }
     {
-        let (first, mut at) = self.sequence(place, room)?;
-        let mut sequences = List::new(self.alloc);
-        sequences.push(first)?;
-        while let Some((_, next)) = self.take(at, &[Kind::Comma]) {
-            let (sequence, after) = self.sequence(next, room)?;
-            sequences.push(sequence)?;
-            at = after;
-        }
-        Ok((sequences, at))
+        self.list(place, room, &Sequences)
     }
 
     /// Steps in parentheses.
-    fn sequence(self, place: Place, room: Room) -> Result<(List<Step>, Place), Stop>
+    fn sequence(self, place: Place, room: Room) -> Result<(Held<List<Step>>, Place), Stop>
         ensures { Parses (over self.entry seq) room place result }
     {
         let (_, next) = self.word(place, Kind::OpenParen)?;
         let (steps, at) = self.steps(next, room)?;
         let (_, after) = self.word(at, Kind::CloseParen)?;
-        Ok((steps, after))
+        Ok((Held::of(steps), after))
     }
 
     /// Steps with `=>` between them.
     fn steps(self, place: Place, room: Room) -> Result<(List<Step>, Place), Stop>
         ensures { Parses (over self.entry steps) room place result }
     {
-        let (first, mut at) = self.step(place, room)?;
-        let mut steps = alone(self.alloc, first)?;
-        while let Some((_, next)) = self.take(at, &[Kind::FatArrow]) {
-            let (step, after) = self.step(next, room)?;
-            add(&mut steps, step)?;
-            at = after;
-        }
-        Ok((steps, at))
+        self.list(place, room, &Steps)
     }
 
     /// Values, and how often they follow one another.

@@ -16,4 +16,4 @@ pub returns-in_err-after : goal.returns-in_err-after
 returns-in_err-after c = exits _ _ _ _ _ c.from_residual-in_err-after.ensures.1 ((seq_leads c.args.self.text.now c.args.self.tokens.now c.args.room c.args.place).fails (both_then_fails _ (lawful_word c.args.self.tokens.now OpenParen) (steps_close_lawful c.args.self.text.now c.args.self.tokens.now) refl (c.in_ok-next.ensures _) (both_then_fails _ (steps_lawful c.args.self.text.now c.args.self.tokens.now) (lawful_word c.args.self.tokens.now CloseParen) refl c.in_ok-steps.ensures (c.in_err-after.ensures _))))
 
 pub returns : goal.returns
-returns c = (seq_leads c.args.self.text.now c.args.self.tokens.now c.args.room c.args.place).reads (both_reads _ (lawful_word c.args.self.tokens.now OpenParen) (steps_close_lawful c.args.self.text.now c.args.self.tokens.now) refl (c.in_ok-next.ensures _) (both_reads _ (steps_lawful c.args.self.text.now c.args.self.tokens.now) (lawful_word c.args.self.tokens.now CloseParen) refl c.in_ok-steps.ensures (c.in_ok-after.ensures _)))
+returns c = rw c.of.ensures ((seq_leads c.args.self.text.now c.args.self.tokens.now c.args.room c.args.place).reads (both_reads _ (lawful_word c.args.self.tokens.now OpenParen) (steps_close_lawful c.args.self.text.now c.args.self.tokens.now) refl (c.in_ok-next.ensures _) (both_reads _ (steps_lawful c.args.self.text.now c.args.self.tokens.now) (lawful_word c.args.self.tokens.now CloseParen) refl c.in_ok-steps.ensures (c.in_ok-after.ensures _))))
