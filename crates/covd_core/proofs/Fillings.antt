@@ -1,9 +1,9 @@
 -- The steps of filling a store, one after the other.
-use Rattle.std.proofs.Common.{◌≡◌, ℕ, zero, suc, ◌+◌, ◌-◌, ◌≤◌, ◌<◌, List, [], ◌∷◌, length, Ok, Err, inl, inr, refl, sym, ap, subst, ◌∙◌, arith}
-use Rattle.std.specs.Prelude.{codes}
+use Rattle.std.proofs.Common.{◌≡◌, ℕ, ◌+◌, ◌≤◌, ◌<◌, List, [], ◌∷◌, length, map, Result, Ok, Err, inl, inr, sym, ap, subst, ◌∙◌}
+use Rattle.std.specs.Prelude.{codes, replicate}
+use Rattle.std.specs.Global.{Vec}
 use Rattle.cov_ground.specs.Limits.{longest_record, most_events}
 use Rattle.record_codec.specs.Builders.{told}
-use Rattle.cov_base.specs.Loads.{HasFile}
 use Rattle.design_data.specs.declared.design.Design.{Design}
 use Rattle.record_codec.specs.declared.record.Record.{Record}
 use Rattle.record_codec.specs.Spelling.{Encodes}
@@ -11,13 +11,17 @@ use Rattle.sampler.specs.Shape.{Fits, IsWrongAt}
 use Rattle.sampler.proofs.Tables.{does_not_fit}
 use Rattle.covd_core.specs.Lines.{record_refused_text}
 use Rattle.cov_history.specs.declared.entry.Entry.{Entry}
+use Rattle.covd_core.specs.declared.finding.Source.TheVariants as source
+use Rattle.covd_core.specs.declared.forms.Numbers.{Numbers}
 use Rattle.covd_core.specs.declared.stop.Stop.{Stop}
 use Rattle.covd_core.specs.declared.stop.Stop.TheVariants.{Memory, Refused}
 use Rattle.covd_core.specs.declared.status.Status.{Status}
 use Rattle.covd_core.specs.declared.status.Status.TheVariants as status
 use Rattle.covd_core.specs.Admission.{behind, full_line, made_events, made_size}
-use Rattle.covd_core.specs.Command.{Files, NotLoaded, NoDesign, IsRefusedText, HasRecord, NotTaken, Fills, FillsMade, FillAnswers}
-use Rattle.covd_core.specs.Filling.{IsLine, IsUnread, IsDecoded, Admits, Takes, IsMade, TakesMade, Leads, IsFilled, LeadsMade, IsFilledMade}
+use Rattle.covd_core.specs.Command.{Files, Origin, File, Made, NotLoaded, NoDesign, IsRefusedText, Finds, FindsNone, NotTaken, Fills, Reports, FillAnswers}
+use Rattle.covd_core.specs.Filling.{IsLine, IsDecoded, IsMade, Admits, IsFound, Takes, Leads, IsFilled}
+use Rattle.covd_core.specs.Origins.{IsFoundIn}
+use Rattle.covd_core.proofs.Admissions.{made_fits}
 use Rattle.covd_core.proofs.Unread.{not_loaded}
 
 -- ---- statuses that no text of these commands has
@@ -48,21 +52,24 @@ never_write_fault = record {
 }
 
 module _ {s : Status} (never : Never s) where
-  fills_never : (files : Files) (before now : ℕ) (d : Design) (names : List (List ℕ)) (k : ℕ) (h : List Entry) (text : List ℕ) → Fills files before now d k h names s text → ⊥
+  none_never : (files : Files) (before now : ℕ) (d : Design) (k : ℕ) (origin : Origin) (text : List ℕ) → FindsNone files before now d k origin s text → ⊥
+  none_never files before now d k (File name) text a = elim a [ inl b ↦ never.unloaded files before now name longest_record text b | inr b ↦ never.refused b.0 ]
+  none_never files before now d k (Made seed rounds) text a = never.unadmitted a.0
+
+  fills_never : (files : Files) (before now : ℕ) (d : Design) (origins : List Origin) (k : ℕ) (h : List Entry) (text : List ℕ) → Fills files before now d k h origins s text → ⊥
   fills_never files before now d [] k h text a = never.done a.0
-  fills_never files before now d (name ∷ names) k h text a = elim a [
-    | inl x ↦ elim x [ inl b ↦ never.unloaded files before now name longest_record text b | inr y ↦ elim y [ inl b ↦ never.refused b.0 | inr b ↦ never.unadmitted b.2 ] ]
-    | inr x ↦ fills_never files before now d names (k + 1) (behind d h x.0) text x.3
+  fills_never files before now d (origin ∷ later) k h text a = elim a [
+    | inl x ↦ elim x [ inl b ↦ none_never files before now d k origin text b | inr b ↦ never.unadmitted b.2 ]
+    | inr x ↦ fills_never files before now d later (k + 1) (behind d h x.0) text x.3
   ]
 
-  made_never : (d : Design) (seed rounds left test : ℕ) (h : List Entry) (text : List ℕ) → FillsMade d seed rounds test h left s text → ⊥
-  made_never d seed rounds zero test h text a = never.done a.0
-  made_never d seed rounds (suc left) test h text a = elim a [ inl x ↦ never.unadmitted x.0 | inr x ↦ made_never d seed rounds left (test + 1) (behind d h x.0) text x.3 ]
+  reports_never : (files : Files) (before now : ℕ) (design : List ℕ) (origins : List Origin) (text : List ℕ) → Reports files before now design origins s text → ⊥
+  reports_never files before now design origins text a = elim a [ inl b ↦ never.no_design files before now design text b | inr b ↦ fills_never files before now b.0 origins 1 [] text b.2 ]
 
   pub no_answer : (words : List (List ℕ)) (files : Files) (before now : ℕ) (text : List ℕ) → FillAnswers words files before now s text → ⊥
   no_answer words files before now text a = elim a [
-    | inl x ↦ elim x.3 [ inl b ↦ never.no_design files before now x.0 text b | inr b ↦ fills_never files before now b.0 x.1 1 [] text b.2 ]
-    | inr x ↦ elim x.5 [ inl b ↦ never.no_design files before now x.0 text b | inr b ↦ made_never b.0 x.1 x.2 x.3 1 [] text b.2 ]
+    | inl x ↦ reports_never files before now x.0 (map File x.1) text x.3
+    | inr x ↦ reports_never files before now x.0 (replicate x.3 (Made x.1 x.2)) text x.5
   ]
 
 -- ---- one record
@@ -78,111 +85,93 @@ unfit_is k d bytes text r at e only wrong t = record {
   line = inr (r, e, at, wrong, t);
 }
 
-module _ (files : Files) (before now : ℕ) (d : Design) (k : ℕ) (h : List Entry) (name : List ℕ) (after : List Entry) where
-  pub unread : (stop : Stop) → IsUnread files before now name stop → Takes files before now d k h name after (Err stop)
-  unread (Refused a) u = inl u
-  unread Memory u = tt
+-- what is decoded of a file, or made
+module _ (d : Design) (k : ℕ) where
+  pub decoded_in : (bytes : Vec ℕ) (result : Result Record Stop) → IsDecoded k d bytes.items result → IsFoundIn d k (source.Bytes bytes) result
+  decoded_in bytes (Ok r) x files before now (File name) read = record { bytes = bytes.items; file = read.0; short = read.1; encodes = x.0; fits = x.1 }
+  decoded_in bytes (Err (Refused a)) x files before now (File name) read = inr (x.0, record { bytes = bytes.items; file = read.0; short = read.1; none = x.1; line = x.2 })
+  decoded_in bytes (Err Memory) x files before now (File name) read = tt
+  decoded_in bytes result x files before now (Made seed rounds) read = absurd read
 
-  module _ (bytes : List ℕ) (file : HasFile files name bytes) (short : length bytes ≤ longest_record) where
-    pub undecoded : (stop : Stop) → IsDecoded k d bytes (Err stop) → Takes files before now d k h name after (Err stop)
-    undecoded (Refused a) u = inr (inl (u.0, record { bytes = bytes; file = file; short = short; none = u.1; line = u.2 }))
-    undecoded Memory u = tt
+  made_is : (files : Files) (before now seed rounds : ℕ) (result : Result Record Stop) → IsMade d seed rounds k result → IsFound files before now d k (Made seed rounds) result
+  made_is files before now seed rounds (Ok r) x = x
+  made_is files before now seed rounds (Err (Refused a)) x = x
+  made_is files before now seed rounds (Err Memory) x = tt
 
-    has_record : (r : Record) → IsDecoded k d bytes (Ok r) → HasRecord files name d r
-    has_record r x = record { bytes = bytes; file = file; short = short; encodes = x.0; fits = x.1 }
+  pub made_in : (n : Numbers) (result : Result Record Stop) → IsMade d n.seed n.rounds k result → IsFoundIn d k (source.Numbers n) result
+  made_in n result x files before now (File name) read = absurd read
+  made_in n result x files before now (Made seed rounds) read =
+      let seeded = subst (λ (x : ℕ). IsMade d x n.rounds k result) read.0 x in
+      made_is files before now seed rounds result (subst (λ (x : ℕ). IsMade d seed x k result) read.1 seeded)
 
-    pub unadmitted : (r : Record) (stop : Stop) → IsDecoded k d bytes (Ok r) → Admits d k h r after (Err stop) → Takes files before now d k h name after (Err stop)
-    unadmitted r (Refused a) x u = inr (inr (r, has_record r x, u.1, u.0))
-    unadmitted r Memory x u = tt
+pub found_fits : (files : Files) (d : Design) (k : ℕ) (origin : Origin) (r : Record) → Finds files d k origin r → Fits d r
+found_fits files d k (File name) r f = f.fits
+found_fits files d k (Made seed rounds) r f = made_fits d seed rounds k r f
 
-    pub taken : (r : Record) → IsDecoded k d bytes (Ok r) → Admits d k h r after (Ok tt) → Takes files before now d k h name after (Ok tt)
-    taken r x u = (r, has_record r x, u.0, u.1)
+module _ (files : Files) (before now : ℕ) (d : Design) (k : ℕ) (h : List Entry) (origin : Origin) (after : List Entry) where
+  pub unfound : (stop : Stop) → IsFound files before now d k origin (Err stop) → Takes files before now d k h origin after (Err stop)
+  unfound (Refused a) u = inl u
+  unfound Memory u = tt
 
--- ---- records of files
+  pub unadmitted : (r : Record) (stop : Stop) → Finds files d k origin r → Admits d k h r after (Err stop) → Takes files before now d k h origin after (Err stop)
+  unadmitted r (Refused a) f u = inr (r, f, u.1, u.0)
+  unadmitted r Memory f u = tt
 
-not_taken_from : (files : Files) (before middle now : ℕ) (d : Design) (k : ℕ) (h : List Entry) (name : List ℕ) (s : Status) (text : List ℕ) → before ≤ middle → NotTaken files middle now d k h name s text → NotTaken files before now d k h name s text
-not_taken_from files before middle now d k h name s text le n = elim n [ inl a ↦ inl (not_loaded files before middle now name longest_record s text le a) | inr a ↦ inr a ]
+  pub taken : (r : Record) → Finds files d k origin r → Admits d k h r after (Ok tt) → Takes files before now d k h origin after (Ok tt)
+  taken r f u = (r, f, u.0, u.1)
+
+-- ---- all records
+
+none_from : (files : Files) (before middle now : ℕ) (d : Design) (k : ℕ) (origin : Origin) (s : Status) (text : List ℕ) → before ≤ middle → FindsNone files middle now d k origin s text → FindsNone files before now d k origin s text
+none_from files before middle now d k (File name) s text le n = elim n [ inl a ↦ inl (not_loaded files before middle now name longest_record s text le a) | inr a ↦ inr a ]
+none_from files before middle now d k (Made seed rounds) s text le n = n
+
+not_taken_from : (files : Files) (before middle now : ℕ) (d : Design) (k : ℕ) (h : List Entry) (origin : Origin) (s : Status) (text : List ℕ) → before ≤ middle → NotTaken files middle now d k h origin s text → NotTaken files before now d k h origin s text
+not_taken_from files before middle now d k h origin s text le n = elim n [ inl a ↦ inl (none_from files before middle now d k origin s text le a) | inr a ↦ inr a ]
 
 -- the answer where the count of faults is looked at from an earlier time
-pub fills_from : (files : Files) (before middle now : ℕ) (d : Design) (names : List (List ℕ)) (k : ℕ) (h : List Entry) (s : Status) (text : List ℕ) → before ≤ middle → Fills files middle now d k h names s text → Fills files before now d k h names s text
+pub fills_from : (files : Files) (before middle now : ℕ) (d : Design) (origins : List Origin) (k : ℕ) (h : List Entry) (s : Status) (text : List ℕ) → before ≤ middle → Fills files middle now d k h origins s text → Fills files before now d k h origins s text
 fills_from files before middle now d [] k h s text le f = f
-fills_from files before middle now d (name ∷ names) k h s text le f = elim f [
-  | inl a ↦ inl (not_taken_from files before middle now d k h name s text le a)
-  | inr a ↦ inr (a.0, a.1, a.2, fills_from files before middle now d names (k + 1) (behind d h a.0) s text le a.3)
+fills_from files before middle now d (origin ∷ later) k h s text le f = elim f [
+  | inl a ↦ inl (not_taken_from files before middle now d k h origin s text le a)
+  | inr a ↦ inr (a.0, a.1, a.2, fills_from files before middle now d later (k + 1) (behind d h a.0) s text le a.3)
 ]
 
 -- what becomes of the records from here on is the answer
-pub record SoFar (files : Files) (before : ℕ) (d : Design) (names : List (List ℕ)) (k : ℕ) (h : List Entry) (rest : List (List ℕ)) : Type 0 where
-  pub leads : (now : ℕ) (s : Status) (text : List ℕ) → Fills files before now d k h rest s text → Fills files before now d 1 [] names s text
+pub record SoFar (files : Files) (before : ℕ) (d : Design) (origins : List Origin) (k : ℕ) (h : List Entry) (rest : List Origin) : Type 0 where
+  pub leads : (now : ℕ) (s : Status) (text : List ℕ) → Fills files before now d k h rest s text → Fills files before now d 1 [] origins s text
 
-module _ (files : Files) (before : ℕ) (d : Design) (names : List (List ℕ)) where
-  pub begins : (h : List Entry) → h ≡ [] → SoFar files before d names 1 h names
-  begins h e = record { leads = λ now s text f. subst (λ (x : List Entry). Fills files before now d 1 x names s text) e f }
+module _ (files : Files) (before : ℕ) (d : Design) (origins : List Origin) where
+  pub begins : (h : List Entry) → h ≡ [] → SoFar files before d origins 1 h origins
+  begins h e = record { leads = λ now s text f. subst (λ (x : List Entry). Fills files before now d 1 x origins s text) e f }
 
-  module _ (k : ℕ) (h : List Entry) (rest : List (List ℕ)) (so : SoFar files before d names k h rest) where
+  module _ (k : ℕ) (h : List Entry) (rest : List Origin) (so : SoFar files before d origins k h rest) where
     -- the next record is taken in
-    pub goes_on : (middle now : ℕ) (after : List Entry) (name : List ℕ) (later : List (List ℕ)) → rest ≡ name ∷ later → Takes files middle now d k h name after (Ok tt) → SoFar files before d names (k + 1) after later
-    goes_on middle now after name later e t = record {
+    pub goes_on : (middle now : ℕ) (after : List Entry) (origin : Origin) (later : List Origin) → rest ≡ origin ∷ later → Takes files middle now d k h origin after (Ok tt) → SoFar files before d origins (k + 1) after later
+    goes_on middle now after origin later e t = record {
       leads = λ last s text f.
           let g : Fills files before last d (k + 1) (behind d h t.0) later s text = subst (λ (x : List Entry). Fills files before last d (k + 1) x later s text) t.3 f in
-          so.leads last s text (subst (λ (xs : List (List ℕ)). Fills files before last d k h xs s text) (sym e) (inr (t.0, t.1, t.2, g)));
+          so.leads last s text (subst (λ (xs : List Origin). Fills files before last d k h xs s text) (sym e) (inr (t.0, t.1, t.2, g)));
     }
 
     -- it isn't
-    pub stops : (middle now : ℕ) (after : List Entry) (name : List ℕ) (later : List (List ℕ)) → before ≤ middle → rest ≡ name ∷ later → (stop : Stop) → Takes files middle now d k h name after (Err stop) → (last : List Entry) → IsFilled files before now d names last (Err stop)
-    stops middle now after name later le e (Refused a) t last =
-        so.leads now a.status a.text.items (subst (λ (xs : List (List ℕ)). Fills files before now d k h xs a.status a.text.items) (sym e) (inl (not_taken_from files before middle now d k h name a.status a.text.items le t)))
-    stops middle now after name later le e Memory t last = tt
+    pub stops : (middle now : ℕ) (after : List Entry) (origin : Origin) (later : List Origin) → before ≤ middle → rest ≡ origin ∷ later → (stop : Stop) → Takes files middle now d k h origin after (Err stop) → (last : List Entry) → IsFilled files before now d origins last (Err stop)
+    stops middle now after origin later le e (Refused a) t last =
+        so.leads now a.status a.text.items (subst (λ (xs : List Origin). Fills files before now d k h xs a.status a.text.items) (sym e) (inl (not_taken_from files before middle now d k h origin a.status a.text.items le t)))
+    stops middle now after origin later le e Memory t last = tt
 
     -- no record is left
-    pub ends : length rest ≡ 0 → Leads files before d names h
-    ends e = record { ends = λ now s text p. so.leads now s text (subst (λ (xs : List (List ℕ)). Fills files before now d k h xs s text) (sym (empty rest e)) p) }
-      where
-        empty : (xs : List (List ℕ)) → length xs ≡ 0 → xs ≡ []
-        empty [] x = refl
-        empty (y ∷ xs) x = absurd (omega arith)
+    pub ends : rest ≡ [] → Leads files before d origins h
+    ends e = record { ends = λ now s text p. so.leads now s text (subst (λ (xs : List Origin). Fills files before now d k h xs s text) (sym e) p) }
 
--- ---- records of the generator
+-- ---- a record of the generator that is above a limit
 
-pub record MadeSoFar (d : Design) (seed rounds tests test : ℕ) (h : List Entry) (left : ℕ) : Type 0 where
-  pub leads : (s : Status) (text : List ℕ) → FillsMade d seed rounds test h left s text → FillsMade d seed rounds 1 [] tests s text
+module _ (d : Design) (seed rounds test n : ℕ) where
+  pub too_many : (stop : Stop) → IsLine (full_line test (codes "events") 0 n) stop → (most_events < made_events d seed rounds test) × (n ≡ made_events d seed rounds test) → IsMade d seed rounds test (Err stop)
+  too_many (Refused a) l m = (l.0, inl (m.0, l.1 ∙ ap (full_line test (codes "events") 0) m.1))
+  too_many Memory l m = tt
 
-module _ (d : Design) (seed rounds tests : ℕ) where
-  pub begins_made : (h : List Entry) → h ≡ [] → MadeSoFar d seed rounds tests 1 h tests
-  begins_made h e = record { leads = λ s text f. subst (λ (x : List Entry). FillsMade d seed rounds 1 x tests s text) e f }
-
-  module _ (test : ℕ) (h : List Entry) where
-    made_more : (left : ℕ) → MadeSoFar d seed rounds tests test h (suc left) → (after : List Entry) → TakesMade d seed rounds test h after (Ok tt) → MadeSoFar d seed rounds tests (test + 1) after left
-    made_more left so after t = record {
-      leads = λ s text f. so.leads s text (inr (t.0, t.1, t.2, subst (λ (x : List Entry). FillsMade d seed rounds (test + 1) x left s text) t.3 f));
-    }
-
-    pub made_on : (left : ℕ) → 0 < left → MadeSoFar d seed rounds tests test h left → (after : List Entry) → TakesMade d seed rounds test h after (Ok tt) → MadeSoFar d seed rounds tests (test + 1) after (left - 1)
-    made_on zero lt so after t = absurd (omega (arith, lt))
-    made_on (suc left) lt so after t = let e : left ≡ suc left - 1 = omega arith in subst (λ (n : ℕ). MadeSoFar d seed rounds tests (test + 1) after n) e (made_more left so after t)
-
-    pub made_stops : (left : ℕ) → 0 < left → MadeSoFar d seed rounds tests test h left → (after : List Entry) (stop : Stop) → TakesMade d seed rounds test h after (Err stop) → (last : List Entry) → IsFilledMade d seed rounds tests last (Err stop)
-    made_stops zero lt so after stop t last = absurd (omega (arith, lt))
-    made_stops (suc left) lt so after (Refused a) t last = so.leads a.status a.text.items (inl t)
-    made_stops (suc left) lt so after Memory t last = tt
-
-    pub made_ends : (left : ℕ) → left ≤ 0 → MadeSoFar d seed rounds tests test h left → LeadsMade d seed rounds tests h
-    made_ends zero le so = record { ends = λ s text p. so.leads s text p }
-    made_ends (suc left) le so = absurd (omega (arith, le))
-
-  pub too_many : (test n : ℕ) (stop : Stop) → IsLine (full_line test (codes "events") 0 n) stop → (most_events < made_events d seed rounds test) × (n ≡ made_events d seed rounds test) → IsMade d seed rounds test (Err stop)
-  too_many test n (Refused a) l m = (l.0, inl (m.0, l.1 ∙ ap (full_line test (codes "events") 0) m.1))
-  too_many test n Memory l m = tt
-
-  pub too_long : (test n : ℕ) (stop : Stop) → IsLine (full_line test (codes "record") 0 n) stop
+  pub too_long : (stop : Stop) → IsLine (full_line test (codes "record") 0 n) stop
       → (made_events d seed rounds test ≤ most_events) × (longest_record < made_size d seed rounds test) × (n ≡ told (made_size d seed rounds test)) → IsMade d seed rounds test (Err stop)
-  too_long test n (Refused a) l m = (l.0, inr (m.0, m.1, l.1 ∙ ap (full_line test (codes "record") 0) m.2))
-  too_long test n Memory l m = tt
-
-  pub not_made : (test : ℕ) (h after : List Entry) (stop : Stop) → IsMade d seed rounds test (Err stop) → TakesMade d seed rounds test h after (Err stop)
-  not_made test h after (Refused a) m = (m.0, inl m.1)
-  not_made test h after Memory m = tt
-
-  pub made_out : (test : ℕ) (h after : List Entry) (r : Record) (stop : Stop) → IsMade d seed rounds test (Ok r) → Admits d test h r after (Err stop) → TakesMade d seed rounds test h after (Err stop)
-  made_out test h after r (Refused a) m u = (u.1, inr (r, m, u.0))
-  made_out test h after r Memory m u = tt
+  too_long (Refused a) l m = (l.0, inr (m.0, m.1, l.1 ∙ ap (full_line test (codes "record") 0) m.2))
+  too_long Memory l m = tt

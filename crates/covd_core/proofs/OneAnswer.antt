@@ -1,6 +1,6 @@
 -- Told files and a shelf that didn't fail leave one status and one text to the words.
-use Rattle.std.proofs.Common.{◌≡◌, ℕ, ◌<◌, ◌+◌, suc, zero, ◌≤◌, List, [], ◌∷◌, length, Some, None, inl, inr, refl, sym, ap, subst, ◌∙◌, arith}
-use Rattle.std.specs.Prelude.{◌⊎◌, slice_index, Result, Ok, Err, codes}
+use Rattle.std.proofs.Common.{◌≡◌, ℕ, ◌<◌, ◌+◌, ◌≤◌, List, [], ◌∷◌, length, map, Some, None, inl, inr, refl, sym, ap, subst, ◌∙◌, arith}
+use Rattle.std.specs.Prelude.{◌⊎◌, slice_index, replicate, Result, Ok, Err, codes}
 use Rattle.cov_spec.specs.Causes.{Rose}
 use Rattle.cov_spec.specs.Files.{file_of}
 use Rattle.cov_counting.proofs.Bins.{one as tally_is_one}
@@ -27,7 +27,7 @@ use Rattle.cov_history.specs.declared.entry.Entry.{Entry}
 use Rattle.covd_core.specs.Digits.{written, bounded}
 use Rattle.covd_core.specs.Forms.{IsReportCommand, IsMakeCommand}
 use Rattle.covd_core.specs.Admission.{admission, behind, refusal_line, made_fields, made_events, made_size}
-use Rattle.covd_core.specs.Command.{NoDesign, NotTaken, IsTooMuch, NotMade, Fills, FillsMade, Reports, MakesReport}
+use Rattle.covd_core.specs.Command.{NoDesign, Origin, File, Made, Finds, FindsNone, NotTaken, IsTooMuch, Fills, Reports}
 use Rattle.covd_core.proofs.Refusals.{IsReading, design_text_one, dump_text_one, refused_text_one}
 use Rattle.covd_core.proofs.Dumping.{has_design}
 use Rattle.covd_core.proofs.Trees.{one_tree}
@@ -339,18 +339,31 @@ module _ (all : Told) (design dump scope id : List ℕ) where
     record_one_answer : IsOne (Records (Some all) before now design dump scope id)
     record_one_answer s s' text text' h k = case_one all MakesEnds makes_one design s s' text text' (record_case s text h) (record_case s' text' k)
 
--- ---- records from files
+-- ---- records of a store
+
+module _ (d : Design) (seed rounds test : ℕ) where
+  few : (r : Record) → fields_of r ≡ made_fields d seed rounds test → made_events d seed rounds test ≤ most_events
+  few r e = subst (λ (f : Fields). length f.events ≤ most_events) e r.within.event_count
+
+  short : (r : Record) → fields_of r ≡ made_fields d seed rounds test → made_size d seed rounds test ≤ longest_record
+  short r e = subst (λ (f : Fields). length (bytes_of f) ≤ longest_record) e r.within.short
+
+  too_much_one : (text text' : List ℕ) → IsTooMuch d seed rounds test text → IsTooMuch d seed rounds test text' → text ≡ text'
+  too_much_one text text' a b = elim a [
+    | inl x ↦ elim b [ inl y ↦ x.1 ∙ sym y.1 | inr y ↦ absurd (omega (arith, x.0, y.0)) ]
+    | inr x ↦ elim b [ inl y ↦ absurd (omega (arith, x.0, y.0)) | inr y ↦ x.2 ∙ sym y.2 ]
+  ]
+
+  made_within : (r : Record) (text : List ℕ) → fields_of r ≡ made_fields d seed rounds test → IsTooMuch d seed rounds test text → ⊥
+  made_within r text e a = elim a [ inl x ↦ omega (arith, x.0, few r e) | inr x ↦ omega (arith, x.1, short r e) ]
 
 module _ (spells : IsReading) (all : Told) (before now : ℕ) (calm : Rose before now → ⊥) (d : Design) where
-  module _ (k : ℕ) (h : List Entry) (name : List ℕ) where
+  module _ (k : ℕ) (name : List ℕ) where
     abbrev Unloaded : Family
     Unloaded s text = NotLoaded (Some all) before now name longest_record s text
 
     abbrev Misfit : Family
     Misfit s text = (s ≡ status.RecordRefused) × HasNoRecord (Some all) name d k text
-
-    abbrev Unadmitted : Family
-    Unadmitted s text = (r : Record) × HasRecord (Some all) name d r × (s ≡ status.AdmitRefused) × (refusal_line k (admission d h r) ≡ Some text)
 
     unloaded_one : IsOne Unloaded
     unloaded_one s s' text text' a b =
@@ -360,109 +373,70 @@ module _ (spells : IsReading) (all : Told) (before now : ℕ) (calm : Rose befor
     misfit_one s s' text text' a b =
         (a.0 ∙ sym b.0, refused_text_one spells k d b.1.bytes text text' (subst (λ (bytes : List ℕ). IsRefusedText k d bytes text) (same_file all name a.1.bytes b.1.bytes a.1.file b.1.file) a.1.line) b.1.line)
 
-    line_of : (r q : Record) (text text' : List ℕ) → r ≡ q → refusal_line k (admission d h r) ≡ Some text → refusal_line k (admission d h q) ≡ Some text' → text ≡ text'
-    line_of r q text text' same e f = let g : refusal_line k (admission d h r) ≡ Some text' = ap (λ (x : Record). refusal_line k (admission d h x)) same ∙ f in cc (e, g)
-
-    unadmitted_one : IsOne Unadmitted
-    unadmitted_one s s' text text' a b = (a.2 ∙ sym b.2, line_of a.0 b.0 text text' (record_one spells all name d a.0 b.0 a.1 b.1) a.3 b.3)
-
-    -- a record that is had
-    file_had : (s : Status) (text : List ℕ) (r : Record) → HasRecord (Some all) name d r → Unloaded s text → ⊥
-    file_had s text r has a = not_refused all name longest_record s text has.bytes has.file has.short (refused all name before now calm longest_record s text a)
-
     unloaded_or_misfit : AreApart Unloaded Misfit
     unloaded_or_misfit s s' text text' a b = not_refused all name longest_record s text b.1.bytes b.1.file b.1.short (refused all name before now calm longest_record s text a)
 
-    unloaded_or_unadmitted : AreApart Unloaded Unadmitted
-    unloaded_or_unadmitted s s' text text' a b = file_had s text b.0 b.1 a
+    file_none_one : IsOne (Either Unloaded Misfit)
+    file_none_one = either_one Unloaded Misfit unloaded_one misfit_one unloaded_or_misfit
 
-    misfit_or_unadmitted : AreApart Misfit Unadmitted
-    misfit_or_unadmitted s s' text text' a b = no_record spells all name d k b.0 text b.1 a.1
+    -- a record that is had
+    file_found : (s : Status) (text : List ℕ) (r : Record) → HasRecord (Some all) name d r → Either Unloaded Misfit s text → ⊥
+    file_found s text r has x = elim x [
+      | inl a ↦ not_refused all name longest_record s text has.bytes has.file has.short (refused all name before now calm longest_record s text a)
+      | inr a ↦ no_record spells all name d k r text has a.1
+    ]
 
-    not_taken_one : IsOne (NotTaken (Some all) before now d k h name)
-    not_taken_one =
-        either_one Unloaded (Either Misfit Unadmitted) unloaded_one (either_one Misfit Unadmitted misfit_one unadmitted_one misfit_or_unadmitted) (apart_both Unloaded Misfit Unadmitted unloaded_or_misfit unloaded_or_unadmitted)
+  module _ (k : ℕ) where
+    unfound_one : (origin : Origin) → IsOne (FindsNone (Some all) before now d k origin)
+    unfound_one (File name) s s' text text' a b = file_none_one k name s s' text text' a b
+    unfound_one (Made seed rounds) s s' text text' a b = (a.0 ∙ sym b.0, too_much_one d seed rounds k text text' a.1 b.1)
 
-    -- one that is taken in isn't refused
-    taken : (s : Status) (text : List ℕ) (r : Record) → HasRecord (Some all) name d r → refusal_line k (admission d h r) ≡ None → NotTaken (Some all) before now d k h name s text → ⊥
-    taken s text r has free x = elim x [
-      | inl a ↦ file_had s text r has a
-      | inr y ↦ elim y [
-        | inl a ↦ no_record spells all name d k r text has a.1
+    found_one : (origin : Origin) (r q : Record) → Finds (Some all) d k origin r → Finds (Some all) d k origin q → r ≡ q
+    found_one (File name) r q e f = record_one spells all name d r q e f
+    found_one (Made seed rounds) r q e f = same_record r q (e ∙ sym f)
+
+    found_or_not : (origin : Origin) (s : Status) (text : List ℕ) (r : Record) → Finds (Some all) d k origin r → FindsNone (Some all) before now d k origin s text → ⊥
+    found_or_not (File name) s text r f a = file_found k name s text r f a
+    found_or_not (Made seed rounds) s text r f a = made_within d seed rounds k r text f a.1
+
+    module _ (h : List Entry) (origin : Origin) where
+      abbrev Unfound : Family
+      Unfound s text = FindsNone (Some all) before now d k origin s text
+
+      abbrev Unadmitted : Family
+      Unadmitted s text = (r : Record) × Finds (Some all) d k origin r × (s ≡ status.AdmitRefused) × (refusal_line k (admission d h r) ≡ Some text)
+
+      line_of : (r q : Record) (text text' : List ℕ) → r ≡ q → refusal_line k (admission d h r) ≡ Some text → refusal_line k (admission d h q) ≡ Some text' → text ≡ text'
+      line_of r q text text' same e f = let g : refusal_line k (admission d h r) ≡ Some text' = ap (λ (x : Record). refusal_line k (admission d h x)) same ∙ f in cc (e, g)
+
+      unadmitted_one : IsOne Unadmitted
+      unadmitted_one s s' text text' a b = (a.2 ∙ sym b.2, line_of a.0 b.0 text text' (found_one origin a.0 b.0 a.1 b.1) a.3 b.3)
+
+      unfound_or_unadmitted : AreApart Unfound Unadmitted
+      unfound_or_unadmitted s s' text text' a b = found_or_not origin s text b.0 b.1 a
+
+      not_taken_one : IsOne (NotTaken (Some all) before now d k h origin)
+      not_taken_one = either_one Unfound Unadmitted (unfound_one origin) unadmitted_one unfound_or_unadmitted
+
+      -- one that is taken in isn't refused
+      taken : (s : Status) (text : List ℕ) (r : Record) → Finds (Some all) d k origin r → refusal_line k (admission d h r) ≡ None → NotTaken (Some all) before now d k h origin s text → ⊥
+      taken s text r found free x = elim x [
+        | inl a ↦ found_or_not origin s text r found a
         | inr a ↦
             let e = a.3 in
-            let f : refusal_line k (admission d h a.0) ≡ None = ap (λ (q : Record). refusal_line k (admission d h q)) (record_one spells all name d a.0 r a.1 has) ∙ free in
+            let f : refusal_line k (admission d h a.0) ≡ None = ap (λ (q : Record). refusal_line k (admission d h q)) (found_one origin a.0 r a.1 found) ∙ free in
             cc (e, f)
       ]
-    ]
 
-  fills_one : (names : List (List ℕ)) (k : ℕ) (h : List Entry) → IsOne (Fills (Some all) before now d k h names)
+  fills_one : (origins : List Origin) (k : ℕ) (h : List Entry) → IsOne (Fills (Some all) before now d k h origins)
   fills_one [] k h s s' text text' a b = (a.0 ∙ sym b.0, a.1 ∙ sym b.1)
-  fills_one (name ∷ names) k h s s' text text' a b = elim a [
-    | inl x ↦ elim b [ inl y ↦ not_taken_one k h name s s' text text' x y | inr y ↦ absurd (taken k h name s text y.0 y.1 y.2 x) ]
+  fills_one (origin ∷ later) k h s s' text text' a b = elim a [
+    | inl x ↦ elim b [ inl y ↦ not_taken_one k h origin s s' text text' x y | inr y ↦ absurd (taken k h origin s text y.0 y.1 y.2 x) ]
     | inr x ↦ elim b [
-      | inl y ↦ absurd (taken k h name s' text' x.0 x.1 x.2 y)
+      | inl y ↦ absurd (taken k h origin s' text' x.0 x.1 x.2 y)
       | inr y ↦
-          let same = record_one spells all name d y.0 x.0 y.1 x.1 in
-          fills_one names (k + 1) (behind d h x.0) s s' text text' x.3 (subst (λ (r : Record). Fills (Some all) before now d (k + 1) (behind d h r) names s' text') same y.3)
-    ]
-  ]
-
--- ---- records of the generator
-
-module _ (d : Design) (seed rounds : ℕ) where
-  module _ (test : ℕ) (h : List Entry) where
-    one_made : (r q : Record) → fields_of r ≡ made_fields d seed rounds test → fields_of q ≡ made_fields d seed rounds test → r ≡ q
-    one_made r q e f = same_record r q (e ∙ sym f)
-
-    abbrev IsMadeRecord : Record → Type 0
-    IsMadeRecord r = fields_of r ≡ made_fields d seed rounds test
-
-    few : (r : Record) → IsMadeRecord r → made_events d seed rounds test ≤ most_events
-    few r e = subst (λ (f : Fields). length f.events ≤ most_events) e r.within.event_count
-
-    short : (r : Record) → IsMadeRecord r → made_size d seed rounds test ≤ longest_record
-    short r e = subst (λ (f : Fields). length (bytes_of f) ≤ longest_record) e r.within.short
-
-    too_much_one : (text text' : List ℕ) → IsTooMuch d seed rounds test text → IsTooMuch d seed rounds test text' → text ≡ text'
-    too_much_one text text' a b = elim a [
-      | inl x ↦ elim b [ inl y ↦ x.1 ∙ sym y.1 | inr y ↦ absurd (omega (arith, x.0, y.0)) ]
-      | inr x ↦ elim b [ inl y ↦ absurd (omega (arith, x.0, y.0)) | inr y ↦ x.2 ∙ sym y.2 ]
-    ]
-
-    made_within : (r : Record) (text : List ℕ) → IsMadeRecord r → IsTooMuch d seed rounds test text → ⊥
-    made_within r text e a = elim a [ inl x ↦ omega (arith, x.0, few r e) | inr x ↦ omega (arith, x.1, short r e) ]
-
-    line_is : (r q : Record) (text text' : List ℕ) → r ≡ q → refusal_line test (admission d h r) ≡ Some text → refusal_line test (admission d h q) ≡ Some text' → text ≡ text'
-    line_is r q text text' same e f = let g : refusal_line test (admission d h r) ≡ Some text' = ap (λ (x : Record). refusal_line test (admission d h x)) same ∙ f in cc (e, g)
-
-    not_made_one : IsOne (NotMade d seed rounds test h)
-    not_made_one s s' text text' a b = (
-      a.0 ∙ sym b.0,
-      elim a.1 [
-        | inl x ↦ elim b.1 [ inl y ↦ too_much_one text text' x y | inr y ↦ absurd (made_within y.0 text y.1 x) ]
-        | inr x ↦ elim b.1 [ inl y ↦ absurd (made_within x.0 text' x.1 y) | inr y ↦ line_is x.0 y.0 text text' (one_made x.0 y.0 x.1 y.1) x.2 y.2 ]
-      ],
-    )
-
-    made_in : (s : Status) (text : List ℕ) (r : Record) → IsMadeRecord r → refusal_line test (admission d h r) ≡ None → NotMade d seed rounds test h s text → ⊥
-    made_in s text r e free a = elim a.1 [
-      | inl x ↦ made_within r text e x
-      | inr x ↦
-          let g = x.2 in
-          let f : refusal_line test (admission d h x.0) ≡ None = ap (λ (q : Record). refusal_line test (admission d h q)) (one_made x.0 r x.1 e) ∙ free in
-          cc (g, f)
-    ]
-
-  fills_made_one : (left test : ℕ) (h : List Entry) → IsOne (FillsMade d seed rounds test h left)
-  fills_made_one zero test h s s' text text' a b = (a.0 ∙ sym b.0, a.1 ∙ sym b.1)
-  fills_made_one (suc left) test h s s' text text' a b = elim a [
-    | inl x ↦ elim b [ inl y ↦ not_made_one test h s s' text text' x y | inr y ↦ absurd (made_in test h s text y.0 y.1 y.2 x) ]
-    | inr x ↦ elim b [
-      | inl y ↦ absurd (made_in test h s' text' x.0 x.1 x.2 y)
-      | inr y ↦
-          let same = one_made test h y.0 x.0 y.1 x.1 in
-          fills_made_one left (test + 1) (behind d h x.0) s s' text text' x.3 (subst (λ (r : Record). FillsMade d seed rounds (test + 1) (behind d h r) left s' text') same y.3)
+          let same = found_one k origin y.0 x.0 y.1 x.1 in
+          fills_one later (k + 1) (behind d h x.0) s s' text text' x.3 (subst (λ (r : Record). Fills (Some all) before now d (k + 1) (behind d h r) later s' text') same y.3)
     ]
   ]
 
@@ -484,11 +458,8 @@ module _ (all : Told) (design : List ℕ) (before now : ℕ) (calm : Rose before
   with_one s s' text text' h k = case_one all Ends ends_one design s s' text text' (with_case s text h) (with_case s' text' k)
 
 module _ (spells : IsReading) (all : Told) (design : List ℕ) (before now : ℕ) (calm : Rose before now → ⊥) where
-  report_one : (names : List (List ℕ)) → IsOne (Reports (Some all) before now design names)
-  report_one names = with_one all design before now calm (λ d s text. Fills (Some all) before now d 1 [] names s text) (λ d. fills_one spells all before now calm d names 1 [])
-
-  make_one : (seed rounds tests : ℕ) → IsOne (MakesReport (Some all) before now design seed rounds tests)
-  make_one seed rounds tests = with_one all design before now calm (λ d s text. FillsMade d seed rounds 1 [] tests s text) (λ d. fills_made_one d seed rounds tests 1 [])
+  report_one : (origins : List Origin) → IsOne (Reports (Some all) before now design origins)
+  report_one origins = with_one all design before now calm (λ d s text. Fills (Some all) before now d 1 [] origins s text) (λ d. fills_one spells all before now calm d origins 1 [])
 
 -- ---- the words
 
@@ -517,10 +488,10 @@ module _ (spells : IsReading) (words : List (List ℕ)) (all : Told) (before now
   RecordCommand s text = (design dump scope id : List ℕ) × IsRecordCommand words design dump scope id × Records (Some all) before now design dump scope id s text
 
   abbrev ReportCommand : Family
-  ReportCommand s text = (design : List ℕ) × (names : List (List ℕ)) × IsReportCommand words design names × Reports (Some all) before now design names s text
+  ReportCommand s text = (design : List ℕ) × (names : List (List ℕ)) × IsReportCommand words design names × Reports (Some all) before now design (map File names) s text
 
   abbrev MakeCommand : Family
-  MakeCommand s text = (design : List ℕ) × (seed rounds tests : ℕ) × IsMakeCommand words design seed rounds tests × MakesReport (Some all) before now design seed rounds tests s text
+  MakeCommand s text = (design : List ℕ) × (seed rounds tests : ℕ) × IsMakeCommand words design seed rounds tests × Reports (Some all) before now design (replicate tests (Made seed rounds)) s text
 
   none_one : IsOne NoCommand
   none_one s s' text text' a b = (a.1 ∙ sym b.1, a.2 ∙ sym b.2)
@@ -572,8 +543,8 @@ module _ (spells : IsReading) (words : List (List ℕ)) (all : Told) (before now
       let f = b.2.are in
       let one : b.0 ≡ a.0 = cc (e, f) in
       let two : b.1 ≡ a.1 = cc (e, f) in
-      let k : Reports (Some all) before now a.0 a.1 s' text' = rw (sym one, sym two) b.3 in
-      report_one spells all a.0 before now calm a.1 s s' text text' a.3 k
+      let k : Reports (Some all) before now a.0 (map File a.1) s' text' = rw (sym one, sym two) b.3 in
+      report_one spells all a.0 before now calm (map File a.1) s s' text text' a.3 k
 
   makes_one_report : IsOne MakeCommand
   makes_one_report s s' text text' a b =
@@ -588,8 +559,8 @@ module _ (spells : IsReading) (words : List (List ℕ)) (all : Told) (before now
       let two : b.1 ≡ a.1 = same_some _ _ (sym n.seed_is ∙ ap (written 20) seeds ∙ m.seed_is) in
       let three : b.2 ≡ a.2 = same_some _ _ (sym n.rounds_are ∙ ap (λ (word : List ℕ). bounded 0 1048576 (written 7 word)) rounds ∙ m.rounds_are) in
       let four : b.3 ≡ a.3 = same_some _ _ (sym n.tests_are ∙ ap (λ (word : List ℕ). bounded 1 4096 (written 4 word)) tests ∙ m.tests_are) in
-      let k : MakesReport (Some all) before now a.0 a.1 a.2 a.3 s' text' = rw (sym one, sym two, sym three, sym four) b.5 in
-      make_one spells all a.0 before now calm a.1 a.2 a.3 s s' text text' a.5 k
+      let k : Reports (Some all) before now a.0 (replicate a.3 (Made a.1 a.2)) s' text' = rw (sym one, sym two, sym three, sym four) b.5 in
+      report_one spells all a.0 before now calm (replicate a.3 (Made a.1 a.2)) s s' text text' a.5 k
 
   none_or_report : AreApart NoCommand ReportCommand
   none_or_report s s' text text' a b = a.0.3 b.0 b.1 b.2

@@ -1,50 +1,43 @@
 -- Records that are read ahead of their turn, and counted.
-use Rattle.std.specs.Prelude.{◌≡◌, ◌⊎◌, ℕ, ◌+◌, ◌≤◌, List, [], ◌∷◌, length, slice_get, Some, Result, Ok, Err}
-use Rattle.std.specs.Global.{Vec}
-use Rattle.cov_base.specs.Loads.{HasFile}
-use Rattle.cov_ground.specs.Limits.{longest_record}
+use Rattle.std.specs.Prelude.{◌≡◌, ℕ, ◌+◌, ◌^◌, ◌≤◌, List, [], ◌∷◌, length, slice_get, Some, Result, Ok, Err}
 use Rattle.design_data.specs.declared.design.Design.{Design}
 use Rattle.sampler.specs.Plans.{IsTallyOf}
 use Rattle.covd_core.specs.declared.batches.Counted.{Counted}
+use Rattle.covd_core.specs.declared.finding.Source.{Source}
 use Rattle.covd_core.specs.declared.stop.Stop.{Stop}
-use Rattle.covd_core.specs.declared.stop.Stop.TheVariants.{Memory, Refused}
-use Rattle.covd_core.specs.declared.status.Status.TheVariants as status
-use Rattle.covd_core.specs.Command.{Files, NotLoaded, HasRecord, HasNoRecord}
-use Rattle.covd_core.specs.Filling.{IsDecoded}
+use Rattle.covd_core.specs.Command.{Files, Origin, Finds}
+use Rattle.covd_core.specs.Filling.{IsFound}
+use Rattle.covd_core.specs.Origins.{IsRead, IsShort}
 
--- the k-th record from its bytes, with its tally
-abbrev pub IsCounted : (k : ℕ) → Design → List ℕ → Result Counted Stop → Type 0
-IsCounted k d bytes (Ok c) = IsDecoded k d bytes (Ok c.rec) × IsTallyOf d c.rec c.tally
-IsCounted k d bytes (Err stop) = IsDecoded k d bytes (Err stop)
+-- the k-th record with its tally, or why none comes from there
+abbrev pub IsCounted : Files → ℕ → ℕ → Design → (k : ℕ) → Origin → Result Counted Stop → Type 0
+IsCounted files before now d k origin (Ok c) = Finds files d k origin c.rec × IsTallyOf d c.rec c.tally
+IsCounted files before now d k origin (Err stop) = IsFound files before now d k origin (Err stop)
 
--- the same from the file at an index of a batch, the first of which has the k-th record
-abbrev pub IsCountedAt : (k : ℕ) → Design → List (Vec ℕ) → (index : ℕ) → Result Counted Stop → Type 0
-IsCountedAt k d batch index result = (bytes : Vec ℕ) → slice_get batch index ≡ Some bytes → IsCounted (k + index) d bytes.items result
+-- the same of what was read, whatever it was read of
+abbrev pub IsCountedIn : Design → (k : ℕ) → Source → Result Counted Stop → Type 0
+IsCountedIn d k read result = (files : Files) (before now : ℕ) (origin : Origin) → IsRead files origin read → IsCounted files before now d k origin result
+
+-- the same at an index of a batch, the first of which has the k-th record
+abbrev pub IsCountedAt : Design → (k : ℕ) → List Source → (index : ℕ) → Result Counted Stop → Type 0
+IsCountedAt d k batch index result = (read : Source) → slice_get batch index ≡ Some read → IsCountedIn d (k + index) read result
 
 -- no file of the batch is longer than a record
-abbrev pub AreShort : List (Vec ℕ) → Type 0
-AreShort batch = (index : ℕ) (bytes : Vec ℕ) → slice_get batch index ≡ Some bytes → length bytes.items ≤ longest_record
+abbrev pub AreShort : List Source → Type 0
+AreShort batch = (index : ℕ) (read : Source) → slice_get batch index ≡ Some read → IsShort read
 
--- the batch has the files of the first names, in order; the other names are left
-abbrev pub AreRead : Files → (names : List (List ℕ)) → List (Vec ℕ) → (left : List (List ℕ)) → Type 0
-AreRead files names [] left = names ≡ left
-AreRead files [] (bytes ∷ batch) left = ⊥
-AreRead files (name ∷ names) (bytes ∷ batch) left = HasFile files name bytes.items × (length bytes.items ≤ longest_record) × AreRead files names batch left
+-- a batch that begins with the k-th record can be counted
+abbrev pub AreReady : (k : ℕ) → List Source → Type 0
+AreReady k batch = (k + length batch ≤ 2 ^ 64) × AreShort batch
 
--- what is found in the file of the k-th record: the record with its tally, or that it has none that fits the design
-abbrev pub IsFound : Files → Design → (k : ℕ) → (name : List ℕ) → Result Counted Stop → Type 0
-IsFound files d k name (Ok c) = HasRecord files name d c.rec × IsTallyOf d c.rec c.tally
-IsFound files d k name (Err (Refused a)) = (a.status ≡ status.RecordRefused) × HasNoRecord files name d k a.text.items
-IsFound files d k name (Err Memory) = Unit {0}
+-- the batch has what is read of the first origins, in order; the other ones are left
+abbrev pub AreRead : Files → List Origin → List Source → (left : List Origin) → Type 0
+AreRead files origins [] left = origins ≡ left
+AreRead files [] (read ∷ batch) left = ⊥
+AreRead files (origin ∷ origins) (read ∷ batch) left = IsRead files origin read × AreRead files origins batch left
 
--- what is found in the files of the first names, in order, the first of which has the k-th record
-abbrev pub AreFound : Files → Design → (k : ℕ) → (names : List (List ℕ)) → List (Result Counted Stop) → Type 0
-AreFound files d k names [] = Unit {0}
+-- what is found of the first origins, in order, the first of which has the k-th record; no file of theirs was unread
+abbrev pub AreFound : Files → Design → (k : ℕ) → List Origin → List (Result Counted Stop) → Type 0
+AreFound files d k origins [] = Unit {0}
 AreFound files d k [] (result ∷ found) = ⊥
-AreFound files d k (name ∷ names) (result ∷ found) = IsFound files d k name result × AreFound files d (k + 1) names found
-
--- the k-th record with its tally, or why it can't be had
-abbrev pub IsNext : Files → ℕ → ℕ → Design → (k : ℕ) → (name : List ℕ) → Result Counted Stop → Type 0
-IsNext files before now d k name (Ok c) = IsFound files d k name (Ok c)
-IsNext files before now d k name (Err (Refused a)) = NotLoaded files before now name longest_record a.status a.text.items ⊎ IsFound files d k name (Err (Refused a))
-IsNext files before now d k name (Err Memory) = Unit {0}
+AreFound files d k (origin ∷ origins) (result ∷ found) = ((before now : ℕ) → IsCounted files before now d k origin result) × AreFound files d (k + 1) origins found

@@ -2,7 +2,7 @@
 -- the design, compiling; for `count` load of the record, decoding and shape; for `report` the same and admission, record
 -- by record; for `make` the making and the admission of each; for `record` load of the dump, reading it and making its
 -- record; then printing. The first step that refuses decides.
-use Rattle.std.specs.Prelude.{◌≡◌, ◌⊎◌, ℕ, ◌≤◌, List, [], ◌∷◌, length, Option, Some, Ok, Err, codes, zero, suc, ◌+◌, ◌<◌, None}
+use Rattle.std.specs.Prelude.{◌≡◌, ◌⊎◌, ℕ, ◌≤◌, List, [], ◌∷◌, length, map, replicate, Option, Some, Ok, Err, codes, ◌+◌, ◌<◌, None}
 use Rattle.cov_spec.specs.Causes.{Rose}
 use Rattle.cov_spec.specs.Told.{Grows, GrowsByFront, Stays}
 use Rattle.cov_base.specs.Loads.{HasFile, LacksFile, HasLongFile}
@@ -155,29 +155,15 @@ NoDesign files before now name s text = NotLoaded files before now name longest_
 
 -- ---- filling a store, which has the history `h` so far
 
--- the report of a history
-abbrev pub Prints : Design → (h : List Entry) → Status → List ℕ → Type 0
-Prints d h s text = (s ≡ status.Done) × (text ≡ report_text d h)
+-- where a record comes from: the file of this name, or the generator
+pub data Origin : Type 0 where
+  File : (name : List ℕ) → Origin
+  Made : (seed rounds : ℕ) → Origin
 
--- The k-th record isn't taken in: its file can't be had, it has no record that fits the design, or that isn't admitted.
-abbrev pub NotTaken : Files → ℕ → ℕ → Design → (k : ℕ) → (h : List Entry) → (name : List ℕ) → Status → List ℕ → Type 0
-NotTaken files before now d k h name s text =
-    NotLoaded files before now name longest_record s text
-    ⊎ (((s ≡ status.RecordRefused) × HasNoRecord files name d k text)
-    ⊎ ((r : Record) × HasRecord files name d r × (s ≡ status.AdmitRefused) × (refusal_line k (admission d h r) ≡ Some text)))
-
--- The records of these files are taken in one after the other, the first of them being the k-th, and the report is printed;
--- or the first that isn't taken in decides.
-abbrev pub Fills : Files → ℕ → ℕ → Design → (k : ℕ) → (h : List Entry) → (names : List (List ℕ)) → Status → List ℕ → Type 0
-Fills files before now d k h [] s text = Prints d h s text
-Fills files before now d k h (name ∷ names) s text =
-    NotTaken files before now d k h name s text
-    ⊎ ((r : Record) × HasRecord files name d r × (refusal_line k (admission d h r) ≡ None) × Fills files before now d (k + 1) (behind d h r) names s text)
-
--- Status and text of `report DESIGN RECORD ..`.
-abbrev pub Reports : Files → ℕ → ℕ → (design : List ℕ) → (names : List (List ℕ)) → Status → List ℕ → Type 0
-Reports files before now design names s text =
-    NoDesign files before now design s text ⊎ ((d : Design) × HasDesign files design d × Fills files before now d 1 [] names s text)
+-- the k-th record comes from there; of the generator it is that of the test with this number
+abbrev pub Finds : Files → Design → (k : ℕ) → Origin → Record → Type 0
+Finds files d k (File name) r = HasRecord files name d r
+Finds files d k (Made seed rounds) r = fields_of r ≡ made_fields d seed rounds k
 
 -- the record of a test would have too many events, or else too many bytes, and the line says how many
 abbrev pub IsTooMuch : Design → (seed rounds test : ℕ) → List ℕ → Type 0
@@ -185,30 +171,39 @@ IsTooMuch d seed rounds test text =
     ((most_events < made_events d seed rounds test) × (text ≡ full_line test (codes "events") 0 (made_events d seed rounds test)))
     ⊎ ((made_events d seed rounds test ≤ most_events) × (longest_record < made_size d seed rounds test) × (text ≡ full_line test (codes "record") 0 (told (made_size d seed rounds test))))
 
--- The record of a test isn't taken in: it is above a limit, or isn't admitted.
-abbrev pub NotMade : Design → (seed rounds test : ℕ) → (h : List Entry) → Status → List ℕ → Type 0
-NotMade d seed rounds test h s text =
-    (s ≡ status.AdmitRefused)
-    × (IsTooMuch d seed rounds test text ⊎ ((r : Record) × (fields_of r ≡ made_fields d seed rounds test) × (refusal_line test (admission d h r) ≡ Some text)))
+-- No k-th record comes from there: the file can't be had, or has no record that fits the design; or a limit is passed.
+abbrev pub FindsNone : Files → ℕ → ℕ → Design → (k : ℕ) → Origin → Status → List ℕ → Type 0
+FindsNone files before now d k (File name) s text = NotLoaded files before now name longest_record s text ⊎ ((s ≡ status.RecordRefused) × HasNoRecord files name d k text)
+FindsNone files before now d k (Made seed rounds) s text = (s ≡ status.AdmitRefused) × IsTooMuch d seed rounds k text
 
--- So many records are made and taken in one after the other, the first of them being that of this test, and the report is
+-- The k-th record isn't taken in: it isn't found, or isn't admitted.
+abbrev pub NotTaken : Files → ℕ → ℕ → Design → (k : ℕ) → (h : List Entry) → Origin → Status → List ℕ → Type 0
+NotTaken files before now d k h origin s text =
+    FindsNone files before now d k origin s text
+    ⊎ ((r : Record) × Finds files d k origin r × (s ≡ status.AdmitRefused) × (refusal_line k (admission d h r) ≡ Some text))
+
+-- the report of a history
+abbrev pub Prints : Design → (h : List Entry) → Status → List ℕ → Type 0
+Prints d h s text = (s ≡ status.Done) × (text ≡ report_text d h)
+
+-- The records that come from there are taken in one after the other, the first of them being the k-th, and the report is
 -- printed; or the first that isn't taken in decides.
-abbrev pub FillsMade : Design → (seed rounds test : ℕ) → (h : List Entry) → (left : ℕ) → Status → List ℕ → Type 0
-FillsMade d seed rounds test h zero s text = Prints d h s text
-FillsMade d seed rounds test h (suc left) s text =
-    NotMade d seed rounds test h s text
-    ⊎ ((r : Record) × (fields_of r ≡ made_fields d seed rounds test) × (refusal_line test (admission d h r) ≡ None) × FillsMade d seed rounds (test + 1) (behind d h r) left s text)
+abbrev pub Fills : Files → ℕ → ℕ → Design → (k : ℕ) → (h : List Entry) → List Origin → Status → List ℕ → Type 0
+Fills files before now d k h [] s text = Prints d h s text
+Fills files before now d k h (origin ∷ later) s text =
+    NotTaken files before now d k h origin s text
+    ⊎ ((r : Record) × Finds files d k origin r × (refusal_line k (admission d h r) ≡ None) × Fills files before now d (k + 1) (behind d h r) later s text)
 
--- Status and text of `make DESIGN SEED EVENTS TESTS`.
-abbrev pub MakesReport : Files → ℕ → ℕ → (design : List ℕ) → (seed rounds tests : ℕ) → Status → List ℕ → Type 0
-MakesReport files before now design seed rounds tests s text =
-    NoDesign files before now design s text ⊎ ((d : Design) × HasDesign files design d × FillsMade d seed rounds 1 [] tests s text)
+-- Status and text of a command that fills a store over this design with the records that come from there.
+abbrev pub Reports : Files → ℕ → ℕ → (design : List ℕ) → List Origin → Status → List ℕ → Type 0
+Reports files before now design origins s text =
+    NoDesign files before now design s text ⊎ ((d : Design) × HasDesign files design d × Fills files before now d 1 [] origins s text)
 
--- Status and text of the words of the two.
+-- Status and text of `report DESIGN RECORD ..`, and of `make DESIGN SEED EVENTS TESTS`.
 abbrev pub FillAnswers : List (List ℕ) → Files → ℕ → ℕ → Status → List ℕ → Type 0
 FillAnswers words files before now s text =
-    ((design : List ℕ) × (names : List (List ℕ)) × IsReportCommand words design names × Reports files before now design names s text)
-    ⊎ ((design : List ℕ) × (seed rounds tests : ℕ) × IsMakeCommand words design seed rounds tests × MakesReport files before now design seed rounds tests s text)
+    ((design : List ℕ) × (names : List (List ℕ)) × IsReportCommand words design names × Reports files before now design (map File names) s text)
+    ⊎ ((design : List ℕ) × (seed rounds tests : ℕ) × IsMakeCommand words design seed rounds tests × Reports files before now design (replicate tests (Made seed rounds)) s text)
 
 -- Status and text of any words; `before` and `now` are the counts of the shelf's faults.
 abbrev pub Answers : List (List ℕ) → Files → ℕ → ℕ → Status → List ℕ → Type 0

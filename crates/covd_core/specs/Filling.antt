@@ -1,6 +1,5 @@
 -- What the steps of filling a store answer.
 use Rattle.std.specs.Prelude.{◌≡◌, ℕ, List, [], Some, None, Result, Ok, Err}
-use Rattle.cov_ground.specs.Limits.{longest_record}
 use Rattle.design_data.specs.declared.design.Design.{Design}
 use Rattle.record_codec.specs.declared.record.Record.{Record}
 use Rattle.record_codec.specs.Spelling.{Encodes, fields_of}
@@ -16,7 +15,7 @@ use Rattle.covd_core.specs.declared.stop.Stop.TheVariants.{Memory, Refused}
 use Rattle.covd_core.specs.declared.status.Status.{Status}
 use Rattle.covd_core.specs.declared.status.Status.TheVariants as status
 use Rattle.covd_core.specs.Admission.{admission, behind, refusal_line, made_fields}
-use Rattle.covd_core.specs.Command.{Files, NotLoaded, HasRecord, IsRefusedText, NotTaken, IsTooMuch, NotMade, Prints, Fills, FillsMade}
+use Rattle.covd_core.specs.Command.{Files, Origin, Finds, FindsNone, IsRefusedText, NotTaken, IsTooMuch, Prints, Fills}
 
 -- a store over this design, which no entry has changed
 pub record IsPlain (d : Design) (s : Store) : Type 0 where
@@ -41,22 +40,11 @@ Admits d k h r after (Ok done) = (refusal_line k (admission d h r) ≡ None) × 
 Admits d k h r after (Err (Refused a)) = (refusal_line k (admission d h r) ≡ Some a.text.items) × (a.status ≡ status.AdmitRefused)
 Admits d k h r after (Err Memory) = Unit {0}
 
--- why the file of a record can't be had
-abbrev pub IsUnread : Files → ℕ → ℕ → List ℕ → Stop → Type 0
-IsUnread files before now name (Refused a) = NotLoaded files before now name longest_record a.status a.text.items
-IsUnread files before now name Memory = Unit {0}
-
 -- the k-th record from its bytes
 abbrev pub IsDecoded : (k : ℕ) → Design → List ℕ → Result Record Stop → Type 0
 IsDecoded k d bytes (Ok r) = Encodes r bytes × Fits d r
 IsDecoded k d bytes (Err (Refused a)) = (a.status ≡ status.RecordRefused) × ((r : Record) → Encodes r bytes → Fits d r → ⊥) × IsRefusedText k d bytes a.text.items
 IsDecoded k d bytes (Err Memory) = Unit {0}
-
--- the k-th record is taken in from its file
-abbrev pub Takes : Files → ℕ → ℕ → Design → (k : ℕ) → List Entry → (name : List ℕ) → (after : List Entry) → Result (Unit {0}) Stop → Type 0
-Takes files before now d k h name after (Ok done) = (r : Record) × HasRecord files name d r × (refusal_line k (admission d h r) ≡ None) × (after ≡ behind d h r)
-Takes files before now d k h name after (Err (Refused a)) = NotTaken files before now d k h name a.status a.text.items
-Takes files before now d k h name after (Err Memory) = Unit {0}
 
 -- the record of a test
 abbrev pub IsMade : Design → (seed rounds test : ℕ) → Result Record Stop → Type 0
@@ -64,27 +52,29 @@ IsMade d seed rounds test (Ok r) = fields_of r ≡ made_fields d seed rounds tes
 IsMade d seed rounds test (Err (Refused a)) = (a.status ≡ status.AdmitRefused) × IsTooMuch d seed rounds test a.text.items
 IsMade d seed rounds test (Err Memory) = Unit {0}
 
--- it is made and taken in
-abbrev pub TakesMade : Design → (seed rounds test : ℕ) → List Entry → (after : List Entry) → Result (Unit {0}) Stop → Type 0
-TakesMade d seed rounds test h after (Ok done) = (r : Record) × (fields_of r ≡ made_fields d seed rounds test) × (refusal_line test (admission d h r) ≡ None) × (after ≡ behind d h r)
-TakesMade d seed rounds test h after (Err (Refused a)) = NotMade d seed rounds test h a.status a.text.items
-TakesMade d seed rounds test h after (Err Memory) = Unit {0}
+-- the k-th record, or why none comes from there
+abbrev pub IsFound : Files → ℕ → ℕ → Design → (k : ℕ) → Origin → Result Record Stop → Type 0
+IsFound files before now d k origin (Ok r) = Finds files d k origin r
+IsFound files before now d k origin (Err (Refused a)) = FindsNone files before now d k origin a.status a.text.items
+IsFound files before now d k origin (Err Memory) = Unit {0}
+
+-- why nothing can be read of an origin: no record comes from there
+abbrev pub NoneComes : Files → ℕ → ℕ → Origin → Stop → Type 0
+NoneComes files before now origin stop = (d : Design) (k : ℕ) → IsFound files before now d k origin (Err stop)
+
+-- the k-th record is found and taken in
+abbrev pub Takes : Files → ℕ → ℕ → Design → (k : ℕ) → List Entry → Origin → (after : List Entry) → Result (Unit {0}) Stop → Type 0
+Takes files before now d k h origin after (Ok done) = (r : Record) × Finds files d k origin r × (refusal_line k (admission d h r) ≡ None) × (after ≡ behind d h r)
+Takes files before now d k h origin after (Err (Refused a)) = NotTaken files before now d k h origin a.status a.text.items
+Takes files before now d k h origin after (Err Memory) = Unit {0}
 
 -- ---- all of them
 
 -- what is printed of this history is the answer
-pub record Leads (files : Files) (before : ℕ) (d : Design) (names : List (List ℕ)) (h : List Entry) : Type 0 where
-  pub ends : (now : ℕ) (s : Status) (text : List ℕ) → Prints d h s text → Fills files before now d 1 [] names s text
+pub record Leads (files : Files) (before : ℕ) (d : Design) (origins : List Origin) (h : List Entry) : Type 0 where
+  pub ends : (now : ℕ) (s : Status) (text : List ℕ) → Prints d h s text → Fills files before now d 1 [] origins s text
 
-abbrev pub IsFilled : Files → ℕ → ℕ → Design → List (List ℕ) → (after : List Entry) → Result (Unit {0}) Stop → Type 0
-IsFilled files before now d names after (Ok done) = Leads files before d names after
-IsFilled files before now d names after (Err (Refused a)) = Fills files before now d 1 [] names a.status a.text.items
-IsFilled files before now d names after (Err Memory) = Unit {0}
-
-pub record LeadsMade (d : Design) (seed rounds tests : ℕ) (h : List Entry) : Type 0 where
-  pub ends : (s : Status) (text : List ℕ) → Prints d h s text → FillsMade d seed rounds 1 [] tests s text
-
-abbrev pub IsFilledMade : Design → (seed rounds tests : ℕ) → (after : List Entry) → Result (Unit {0}) Stop → Type 0
-IsFilledMade d seed rounds tests after (Ok done) = LeadsMade d seed rounds tests after
-IsFilledMade d seed rounds tests after (Err (Refused a)) = FillsMade d seed rounds 1 [] tests a.status a.text.items
-IsFilledMade d seed rounds tests after (Err Memory) = Unit {0}
+abbrev pub IsFilled : Files → ℕ → ℕ → Design → List Origin → (after : List Entry) → Result (Unit {0}) Stop → Type 0
+IsFilled files before now d origins after (Ok done) = Leads files before d origins after
+IsFilled files before now d origins after (Err (Refused a)) = Fills files before now d 1 [] origins a.status a.text.items
+IsFilled files before now d origins after (Err Memory) = Unit {0}

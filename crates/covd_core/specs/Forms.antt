@@ -1,6 +1,11 @@
 -- The words of the commands that fill a store.
 use Rattle.std.specs.Prelude.{◌≡◌, ℕ, List, [], ◌∷◌, codes, Some}
+use Rattle.cov_ground.specs.Limits.{most_tests}
 use Rattle.covd_core.specs.Digits.{written, bounded}
+
+-- rounds of a test, at most
+abbrev pub most_rounds : ℕ
+most_rounds = 1048576
 
 -- the words are `report`, the design's name and the names of one record or more
 pub record IsReportCommand (words : List (List ℕ)) (design : List ℕ) (names : List (List ℕ)) : Type 0 where
@@ -15,8 +20,8 @@ pub record IsMakeCommand (words : List (List ℕ)) (design : List ℕ) (seed rou
   pub tests_word : List ℕ
   pub are : words ≡ codes "make" ∷ design ∷ seed_word ∷ rounds_word ∷ tests_word ∷ []
   pub seed_is : written 20 seed_word ≡ Some seed
-  pub rounds_are : bounded 0 1048576 (written 7 rounds_word) ≡ Some rounds
-  pub tests_are : bounded 1 4096 (written 4 tests_word) ≡ Some tests
+  pub rounds_are : bounded 0 most_rounds (written 7 rounds_word) ≡ Some rounds
+  pub tests_are : bounded 1 most_tests (written 4 tests_word) ≡ Some tests
 
 abbrev pub IsNoReport : List (List ℕ) → Type 0
 IsNoReport words = (design : List ℕ) (names : List (List ℕ)) → IsReportCommand words design names → ⊥

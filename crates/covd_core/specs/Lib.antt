@@ -7,6 +7,7 @@ pub mod Starts
 pub mod Forms
 pub mod Filling
 pub mod Batches
+pub mod Origins
 pub mod Digits
 pub mod Admission
 pub mod Statuses

@@ -1,7 +1,8 @@
 //! The words of the commands that fill a store.
 ghost use Rattle.std.specs.Prelude.{◌≡◌, ◌∷◌, [], ℕ, Some, List, map, string_bytes, codes, IfSome, MatchOption};
+ghost use Rattle.cov_ground.specs.Limits.{most_tests};
 ghost use Rattle.covd_core.specs.Digits.{written as written_meant, bounded as bounded_meant};
-ghost use Rattle.covd_core.specs.Forms.{IsReportCommand, IsNoReport, IsMakeCommand, IsNoMake};
+ghost use Rattle.covd_core.specs.Forms.{most_rounds, IsReportCommand, IsNoReport, IsMakeCommand, IsNoMake};
 
 use crate::numbers::{rounds_of, seed_of, tests_of};
 
@@ -56,8 +57,8 @@ fn three(words: &[String]) -> Option<(&str, &str, &str)>
 /// The numbers of `make`.
 fn numbers_of(seed: &str, rounds: &str, tests: &str) -> Option<Numbers>
     ensures { MatchOption result
-        ((s r t : ℕ) → written_meant 20 seed.now ≡ Some s → bounded_meant 0 1048576 (written_meant 7 rounds.now) ≡ Some r → bounded_meant 1 4096 (written_meant 4 tests.now) ≡ Some t → ⊥)
-        (λ n. (written_meant 20 seed.now ≡ Some n.seed) × (bounded_meant 0 1048576 (written_meant 7 rounds.now) ≡ Some n.rounds) × (bounded_meant 1 4096 (written_meant 4 tests.now) ≡ Some n.tests)) }
+        ((s r t : ℕ) → written_meant 20 seed.now ≡ Some s → bounded_meant 0 most_rounds (written_meant 7 rounds.now) ≡ Some r → bounded_meant 1 most_tests (written_meant 4 tests.now) ≡ Some t → ⊥)
+        (λ n. (written_meant 20 seed.now ≡ Some n.seed) × (bounded_meant 0 most_rounds (written_meant 7 rounds.now) ≡ Some n.rounds) × (bounded_meant 1 most_tests (written_meant 4 tests.now) ≡ Some n.tests)) }
 {
     let seed = seed_of(seed)?;
     let rounds = rounds_of(rounds)?;

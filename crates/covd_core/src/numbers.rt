@@ -1,6 +1,13 @@
 //! Decimal numbers in words.
 ghost use Rattle.std.specs.Prelude.{◌≡◌};
+ghost use Rattle.cov_ground.specs.Limits.{most_tests};
+ghost use Rattle.covd_core.specs.Forms.{most_rounds};
 ghost use Rattle.covd_core.specs.Digits.{with_digit as with_digit_meant, written as written_meant, bounded as bounded_meant};
+
+use cov_ground::limits::MOST_TESTS;
+
+/// Rounds of a test, at most.
+const MOST_ROUNDS: u64 = 1_048_576;
 
 /// The number with a digit behind it.
 fn with_digit(number: u64, byte: u8) -> Option<u64>
@@ -59,14 +66,14 @@ pub(crate) fn seed_of(word: &str) -> Option<u64>
 
 /// A number of rounds: one digit to 7 digits, at most 1,048,576.
 pub(crate) fn rounds_of(word: &str) -> Option<u64>
-    ensures { result ≡ bounded_meant 0 1048576 (written_meant 7 word.now) }
+    ensures { result ≡ bounded_meant 0 most_rounds (written_meant 7 word.now) }
 {
-    bounded(0, 1_048_576, written(7, word.as_bytes()))
+    bounded(0, MOST_ROUNDS, written(7, word.as_bytes()))
 }
 
 /// A number of tests: one digit to 4 digits, from 1 to 4,096.
 pub(crate) fn tests_of(word: &str) -> Option<u64>
-    ensures { result ≡ bounded_meant 1 4096 (written_meant 4 word.now) }
+    ensures { result ≡ bounded_meant 1 most_tests (written_meant 4 word.now) }
 {
-    bounded(1, 4_096, written(4, word.as_bytes()))
+    bounded(1, MOST_TESTS, written(4, word.as_bytes()))
 }

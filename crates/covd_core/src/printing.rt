@@ -8,8 +8,9 @@ use crate::answer::Answer;
 use crate::check::check;
 use crate::count::count;
 use crate::forms::{make_words, report_words};
+use crate::origins::Origins;
 use crate::record::{record_dump, record_words};
-use crate::report::{make, report};
+use crate::report::report;
 use crate::texts::bad_words;
 use crate::writing::write_all;
 use cov_base::{Link, Memory, Shelf};
@@ -62,10 +63,10 @@ fn filled<R: Threads + Sync, F: Shelf>(
     ensures untouched { IfNone result (shelf.new ≡ shelf.old) }
 {
     if let Some((design, names)) = report_words(words) {
-        return Some(report(rt, alloc, design, names, shelf));
+        return Some(report(rt, alloc, design, Origins::Files(names), shelf));
     }
     match make_words(words) {
-        Some((design, numbers)) => Some(make(rt, alloc, design, numbers, shelf)),
+        Some((design, numbers)) => Some(report(rt, alloc, design, Origins::Made(numbers), shelf)),
         None => None,
     }
 }

@@ -1,17 +1,17 @@
-//! The commands `report` and `make`.
-ghost use Rattle.std.specs.Prelude.{◌≡◌, ◌≤◌, [], map, string_bytes, IfOk};
+//! The commands `report` and `make`, which fill a store and print its report.
+ghost use Rattle.std.specs.Prelude.{◌≡◌, ◌≤◌, [], IfOk};
 ghost use Rattle.std.specs.Arc.{arc_value};
 ghost use Rattle.sampler.specs.Plans.{IsDesignPlan};
 ghost use Rattle.merge_store.specs.Stores.{entries_of};
-ghost use Rattle.covd_core.specs.Command.{Fills, FillsMade, Prints, Reports, MakesReport};
+ghost use Rattle.covd_core.specs.Command.{Fills, Prints, Reports};
 ghost use Rattle.covd_core.specs.Filling.{IsPlain};
+ghost use Rattle.covd_core.specs.Origins.{origins_of};
 
 use crate::Status;
 use crate::answer::Answer;
 use crate::filling::fill;
-use crate::forms::Numbers;
 use crate::loading::{HadDesign, had_design};
-use crate::making::fill_made;
+use crate::origins::Origins;
 use cov_base::{Memory, Shelf};
 use cov_report::report_lines;
 use design_data::Design;
@@ -44,14 +44,14 @@ fn printed<R: Threads + Sync>(rt: &R, alloc: Global, store: &Store) -> Result<An
     })
 }
 
-/// The answer of a store that takes in the records of these files.
+/// The answer of a store that takes in the records that come from there.
 fn filled_into<R: Threads + Sync, F: Shelf>(
     rt: &R,
     alloc: Global,
     design: &Arc<Design>,
     plan: &Plan,
     store: &mut Store,
-    names: &[String],
+    origins: Origins,
     shelf: &mut F,
 ) -> Result<Answer, Memory>
     requires plain { IsPlain (arc_value design.now) store.old }
@@ -59,97 +59,48 @@ fn filled_into<R: Threads + Sync, F: Shelf>(
     requires fresh { entries_of store.old ≡ [] }
     ensures same { F.files shelf.new ≡ F.files shelf.old }
     ensures later { F.faults shelf.old ≤ F.faults shelf.new }
-    ensures answer { IfOk result (λ a. Fills (F.files shelf.old) (F.faults shelf.old) (F.faults shelf.new) (arc_value design.now) 1 [] (map string_bytes names.now) a.status a.text.items) }
+    ensures answer { IfOk result (λ a. Fills (F.files shelf.old) (F.faults shelf.old) (F.faults shelf.new)
+        (arc_value design.now) 1 [] (origins_of origins.entry) a.status a.text.items) }
 {
-    match fill(rt, alloc, design, plan, store, names, shelf) {
+    match fill(rt, alloc, design, plan, store, origins, shelf) {
         Ok(()) => printed(rt, alloc, store),
         Err(stop) => stop.into_answer(),
     }
 }
 
-/// The answer to the records of these files.
+/// The answer to the records that come from there.
 fn filled<R: Threads + Sync, F: Shelf>(
     rt: &R,
     alloc: Global,
     design: Design,
-    names: &[String],
+    origins: Origins,
     shelf: &mut F,
 ) -> Result<Answer, Memory>
     ensures same { F.files shelf.new ≡ F.files shelf.old }
     ensures later { F.faults shelf.old ≤ F.faults shelf.new }
-    ensures answer { IfOk result (λ a. Fills (F.files shelf.old) (F.faults shelf.old) (F.faults shelf.new) design 1 [] (map string_bytes names.now) a.status a.text.items) }
+    ensures answer { IfOk result (λ a. Fills (F.files shelf.old) (F.faults shelf.old) (F.faults shelf.new)
+        design 1 [] (origins_of origins.entry) a.status a.text.items) }
 {
     let (design, mut store) = opened(alloc, design)?;
     let plan = Plan::of(alloc, &design)?;
-    filled_into(rt, alloc, &design, &plan, &mut store, names, shelf)
+    filled_into(rt, alloc, &design, &plan, &mut store, origins, shelf)
 }
 
-/// Loads, compiles, takes the records in and prints the report.
+/// Loads, compiles, takes the records that come from there in and prints the report.
 pub(crate) fn report<R: Threads + Sync, F: Shelf>(
     rt: &R,
     alloc: Global,
     design: &str,
-    names: &[String],
+    origins: Origins,
     shelf: &mut F,
 ) -> Result<Answer, Memory>
     ensures same { F.files shelf.new ≡ F.files shelf.old }
     ensures later { F.faults shelf.old ≤ F.faults shelf.new }
-    ensures answer { IfOk result (λ a. Reports (F.files shelf.old) (F.faults shelf.old) (F.faults shelf.new) design.now (map string_bytes names.now) a.status a.text.items) }
+    ensures answer { IfOk result (λ a. Reports (F.files shelf.old) (F.faults shelf.old) (F.faults shelf.new)
+        design.now (origins_of origins.entry) a.status a.text.items) }
 {
     match had_design(alloc, design, shelf)? {
-        HadDesign::Compiled(design) => filled(rt, alloc, design, names, shelf),
-        HadDesign::Refused(answer) => Ok(answer),
-    }
-}
-
-/// The answer of a store that takes in the records of the generator.
-fn made_into<R: Threads + Sync>(
-    rt: &R,
-    alloc: Global,
-    design: &Arc<Design>,
-    plan: &Plan,
-    store: &mut Store,
-    numbers: Numbers,
-) -> Result<Answer, Memory>
-    requires plain { IsPlain (arc_value design.now) store.old }
-    requires planned { IsDesignPlan (arc_value design.now).instances plan.now }
-    requires fresh { entries_of store.old ≡ [] }
-    ensures { IfOk result (λ a. FillsMade (arc_value design.now) numbers.seed numbers.rounds 1 [] numbers.tests a.status a.text.items) }
-{
-    match fill_made(rt, alloc, design, plan, store, numbers) {
-        Ok(()) => printed(rt, alloc, store),
-        Err(stop) => stop.into_answer(),
-    }
-}
-
-/// The answer to the records of the generator.
-fn made<R: Threads + Sync>(
-    rt: &R,
-    alloc: Global,
-    design: Design,
-    numbers: Numbers,
-) -> Result<Answer, Memory>
-    ensures { IfOk result (λ a. FillsMade design numbers.seed numbers.rounds 1 [] numbers.tests a.status a.text.items) }
-{
-    let (design, mut store) = opened(alloc, design)?;
-    let plan = Plan::of(alloc, &design)?;
-    made_into(rt, alloc, &design, &plan, &mut store, numbers)
-}
-
-/// Loads, compiles, makes the records, takes them in and prints the report.
-pub(crate) fn make<R: Threads + Sync, F: Shelf>(
-    rt: &R,
-    alloc: Global,
-    design: &str,
-    numbers: Numbers,
-    shelf: &mut F,
-) -> Result<Answer, Memory>
-    ensures same { F.files shelf.new ≡ F.files shelf.old }
-    ensures later { F.faults shelf.old ≤ F.faults shelf.new }
-    ensures answer { IfOk result (λ a. MakesReport (F.files shelf.old) (F.faults shelf.old) (F.faults shelf.new) design.now numbers.seed numbers.rounds numbers.tests a.status a.text.items) }
-{
-    match had_design(alloc, design, shelf)? {
-        HadDesign::Compiled(design) => made(rt, alloc, design, numbers),
+        HadDesign::Compiled(design) => filled(rt, alloc, design, origins, shelf),
         HadDesign::Refused(answer) => Ok(answer),
     }
 }

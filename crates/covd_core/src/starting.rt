@@ -74,9 +74,10 @@ pub fn serve_start<F: Shelf, L: Link>(
     shelf: &mut F,
     link: &mut L,
 ) -> Result<(ServeWords, Compiled), Status>
-    ensures starts { Starts (map string_bytes words.now) (F.files shelf.old) (F.faults shelf.old)
-        (F.faults shelf.new) (L.write_faults link.old) (L.write_faults link.new) (L.written link.old)
-        (L.written link.new) result }
+    ensures starts { Starts (map string_bytes words.now)
+        (F.files shelf.old) (F.faults shelf.old) (F.faults shelf.new)
+        (L.write_faults link.old) (L.write_faults link.new)
+        (L.written link.old) (L.written link.new) result }
     ensures servable { IfOk result (λ p. IsServable (length words.now) p.0) }
     ensures files { F.files shelf.new ≡ F.files shelf.old }
     ensures shelf_faults { F.faults shelf.old ≤ F.faults shelf.new }

@@ -1,28 +1,26 @@
-use Rattle.std.proofs.Common.{◌≡◌, ℕ, List, ◌∷◌, [], length, map, sym, ap, subst, ◌∙◌, arith}
-use Rattle.std.specs.Prelude.{string_bytes}
-use Rattle.std.specs.Global.{Vec}
+use Rattle.std.proofs.Common.{List, ◌∷◌, [], length, sym, ap, subst, ◌∙◌, arith}
 use Rattle.std.proofs.lemmas.List.{length-append}
-use Rattle.cov_base.specs.Loads.{HasFile}
-use Rattle.covd_core.specs.Command.{Files}
+use Rattle.covd_core.specs.declared.finding.Source.{Source}
+use Rattle.covd_core.specs.Command.{Files, Origin}
+use Rattle.covd_core.specs.Origins.{origin_of, origins_of, IsRead}
 use Rattle.covd_core.specs.Batches.{AreRead}
 use Rattle.covd_core.proofs.Ahead.{read_on}
 use Rattle.covd_core.proofs.batches.read_more.Goals as goal
 
-pub loop-name-preserved : goal.loop-name-preserved
-loop-name-preserved g c =
+pub loop-origin-preserved : goal.loop-origin-preserved
+loop-origin-preserved g c =
     let files : Files = g.F.Shelf.files c.args.shelf.now in
-    let inv = c.loop-name.invariant in
-    let name = c.as_str.result.now in
-    let later = map string_bytes c.in-Some.later.now in
-    let bytes = c.in-Ok.bytes in
-    let had = c.in-Ok.ensures.had in
-    let file : HasFile files name bytes.items = subst (λ (f : Files). HasFile f name bytes.items) inv.same had.0 in
-    let e : map string_bytes c.loop-name.rest.now ≡ name ∷ later = ap (map string_bytes) c.in-Some.ensures.cases.0 ∙ (λ i. (sym c.as_str.ensures.value) i ∷ later) in
-    let pushed = c.in_ok-push_file.ensures in
+    let inv = c.loop-origin.invariant in
+    let origin = origin_of c.in-Some.origin in
+    let later = origins_of c.in-Some.later in
+    let batch = c.loop-origin.batch.items in
+    let source = c.in-Ok.source in
+    let read : IsRead files origin source = subst (λ (f : Files). IsRead f origin source) inv.same c.in-Ok.ensures.read in
+    let pushed = c.in_ok-push_source.ensures in
     record {
       same = c.in-Ok.ensures.same ∙ inv.same;
       later = omega (arith, inv.later, c.in-Ok.ensures.later);
-      grows = omega (arith, inv.grows, ap (λ (xs : List (Vec ℕ)). length xs) pushed, length-append c.loop-name.batch.items (bytes ∷ []));
-      read = λ all r. subst (λ (xs : List (Vec ℕ)). AreRead files all xs later) (sym pushed)
-          (read_on files all c.loop-name.batch.items name later bytes file had.1 (subst (λ (left : List (List ℕ)). AreRead files all c.loop-name.batch.items left) e (inv.read all r)));
+      grows = omega (arith, inv.grows, ap (λ (xs : List Source). length xs) pushed, length-append batch (source ∷ []));
+      read = λ all r. subst (λ (xs : List Source). AreRead files all xs later) (sym pushed)
+          (read_on files all batch origin later source read (subst (λ (left : List Origin). AreRead files all batch left) c.in-Some.ensures (inv.read all r)));
     }

@@ -1,15 +1,16 @@
-use Rattle.std.proofs.Common.{◌≡◌, ◌≤◌, ℕ, List, length, map}
-use Rattle.std.specs.Prelude.{string_bytes}
+use Rattle.std.proofs.Common.{◌≡◌, ◌≤◌, List, length}
+use Rattle.covd_core.specs.Command.{Origin}
+use Rattle.covd_core.specs.Origins.{origins_of}
 use Rattle.covd_core.specs.Batches.{AreRead}
 use Rattle.covd_core.proofs.batches.read_more.Given as goal
 
-abbrev pub invariant-loop-name : goal.invariant-loop-name
-invariant-loop-name g l = record {
+abbrev pub invariant-loop-origin : goal.invariant-loop-origin
+invariant-loop-origin g l = record {
   same : g.F.Shelf.files l.shelf ≡ g.F.Shelf.files l.initial.shelf;
   later : g.F.Shelf.faults l.initial.shelf ≤ g.F.Shelf.faults l.shelf;
   grows : length l.initial.batch.items ≤ length l.batch.items;
-  read : (all : List (List ℕ)) → AreRead (g.F.Shelf.files l.initial.shelf) all l.initial.batch.items (map string_bytes l.names) → AreRead (g.F.Shelf.files l.initial.shelf) all l.batch.items (map string_bytes l.rest);
+  read : (all : List Origin) → AreRead (g.F.Shelf.files l.initial.shelf) all l.initial.batch.items (origins_of l.origins) → AreRead (g.F.Shelf.files l.initial.shelf) all l.batch.items (origins_of l.rest);
 }
 
-abbrev pub decreases-loop-name : goal.decreases-loop-name
-decreases-loop-name g l = length l.rest
+abbrev pub decreases-loop-origin : goal.decreases-loop-origin
+decreases-loop-origin g l = length (origins_of l.rest)

@@ -10,4 +10,4 @@ returns-in-Some-clause-answer g c =
 pub returns-in-Some-make_words-clause-answer : goal.returns-in-Some-make_words-clause-answer
 returns-in-Some-make_words-clause-answer g c =
     let n = c.in-Some-make_words.numbers in
-    IfOk-weaker c.make.result _ _ (λ a h. inr (c.in-Some-make_words.design.now, n.seed, n.rounds, n.tests, c.in-Some-make_words.ensures, h)) c.make.ensures.answer
+    IfOk-weaker c.report-in-Some-make_words.result _ _ (λ a h. inr (c.in-Some-make_words.design.now, n.seed, n.rounds, n.tests, c.in-Some-make_words.ensures, h)) c.report-in-Some-make_words.ensures.answer

@@ -1,5 +1,5 @@
 use Rattle.covd_core.proofs.Fillings.{unfit_is}
-use Rattle.covd_core.proofs.reading.decoded.Goals as goal
+use Rattle.covd_core.proofs.finding.decoded.Goals as goal
 
 pub returns-in_ok-refused-in-Err-shape_fits : goal.returns-in_ok-refused-in-Err-shape_fits
 returns-in_ok-refused-in-Err-shape_fits c =
