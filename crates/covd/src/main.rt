@@ -50,7 +50,7 @@ fn main(rt: HostRuntime) -> ExitCode {
     let number = match given(rt.alloc(), words_of(&rt)) {
         Ok(words) => match early_text(&words) {
             Some(text) => ended(&rt.print(text)).number(),
-            None if is_serve(&words) => serve(&rt, &words),
+            None if is_serve(&words) => serve(&rt, &words).number(),
             None => run_words(&rt, &words).number(),
         },
         Err(status) => status.number(),

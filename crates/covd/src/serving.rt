@@ -1,10 +1,11 @@
 //! The command `serve`.
-ghost use Rattle.std.specs.Prelude.{◌≤◌, length, IfOk};
+ghost use Rattle.std.specs.Prelude.{◌≡◌, ◌≤◌, length, map, string_bytes, IfOk};
 ghost use Rattle.turn_lock.specs.Seats.{free, left};
 ghost use Rattle.merge_store.specs.Sound.{IsSound};
 ghost use Rattle.merge_store.specs.Stores.{opening_of};
 ghost use Rattle.cov_server.specs.Shares.{HasSeat};
 ghost use Rattle.covd_core.specs.Starts.{IsServable};
+ghost use Rattle.covd.specs.Serving.{is_serve, built};
 
 use crate::hints::{print_address_hint, print_hint};
 use cov_base::Pair;
@@ -21,11 +22,10 @@ use std::sync::Wait;
 use std::thread::Threads;
 use turn_lock::Seat;
 
-/// The status of a server whose address can't be listened on, or whose workers have all ended.
-const NO_WORKER: u8 = 14;
-
 /// Whether the words are those of the server.
-pub(crate) fn is_serve(words: &[String]) -> bool {
+pub(crate) fn is_serve(words: &[String]) -> bool
+    ensures { result ≡ is_serve (map string_bytes words.now) }
+{
     match words.first() {
         Some(word) => word.as_str() == "serve",
         None => false,
@@ -33,7 +33,9 @@ pub(crate) fn is_serve(words: &[String]) -> bool {
 }
 
 /// The words, or none where they ask for what isn't built: a journal, or readers.
-fn built(words: &[String]) -> &[String] {
+fn built(words: &[String]) -> &[String]
+    ensures { map string_bytes result.now ≡ built (map string_bytes words.now) }
+{
     match serve_words(words) {
         Some(said) if said.journal.is_some() || said.readers.is_some() => &[],
         _ => words,
@@ -66,21 +68,21 @@ fn listen<R: Threads + Wait + Sync + Print + AllocGlobal>(
     shared: &Shared<Store>,
     seat: &mut Seat<Store>,
     workers: u32,
-) -> u8
+) -> Status
     requires seat { HasSeat opening_of IsSound shared.now seat.old }
     requires room { (workers ≤ free seat.old) × (workers ≤ left seat.old) }
 {
     if println!(rt; "listening {address}").is_err() {
-        return Status::WriteFault.number();
+        return Status::WriteFault;
     }
     match serve_store(rt, rt.alloc(), listener, shared, seat, workers, u64::MAX) {
-        Ok(()) => NO_WORKER,
-        Err(_) => Status::Memory.number(),
+        Ok(()) => Status::NoWorker,
+        Err(_) => Status::Memory,
     }
 }
 
 /// Serves until every worker has ended, and says with which status the program ends.
-pub(crate) fn serve<R>(rt: &R, words: &[String]) -> u8
+pub(crate) fn serve<R>(rt: &R, words: &[String]) -> Status
 where
     R: Threads
         + Wait
@@ -96,22 +98,22 @@ where
         Ok(begun) => begun,
         Err(status) => {
             print_hint(rt, words, status);
-            return status.number();
+            return status;
         }
     };
     let Ok(design) = compiled.design().clone() else {
-        return Status::Memory.number();
+        return Status::Memory;
     };
     // one seat for each worker, and one that splits them off
     let Ok((shared, mut seat)) = open(rt.alloc(), design, said.seats + 1) else {
-        return Status::Memory.number();
+        return Status::Memory;
     };
     let address = asked[said.listen as usize].as_str();
     let status = match TcpListener::bind(rt, address) {
         Ok(listener) => listen(rt, &listener, address, &shared, &mut seat, said.seats),
         Err(error) => {
             print_address_hint(rt, address, &error);
-            NO_WORKER
+            Status::NoWorker
         }
     };
     shared.leave(seat);

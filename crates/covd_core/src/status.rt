@@ -33,6 +33,8 @@ pub enum Status {
     FileTooLong,
     /// A dump is refused: it can't be read, or gives no record.
     DumpRefused,
+    /// The server's address can't be listened on, or all its workers have ended.
+    NoWorker,
 }
 
 impl Status {
@@ -55,6 +57,7 @@ impl Status {
             Status::SessionTooLong => 11,
             Status::FileTooLong => 12,
             Status::DumpRefused => 13,
+            Status::NoWorker => 14,
         }
     }
 }
