@@ -5,9 +5,8 @@ use Rattle.cov_spec.specs.Causes.{Rose}
 use Rattle.cov_spec.specs.Told.{Grows, GrowsByFront}
 use Rattle.covd_core.specs.declared.status.Status.{Status}
 use Rattle.covd_core.specs.declared.status.Status.TheVariants as status
-use Rattle.covd_core.specs.Command.{Files}
-use Rattle.covd_core.specs.Command.{NoDesign}
-use Rattle.covd_core.specs.Sessions.{Ends, LeavesRefusal}
+use Rattle.covd_core.specs.Command.{Files, NoDesign, Ends}
+use Rattle.covd_core.specs.Sessions.{LeavesRefusal}
 
 module _ (files : Files) (before now : ℕ) (design text : List ℕ) (e e' : Ends) where
   -- the line of a design that can't be had was written whole

@@ -214,12 +214,23 @@ Answers words files before now s text =
     ⊎ (((design dump scope id : List ℕ) × IsRecordCommand words design dump scope id × Records files before now design dump scope id s text)
     ⊎ FillAnswers words files before now s text)))
 
+-- what a link tells at a moment, and its counts of failures
+pub record Ends : Type 0 where
+  pub left : Option (List ℕ)
+  pub written : Option (List ℕ)
+  pub read_faults : ℕ
+  pub write_faults : ℕ
+
+-- the same of a link of any kind
+abbrev pub ends_of : {L : Type 0} → (left written : L → Option (List ℕ)) → (read_faults write_faults : L → ℕ) → L → Ends
+ends_of left written read_faults write_faults link = record { left = left link; written = written link; read_faults = read_faults link; write_faults = write_faults link }
+
 -- What a run leaves in the sink. Where memory ran out: nothing. Where the sink failed, its count having risen: some of
 -- the answer's text from the front. Else: the whole text of the answer, whose status it is.
-abbrev pub Leaves : List (List ℕ) → Files → ℕ → ℕ → ℕ → ℕ → Option (List ℕ) → Option (List ℕ) → Status → Type 0
-Leaves words files before now faults faults_now written written_now status.Memory = Stays written written_now
-Leaves words files before now faults faults_now written written_now status.WriteFault = Rose faults faults_now × (s : Status) × (text : List ℕ) × Answers words files before now s text × GrowsByFront written written_now text
-Leaves words files before now faults faults_now written written_now s = (text : List ℕ) × Answers words files before now s text × Grows written written_now text
+abbrev pub Leaves : List (List ℕ) → Files → ℕ → ℕ → Ends → Ends → Status → Type 0
+Leaves words files before now e e' status.Memory = Stays e.written e'.written
+Leaves words files before now e e' status.WriteFault = Rose e.write_faults e'.write_faults × (s : Status) × (text : List ℕ) × Answers words files before now s text × GrowsByFront e.written e'.written text
+Leaves words files before now e e' s = (text : List ℕ) × Answers words files before now s text × Grows e.written e'.written text
 
 -- Told files and a shelf that didn't fail leave one status and one text to the words.
 abbrev pub HasOneAnswer : List (List ℕ) → Files → ℕ → ℕ → Type 0

@@ -1,6 +1,6 @@
 -- What `session DESIGN` leaves. A design that can't be had is refused as by the other commands. Over a design that is had,
 -- the requests that come over the link are answered, as those of the one caller of a store that begins without entries.
-use Rattle.std.specs.Prelude.{◌≡◌, ◌⊎◌, ℕ, ◌^◌, List, [], ◌∷◌, Option, Some, Bool, true, false, codes}
+use Rattle.std.specs.Prelude.{◌≡◌, ◌⊎◌, ℕ, ◌^◌, List, [], ◌∷◌, Some, Bool, true, false, codes}
 use Rattle.cov_spec.specs.Causes.{Rose}
 use Rattle.cov_spec.specs.Told.{Grows, GrowsByFront, Stays}
 use Rattle.design_data.specs.declared.design.Design.{Design}
@@ -12,8 +12,7 @@ use Rattle.cov_session.specs.declared.ended.Ended.TheVariants as ended
 use Rattle.cov_session.specs.Streams.{Session}
 use Rattle.covd_core.specs.declared.status.Status.{Status}
 use Rattle.covd_core.specs.declared.status.Status.TheVariants as status
-use Rattle.covd_core.specs.Command.{Files, HasDesign, Leaves}
-use Rattle.covd_core.specs.Command.{NoDesign}
+use Rattle.covd_core.specs.Command.{Files, HasDesign, NoDesign, Ends, Leaves}
 
 -- ---- words
 
@@ -40,13 +39,6 @@ ended_status ended.SessionTooLong = status.SessionTooLong
 ended_status ended.ReadFault = status.ReadFault
 ended_status ended.WriteFault = status.WriteFault
 ended_status ended.Memory = status.Memory
-
--- what the link tells at a moment, and its counts of failures
-pub record Ends : Type 0 where
-  pub left : Option (List ℕ)
-  pub written : Option (List ℕ)
-  pub read_faults : ℕ
-  pub write_faults : ℕ
 
 -- A session of the caller 0 over a history that is empty at first and has no entry but those that its replies made; the
 -- history is legal and has no Stop. A fault ends it only where that count rose.
@@ -88,7 +80,7 @@ LeavesSession files before now design e e' s =
 -- What a run leaves at the link: a command that prints leaves its text and reads nothing.
 abbrev pub Runs : List (List ℕ) → Files → ℕ → ℕ → Ends → Ends → Status → Type 0
 Runs words files before now e e' s =
-    (IsNoSession words × ReadsNothing e e' × Leaves words files before now e.write_faults e'.write_faults e.written e'.written s)
+    (IsNoSession words × ReadsNothing e e' × Leaves words files before now e e' s)
     ⊎ ((design : List ℕ) × IsSessionCommand words design × LeavesSession files before now design e e' s)
 
 -- Told files and a shelf that didn't fail leave one design to a name, or one refusal and no design.

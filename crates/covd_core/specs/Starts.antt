@@ -16,8 +16,7 @@ use Rattle.covd_core.specs.declared.starting.HadCompiled.TheVariants as had
 use Rattle.covd_core.specs.declared.starting.Begun.{Begun}
 use Rattle.covd_core.specs.declared.starting.Begun.TheVariants as begun
 use Rattle.covd_core.specs.Lines.{bad_words_text}
-use Rattle.covd_core.specs.Command.{Files}
-use Rattle.covd_core.specs.Command.{NoDesign}
+use Rattle.covd_core.specs.Command.{Files, NoDesign, Ends}
 
 -- the file of that name has the text, which declares the design
 pub record HasOpening (files : Files) (name : List ℕ) (c : Declared) : Type 0 where
@@ -67,8 +66,8 @@ IsBegun words files before now (begun.Refused a) = RefusesStart words files befo
 
 -- What the beginning leaves. Where the design was had, or memory ran out: nothing is written. Where a write failed, its
 -- count having risen: some of the line from the front. Else: the line whose status it is.
-abbrev pub Starts : List (List ℕ) → Files → ℕ → ℕ → ℕ → ℕ → Option (List ℕ) → Option (List ℕ) → Result (ServeWords × Declared) Status → Type 0
-Starts words files before now faults faults_now written written_now (Ok p) = Readies words files p.0 p.1 × Stays written written_now
-Starts words files before now faults faults_now written written_now (Err status.Memory) = Stays written written_now
-Starts words files before now faults faults_now written written_now (Err status.WriteFault) = Rose faults faults_now × (s : Status) × (text : List ℕ) × RefusesStart words files before now s text × GrowsByFront written written_now text
-Starts words files before now faults faults_now written written_now (Err s) = (text : List ℕ) × RefusesStart words files before now s text × Grows written written_now text
+abbrev pub Starts : List (List ℕ) → Files → ℕ → ℕ → Ends → Ends → Result (ServeWords × Declared) Status → Type 0
+Starts words files before now e e' (Ok p) = Readies words files p.0 p.1 × Stays e.written e'.written
+Starts words files before now e e' (Err status.Memory) = Stays e.written e'.written
+Starts words files before now e e' (Err status.WriteFault) = Rose e.write_faults e'.write_faults × (s : Status) × (text : List ℕ) × RefusesStart words files before now s text × GrowsByFront e.written e'.written text
+Starts words files before now e e' (Err s) = (text : List ℕ) × RefusesStart words files before now s text × Grows e.written e'.written text

@@ -1,6 +1,6 @@
 //! The commands that print.
 ghost use Rattle.std.specs.Prelude.{◌≡◌, ◌≤◌, map, string_bytes, IfOk, IfNone, MatchOption};
-ghost use Rattle.covd_core.specs.Command.{FillAnswers, Answers, IsCheckCommand, IsNoCheck, IsCountCommand, IsNoCount, Leaves, HasOneAnswer};
+ghost use Rattle.covd_core.specs.Command.{FillAnswers, Answers, IsCheckCommand, IsNoCheck, IsCountCommand, IsNoCount, ends_of, Leaves, HasOneAnswer};
 ghost use Rattle.covd_core.specs.Forms.{IsNoReport, IsNoMake};
 
 use crate::Status;
@@ -111,7 +111,9 @@ pub(crate) fn print<R: Threads + Sync, F: Shelf, L: Link>(
     shelf: &mut F,
     link: &mut L,
 ) -> Status
-    ensures leaves { Leaves (map string_bytes words.now) (F.files shelf.old) (F.faults shelf.old) (F.faults shelf.new) (L.write_faults link.old) (L.write_faults link.new) (L.written link.old) (L.written link.new) result }
+    ensures leaves { let ends = ends_of L.left L.written L.read_faults L.write_faults in
+        Leaves (map string_bytes words.now) (F.files shelf.old) (F.faults shelf.old) (F.faults shelf.new)
+        (ends link.old) (ends link.new) result }
     ensures one_answer { HasOneAnswer (map string_bytes words.now) (F.files shelf.old) (F.faults shelf.old) (F.faults shelf.new) }
     ensures files { F.files shelf.new ≡ F.files shelf.old }
     ensures shelf_faults { F.faults shelf.old ≤ F.faults shelf.new }

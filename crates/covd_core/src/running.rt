@@ -1,6 +1,6 @@
 //! The program's one call.
 ghost use Rattle.std.specs.Prelude.{◌≡◌, ◌≤◌, map, string_bytes};
-ghost use Rattle.covd_core.specs.Command.{HasOneAnswer};
+ghost use Rattle.covd_core.specs.Command.{ends_of, HasOneAnswer};
 ghost use Rattle.covd_core.specs.Sessions.{Runs, HasOneDesign};
 
 use crate::Status;
@@ -16,9 +16,9 @@ use std::thread::Threads;
 /// design; `count DESIGN RECORD`, which prints how often the record hits each of them; `report DESIGN RECORD ..` and
 /// `make DESIGN SEED EVENTS TESTS`, which print the report of a store that is filled with the records of files or of a
 /// generator; and `record DESIGN DUMP SCOPE ID`, which writes the bytes of the record of a value change dump. What they
-/// write is built whole before its first byte is written, and nothing is read. `session DESIGN` answers the requests that come over the link, over a store that begins
-/// without tests, until a Bye or the end of what comes. Threads are started to bin records and to rank
-/// tests.
+/// write is built whole before its first byte is written, and nothing is read. `session DESIGN` answers the requests that
+/// come over the link, over a store that begins without tests, until a Bye or the end of what comes. Threads are started to
+/// bin records and to rank tests.
 pub fn run<R: Threads + Sync, F: Shelf, L: Link>(
     rt: &R,
     alloc: Global,
@@ -27,21 +27,10 @@ pub fn run<R: Threads + Sync, F: Shelf, L: Link>(
     link: &mut L,
 ) -> Status
     // Status and text are those of the words and files, and replies those of the requests; memory alone is free.
-    ensures leaves { Runs (map string_bytes words.now)
+    ensures leaves { let ends = ends_of L.left L.written L.read_faults L.write_faults in
+        Runs (map string_bytes words.now)
         (F.files shelf.old) (F.faults shelf.old) (F.faults shelf.new)
-        (record {
-          left = L.left link.old;
-          written = L.written link.old;
-          read_faults = L.read_faults link.old;
-          write_faults = L.write_faults link.old;
-        })
-        (record {
-          left = L.left link.new;
-          written = L.written link.new;
-          read_faults = L.read_faults link.new;
-          write_faults = L.write_faults link.new;
-        })
-        result }
+        (ends link.old) (ends link.new) result }
     ensures one_answer { HasOneAnswer (map string_bytes words.now)
         (F.files shelf.old) (F.faults shelf.old) (F.faults shelf.new) }
     ensures one_design { HasOneDesign (F.files shelf.old) (F.faults shelf.old)

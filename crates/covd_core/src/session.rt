@@ -4,6 +4,7 @@ ghost use Rattle.std.specs.Arc.{arc_value};
 ghost use Rattle.cov_spec.specs.Causes.{Rose};
 ghost use Rattle.cov_spec.specs.Told.{Grows, GrowsByFront};
 ghost use Rattle.merge_store.specs.Stores.{opening_of, entries_of};
+ghost use Rattle.covd_core.specs.Command.{ends_of};
 ghost use Rattle.covd_core.specs.Sessions.{IsSessionCommand, IsNoSession, ended_status, Conducted, LeavesRefusal, LeavesSession};
 
 use crate::Status;
@@ -69,19 +70,8 @@ fn conduct<R: Threads + Sync, L: Link>(
     design: Design,
     link: &mut L,
 ) -> Result<Ended, Memory>
-    ensures conducted { IfOk result (Conducted design
-        (record {
-          left = L.left link.old;
-          written = L.written link.old;
-          read_faults = L.read_faults link.old;
-          write_faults = L.write_faults link.old;
-        })
-        (record {
-          left = L.left link.new;
-          written = L.written link.new;
-          read_faults = L.read_faults link.new;
-          write_faults = L.write_faults link.new;
-        })) }
+    ensures conducted { let ends = ends_of L.left L.written L.read_faults L.write_faults in
+        IfOk result (Conducted design (ends link.old) (ends link.new)) }
     ensures early { OnErr result (link.new ≡ link.old) }
     ensures read_faults { L.read_faults link.old ≤ L.read_faults link.new }
     ensures write_faults { L.write_faults link.old ≤ L.write_faults link.new }
@@ -115,20 +105,9 @@ pub(crate) fn serve<R: Threads + Sync, F: Shelf, L: Link>(
 ) -> Status
     ensures files { F.files shelf.new ≡ F.files shelf.old }
     ensures shelf_faults { F.faults shelf.old ≤ F.faults shelf.new }
-    ensures leaves { LeavesSession (F.files shelf.old) (F.faults shelf.old) (F.faults shelf.new) design.now
-        (record {
-          left = L.left link.old;
-          written = L.written link.old;
-          read_faults = L.read_faults link.old;
-          write_faults = L.write_faults link.old;
-        })
-        (record {
-          left = L.left link.new;
-          written = L.written link.new;
-          read_faults = L.read_faults link.new;
-          write_faults = L.write_faults link.new;
-        })
-        result }
+    ensures leaves { let ends = ends_of L.left L.written L.read_faults L.write_faults in
+        LeavesSession (F.files shelf.old) (F.faults shelf.old) (F.faults shelf.new) design.now
+        (ends link.old) (ends link.new) result }
     ensures read_faults { L.read_faults link.old ≤ L.read_faults link.new }
     ensures write_faults { L.write_faults link.old ≤ L.write_faults link.new }
 {

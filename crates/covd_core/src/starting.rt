@@ -1,5 +1,6 @@
 //! How the server begins: its words, and the design with its text.
 ghost use Rattle.std.specs.Prelude.{◌≡◌, ◌≤◌, length, map, string_bytes, IfOk, IfSome};
+ghost use Rattle.covd_core.specs.Command.{ends_of};
 ghost use Rattle.covd_core.specs.Starts.{IsHadCompiled, IsBegun, IsServable, ready_words, Starts};
 
 use crate::Status;
@@ -74,10 +75,10 @@ pub fn serve_start<F: Shelf, L: Link>(
     shelf: &mut F,
     link: &mut L,
 ) -> Result<(ServeWords, Compiled), Status>
-    ensures starts { Starts (map string_bytes words.now)
+    ensures starts { let ends = ends_of L.left L.written L.read_faults L.write_faults in
+        Starts (map string_bytes words.now)
         (F.files shelf.old) (F.faults shelf.old) (F.faults shelf.new)
-        (L.write_faults link.old) (L.write_faults link.new)
-        (L.written link.old) (L.written link.new) result }
+        (ends link.old) (ends link.new) result }
     ensures servable { IfOk result (λ p. IsServable (length words.now) p.0) }
     ensures files { F.files shelf.new ≡ F.files shelf.old }
     ensures shelf_faults { F.faults shelf.old ≤ F.faults shelf.new }
