@@ -10,7 +10,7 @@ use Rattle.cov_grammar.specs.Fault.{DerivesWithin, limits, is_foreign}
 use Rattle.cov_grammar.proofs.Whole.{one_design, one_syntax_fault, one_too_deep, not_both_faults, fault_or_tree}
 use Rattle.cov_parser.specs.declared.fault.ParseFault.{ParseFault}
 use Rattle.cov_parser.specs.declared.fault.ParseFault.TheVariants as parsing
-use Rattle.cov_parser.specs.Parse.{IsFault as IsParseFault, place_of}
+use Rattle.cov_parser.specs.Parse.{IsParseFault, place_of}
 use Rattle.elab_base.specs.declared.fault.ElabKind.{ElabKind}
 use Rattle.elab_base.specs.declared.fault.ElabFault.TheVariants as elaborating
 use Rattle.elab_base.specs.Gives.{Refusal}

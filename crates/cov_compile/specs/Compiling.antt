@@ -2,13 +2,13 @@
 use Rattle.std.specs.Prelude.{◌≡◌, ℕ, List, Result, Ok, Err, ⊤}
 use Rattle.cov_tree.specs.declared.declarations.Decl.{Decl}
 use Rattle.cov_lexer.specs.declared.token.Token.{Token}
-use Rattle.cov_lexer.specs.Lexes.{Lexes, IsFault as IsLexFault}
+use Rattle.cov_lexer.specs.Lexes.{Lexes, IsLexFault}
 use Rattle.cov_lexer.specs.declared.token.LexFault.TheVariants as lexing
 use Rattle.cov_grammar.specs.Marking.{marked}
 use Rattle.cov_grammar.specs.Fault.{DerivesWithin, limits}
 use Rattle.cov_parser.specs.declared.fault.ParseFault.{ParseFault}
 use Rattle.cov_parser.specs.declared.fault.ParseFault.TheVariants as parsing
-use Rattle.cov_parser.specs.Parse.{IsFault as IsParseFault}
+use Rattle.cov_parser.specs.Parse.{IsParseFault}
 use Rattle.design_data.specs.declared.design.Design.{Design}
 use Rattle.elab_base.specs.declared.fault.ElabKind.{ElabKind}
 use Rattle.elab_base.specs.declared.fault.ElabFault.TheVariants as elaborating

@@ -11,7 +11,7 @@ use Rattle.cov_lexer.specs.Forms.{Piece, Separator, Item, Spells, IsPiece}
 use Rattle.cov_lexer.specs.Spellings.{kind_of}
 use Rattle.cov_lexer.specs.Literals.{literal_of}
 use Rattle.cov_ground.specs.Limits.{longest_name}
-use Rattle.cov_lexer.specs.Lexes.{IsToken, IsWithin, Covers, Lexes, IsNothing, IsFaultAt, IsFault, Ascend, place, opens_comment, AllWithin, IsSpelled, AllSpelled}
+use Rattle.cov_lexer.specs.Lexes.{IsToken, IsWithin, Covers, Lexes, IsNothing, IsFaultAt, IsLexFault, Ascend, place, opens_comment, AllWithin, IsSpelled, AllSpelled}
 
 pub piece_same : (text : List ℕ) (i : ℕ) (p q : Piece) (j k : ℕ) → IsPiece text i p j → IsPiece text i q k → (j ≡ k) × (p ≡ q)
 piece_same text i p q j k x y =
@@ -119,7 +119,7 @@ stuck_at_fault text (NameTooLong k) h n l m s = stuck_at_name text k h.0 n h.1 h
 stuck_at_fault text (LiteralTooWide k) h n l m s = stuck_at_literal text k h.0 n h.1 h.2 h.3 h.5 s
 stuck_at_fault text Memory h n l m s = h
 
-pub fault_or_tokens : (text : List ℕ) (f : LexFault) (ts : List Token) → IsFault text f → Lexes text ts → ⊥
+pub fault_or_tokens : (text : List ℕ) (f : LexFault) (ts : List Token) → IsLexFault text f → Lexes text ts → ⊥
 fault_or_tokens text f ts h g =
     let e = (covers_meet text h.before.0 g.0 0 h.before.1 ts (place f) (length text) (stuck_at_fault text f h.here) (stuck_at_end text) h.before.2 g.1).1 in
     let l = h.inside in absurd (omega arith)
@@ -185,7 +185,7 @@ same_fault text (LiteralTooWide i) (LiteralTooWide j) h k e = ap LiteralTooWide 
 same_fault text Memory g h k e = absurd h
 same_fault text f Memory h k e = absurd k
 
-pub one_fault : (text : List ℕ) (f g : LexFault) → IsFault text f → IsFault text g → f ≡ g
+pub one_fault : (text : List ℕ) (f g : LexFault) → IsLexFault text f → IsLexFault text g → f ≡ g
 one_fault text f g h k = same_fault text f g h.here k.here
     (covers_meet text h.before.0 k.before.0 0 h.before.1 k.before.1 (place f) (place g) (stuck_at_fault text f h.here) (stuck_at_fault text g k.here) h.before.2 k.before.2).1
 

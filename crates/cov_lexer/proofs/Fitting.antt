@@ -2,7 +2,7 @@
 use Rattle.std.proofs.Common.{◌≡◌, ℕ, ◌≤◌, List, [], ◌∷◌, Bool, true, false, inl, inr, length, get_or, subst, arith}
 use Rattle.std.proofs.lemmas.Bool.{cases_lt, cases_order}
 use Rattle.std.proofs.lemmas.List.{get_or_past}
-use Rattle.cov_lexer.specs.Forms.{Part, Many, Passes, Fits}
+use Rattle.cov_lexer.specs.Forms.{Part, Many, Passes, HasForm}
 use Rattle.cov_lexer.specs.Reading.{Runs}
 
 -- a byte that passes a test which 0 doesn't stands in the text
@@ -14,9 +14,9 @@ inside p text i z h = elim (cases_lt i (length text)) [
 
 -- the run is the only way to read any number of bytes, where what follows can't begin with one of them
 pub run_then : (p : ℕ → Bool) (ps : List Part) (text : List ℕ) (i m n : ℕ) → Runs p text i m →
-    ((q k : ℕ) → Passes p text q → Fits text ps q k → ⊥) → Fits text (Many p ∷ ps) i n → Fits text ps m n
+    ((q k : ℕ) → Passes p text q → HasForm text ps q k → ⊥) → HasForm text (Many p ∷ ps) i n → HasForm text ps m n
 run_then p ps text i m n r avoid f = elim (cases_order f.0 m) [
-  | inl e ↦ subst (λ q. Fits text ps q n) e f.4
+  | inl e ↦ subst (λ q. HasForm text ps q n) e f.4
   | inr o ↦ elim o [
     | inl l ↦ absurd (avoid f.0 n (let u = r.inside in omega arith, r.all f.0 f.1 l) f.4)
     | inr l ↦ absurd (let a = f.3 m r.from l in let u = f.2 in let b = r.stops (omega arith) in cc)
@@ -24,12 +24,12 @@ run_then p ps text i m n r avoid f = elim (cases_order f.0 m) [
 ]
 
 -- a run at the end of a form is the longest
-pub run_last : (p : ℕ → Bool) (text : List ℕ) (i m n : ℕ) → Runs p text i m → Fits text (Many p ∷ []) i n → n ≤ m
+pub run_last : (p : ℕ → Bool) (text : List ℕ) (i m n : ℕ) → Runs p text i m → HasForm text (Many p ∷ []) i n → n ≤ m
 run_last p text i m n r f = elim (cases_lt m n) [
   | inl l ↦ absurd (let e = f.4 in let u = f.2 in let a = f.3 m r.from (omega arith) in let b = r.stops (omega arith) in cc)
   | inr l ↦ l
 ]
 
 -- the run itself fits
-pub run_fits : (p : ℕ → Bool) (ps : List Part) (text : List ℕ) (i m n : ℕ) → Runs p text i m → Fits text ps m n → Fits text (Many p ∷ ps) i n
+pub run_fits : (p : ℕ → Bool) (ps : List Part) (text : List ℕ) (i m n : ℕ) → Runs p text i m → HasForm text ps m n → HasForm text (Many p ∷ ps) i n
 run_fits p ps text i m n r f = (m, r.from, r.inside, r.all, f)

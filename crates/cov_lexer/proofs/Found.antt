@@ -10,7 +10,7 @@ use Rattle.cov_lexer.specs.declared.token.TokenKind.TheVariants.{Ident, Keyword,
 use Rattle.cov_lexer.specs.Bytes.{is_letter, is_digit, is_word, is_number, is_space, is_blank, is_in_line, is_inside, is_quote, is_dollar, is_slash, is_apostrophe, is_sign, is_base, is_base_digit, is_base_more}
 use Rattle.cov_lexer.specs.Spellings.{Spelling, operators, is_keyword}
 use Rattle.cov_lexer.specs.Operators.{sort_of, stands, IsOneAt}
-use Rattle.cov_lexer.specs.Forms.{One, Many, Passes, Fits, name, digits, marked, based, sized, quoted, line_comment, Piece, Separator, Item, Spells, IsPiece}
+use Rattle.cov_lexer.specs.Forms.{One, Many, Passes, HasForm, name, digits, base_and_digits, based, sized, quoted, line_comment, Piece, Separator, Item, Spells, IsPiece}
 use Rattle.cov_lexer.specs.Literals.{literal_of, base_of}
 use Rattle.cov_lexer.specs.declared.kind.Kind.TheVariants.{Numeral}
 use Rattle.cov_lexer.specs.Lexes.{IsToken, IsNothing, IsWithin, IsSpelled, opens_comment}
@@ -43,10 +43,10 @@ blank_piece text i l h = record { spells = inl ((l, h), refl); longest = longest
 
 -- names
 
-name_ends : (text : List ℕ) (i j n : ℕ) → Runs is_word text (i + 1) j → Fits text name i n → n ≤ j
+name_ends : (text : List ℕ) (i j n : ℕ) → Runs is_word text (i + 1) j → HasForm text name i n → n ≤ j
 name_ends text i j n r f = run_last is_word text (i + 1) j n r f.1
 
-name_fits : (text : List ℕ) (i j : ℕ) → i < length text → is_letter (get_or text i 0) ≡ true → Runs is_word text (i + 1) j → Fits text name i j
+name_fits : (text : List ℕ) (i j : ℕ) → i < length text → is_letter (get_or text i 0) ≡ true → Runs is_word text (i + 1) j → HasForm text name i j
 name_fits text i j l h r = ((l, h), run_fits is_word [] text (i + 1) j j r refl)
 
 pub letter_no_comment : (text : List ℕ) (i : ℕ) → i < length text → is_letter (get_or text i 0) ≡ true → opens_comment text i ≡ false
@@ -124,33 +124,33 @@ pub digit_passes : (text : List ℕ) (i : ℕ) (b : Base) → is_base_digit b (g
 digit_passes text i b h = inside (is_base_digit b) text i (no_digit_zero b) h
 
 -- no digit is a space
-spaces_avoid : (text : List ℕ) (b : Base) (q k : ℕ) → Passes is_space text q → Fits text (digits b) q k → ⊥
+spaces_avoid : (text : List ℕ) (b : Base) (q k : ℕ) → Passes is_space text q → HasForm text (digits b) q k → ⊥
 spaces_avoid text b q k s f = let e = eqb-true (get_or text q 0) 32 s.1 in let g = subst (λ c. is_base_digit b c ≡ true) e f.0.1 in let z = no_digit_space b in absurd (cc)
 
-same_base : (text : List ℕ) (i : ℕ) (b b' : Base) (n : ℕ) → base_of (get_or text i 0) ≡ Some b → Fits text (marked b') i n → b' ≡ b
+same_base : (text : List ℕ) (i : ℕ) (b b' : Base) (n : ℕ) → base_of (get_or text i 0) ≡ Some b → HasForm text (base_and_digits b') i n → b' ≡ b
 same_base text i b b' n h f = let e = base_is b' _ f.0.1 in cc
 
-behind_base : (text : List ℕ) (i m n : ℕ) (b : Base) → Runs is_space text (i + 1) m → Fits text (marked b) i n → Fits text (digits b) m n
+behind_base : (text : List ℕ) (i m n : ℕ) (b : Base) → Runs is_space text (i + 1) m → HasForm text (base_and_digits b) i n → HasForm text (digits b) m n
 behind_base text i m n b r f = run_then is_space (digits b) text (i + 1) m n r (spaces_avoid text b) f.1
 
-pub marked_without_base : (text : List ℕ) (i : ℕ) → base_of (get_or text i 0) ≡ None → (b : Base) (n : ℕ) → Fits text (marked b) i n → ⊥
+pub marked_without_base : (text : List ℕ) (i : ℕ) → base_of (get_or text i 0) ≡ None → (b : Base) (n : ℕ) → HasForm text (base_and_digits b) i n → ⊥
 marked_without_base text i h b n f = let e = base_is b _ f.0.1 in absurd (cc)
 
 pub marked_without_digit : (text : List ℕ) (i m : ℕ) (base : Base) → base_of (get_or text i 0) ≡ Some base → Runs is_space text (i + 1) m → is_base_digit base (get_or text m 0) ≡ false →
-    (b : Base) (n : ℕ) → Fits text (marked b) i n → ⊥
+    (b : Base) (n : ℕ) → HasForm text (base_and_digits b) i n → ⊥
 marked_without_digit text i m base h r d b n f =
     let e = same_base text i base b n h f in
-    let g = behind_base text i m n base r (subst (λ q. Fits text (marked q) i n) e f) in
+    let g = behind_base text i m n base r (subst (λ q. HasForm text (base_and_digits q) i n) e f) in
     absurd (let k = g.0.1 in cc)
 
 pub marked_longest : (text : List ℕ) (i m j : ℕ) (base : Base) → base_of (get_or text i 0) ≡ Some base → Runs is_space text (i + 1) m → is_base_digit base (get_or text m 0) ≡ true →
-    Runs (is_base_more base) text (m + 1) j → IsLongestOf marked text i j
+    Runs (is_base_more base) text (m + 1) j → IsLongestOf base_and_digits text i j
 marked_longest text i m j base h r d more = record {
   base = base;
   fits = (base_passes text i base h, run_fits is_space (digits base) text (i + 1) m j r (digit_passes text m base d, run_fits (is_base_more base) [] text (m + 1) j j more refl));
   longest = λ b n f.
       let e = same_base text i base b n h f in
-      let g = behind_base text i m n base r (subst (λ q. Fits text (marked q) i n) e f) in
+      let g = behind_base text i m n base r (subst (λ q. HasForm text (base_and_digits q) i n) e f) in
       run_last (is_base_more base) text (m + 1) j n more g.1;
   more = (let a = r.from in let c = more.from in omega arith);
   inside = more.inside;
@@ -163,16 +163,16 @@ no_base_sign b c s h = let e = base_is b c h in elim (or_cases (eqb c 115) (eqb 
 ]
 
 -- what a based literal has behind its apostrophe and sign
-unsigned_rest : (text : List ℕ) (i n : ℕ) (b : Base) → is_sign (get_or text (i + 1) 0) ≡ false → Fits text (based b) i n → Fits text (marked b) (i + 1) n
+unsigned_rest : (text : List ℕ) (i n : ℕ) (b : Base) → is_sign (get_or text (i + 1) 0) ≡ false → HasForm text (based b) i n → HasForm text (base_and_digits b) (i + 1) n
 unsigned_rest text i n b s f = elim f.1 [ inl g ↦ g | inr g ↦ absurd (let k = g.0.1 in cc) ]
 
-signed_rest : (text : List ℕ) (i n : ℕ) (b : Base) → is_sign (get_or text (i + 1) 0) ≡ true → Fits text (based b) i n → Fits text (marked b) (i + 2) n
+signed_rest : (text : List ℕ) (i n : ℕ) (b : Base) → is_sign (get_or text (i + 1) 0) ≡ true → HasForm text (based b) i n → HasForm text (base_and_digits b) (i + 2) n
 signed_rest text i n b s f = elim f.1 [
   | inl g ↦ absurd (no_base_sign b _ s g.0.1)
-  | inr g ↦ (let e : i + 1 + 1 ≡ i + 2 = omega arith in subst (λ q. Fits text (marked b) q n) e g.1)
+  | inr g ↦ (let e : i + 1 + 1 ≡ i + 2 = omega arith in subst (λ q. HasForm text (base_and_digits b) q n) e g.1)
 ]
 
-pub based_without_apostrophe : (text : List ℕ) (i : ℕ) → get_or text i 0 ≢ 39 → (b : Base) (n : ℕ) → Fits text (based b) i n → ⊥
+pub based_without_apostrophe : (text : List ℕ) (i : ℕ) → get_or text i 0 ≢ 39 → (b : Base) (n : ℕ) → HasForm text (based b) i n → ⊥
 based_without_apostrophe text i h b n f = h (eqb-true _ 39 f.0.1)
 
 pub apostrophe_passes : (text : List ℕ) (i : ℕ) → get_or text i 0 ≡ 39 → Passes is_apostrophe text i
@@ -181,17 +181,17 @@ apostrophe_passes text i h = inside is_apostrophe text i refl (subst (λ q. is_a
 pub sign_passes : (text : List ℕ) (i : ℕ) → is_sign (get_or text i 0) ≡ true → Passes is_sign text i
 sign_passes text i h = inside is_sign text i refl h
 
-pub based_signed : (text : List ℕ) (i : ℕ) (r : Option ℕ) → get_or text i 0 ≡ 39 → is_sign (get_or text (i + 1) 0) ≡ true → EndsOf marked text (i + 2) r → EndsOf based text i r
+pub based_signed : (text : List ℕ) (i : ℕ) (r : Option ℕ) → get_or text i 0 ≡ 39 → is_sign (get_or text (i + 1) 0) ≡ true → EndsOf base_and_digits text (i + 2) r → EndsOf based text i r
 based_signed text i None a s h = λ b n f. h b n (signed_rest text i n b s f)
 based_signed text i (Some j) a s h = record {
   base = h.base;
-  fits = (apostrophe_passes text i a, inr (sign_passes text (i + 1) s, (let e : i + 2 ≡ i + 1 + 1 = omega arith in subst (λ q. Fits text (marked h.base) q j) e h.fits)));
+  fits = (apostrophe_passes text i a, inr (sign_passes text (i + 1) s, (let e : i + 2 ≡ i + 1 + 1 = omega arith in subst (λ q. HasForm text (base_and_digits h.base) q j) e h.fits)));
   longest = λ b n f. h.longest b n (signed_rest text i n b s f);
   more = (let m = h.more in omega arith);
   inside = h.inside;
 }
 
-pub based_unsigned : (text : List ℕ) (i : ℕ) (r : Option ℕ) → get_or text i 0 ≡ 39 → is_sign (get_or text (i + 1) 0) ≡ false → EndsOf marked text (i + 1) r → EndsOf based text i r
+pub based_unsigned : (text : List ℕ) (i : ℕ) (r : Option ℕ) → get_or text i 0 ≡ 39 → is_sign (get_or text (i + 1) 0) ≡ false → EndsOf base_and_digits text (i + 1) r → EndsOf based text i r
 based_unsigned text i None a s h = λ b n f. h b n (unsigned_rest text i n b s f)
 based_unsigned text i (Some j) a s h = record {
   base = h.base;
@@ -203,7 +203,7 @@ based_unsigned text i (Some j) a s h = record {
 
 -- numbers that begin with a digit
 
-space_no_apostrophe : (text : List ℕ) (b : Base) (q k : ℕ) → Passes is_space text q → Fits text (based b) q k → ⊥
+space_no_apostrophe : (text : List ℕ) (b : Base) (q k : ℕ) → Passes is_space text q → HasForm text (based b) q k → ⊥
 space_no_apostrophe text b q k s f = let e = eqb-true (get_or text q 0) 32 s.1 in let g = eqb-true (get_or text q 0) 39 f.0.1 in absurd (omega (arith, e, g))
 
 pub number_no_space : (c : ℕ) → is_number c ≡ true → is_space c ≡ true → ⊥
@@ -212,13 +212,13 @@ number_no_space c h s = let e = eqb-true c 32 s in let g = subst (λ q. is_numbe
 pub number_no_apostrophe : (c : ℕ) → is_number c ≡ true → is_apostrophe c ≡ true → ⊥
 number_no_apostrophe c h s = let e = eqb-true c 39 s in let g = subst (λ q. is_number q ≡ true) e h in absurd (cc)
 
-number_avoids : (text : List ℕ) (b : Base) (q k : ℕ) → Passes is_number text q → Fits text (Many is_space ∷ based b) q k → ⊥
+number_avoids : (text : List ℕ) (b : Base) (q k : ℕ) → Passes is_number text q → HasForm text (Many is_space ∷ based b) q k → ⊥
 number_avoids text b q k s f = elim (cases_lt q f.0) [
   | inl l ↦ number_no_space _ s.1 (f.3 q (omega arith) l)
-  | inr l ↦ (let o = f.1 in let e : f.0 ≡ q = omega arith in let g = subst (λ m. Fits text (based b) m k) e f.4 in number_no_apostrophe _ s.1 g.0.1)
+  | inr l ↦ (let o = f.1 in let e : f.0 ≡ q = omega arith in let g = subst (λ m. HasForm text (based b) m k) e f.4 in number_no_apostrophe _ s.1 g.0.1)
 ]
 
-sized_rest : (text : List ℕ) (i j a n : ℕ) (b : Base) → Runs is_number text (i + 1) j → Runs is_space text j a → Fits text (sized b) i n → Fits text (based b) a n
+sized_rest : (text : List ℕ) (i j a n : ℕ) (b : Base) → Runs is_number text (i + 1) j → Runs is_space text j a → HasForm text (sized b) i n → HasForm text (based b) a n
 sized_rest text i j a n b r s f = run_then is_space (based b) text j a n s (space_no_apostrophe text b)
     (run_then is_number (Many is_space ∷ based b) text (i + 1) j n r (number_avoids text b) f.1)
 
@@ -230,14 +230,14 @@ digit_no_comment text i l h = no_comment text i l (let a = digit_above (get_or t
 
 -- how a based literal ends that begins with a digit
 sized_ends : (text : List ℕ) (i j a n : ℕ) → is_digit (get_or text i 0) ≡ true → Runs is_number text (i + 1) j → Runs is_space text j a → Spells text i (Item Based) n →
-    (b : Base) × Fits text (based b) a n
+    (b : Base) × HasForm text (based b) a n
 sized_ends text i j a n h r s f = elim f.1 [
   | inl g ↦ absurd (digit_no_apostrophe _ h g.0.1)
   | inr g ↦ (f.0, sized_rest text i j a n f.0 r s g)
 ]
 
 pub decimal_piece : (text : List ℕ) (i j a : ℕ) → i < length text → is_digit (get_or text i 0) ≡ true → Runs is_number text (i + 1) j → Runs is_space text j a →
-    ((b : Base) (n : ℕ) → Fits text (based b) a n → ⊥) → IsPiece text i (Item Decimal) j
+    ((b : Base) (n : ℕ) → HasForm text (based b) a n → ⊥) → IsPiece text i (Item Decimal) j
 decimal_piece text i j a l h r s none = record { spells = ((l, h), run_fits is_number [] text (i + 1) j j r refl); longest = longest }
   where
     longest : (p : Piece) (n : ℕ) → Spells text i p n → (n < j) ⊎ ((n ≡ j) × (p ≡ Item Decimal))
@@ -282,7 +282,7 @@ unsized_piece text i m l h b = record { spells = (b.base, inl b.fits); longest =
 pub apostrophe_no_comment : (text : List ℕ) (i : ℕ) → i < length text → get_or text i 0 ≡ 39 → opens_comment text i ≡ false
 apostrophe_no_comment text i l h = no_comment text i l (omega arith)
 
-pub apostrophe_alone : (text : List ℕ) (i : ℕ) → i < length text → get_or text i 0 ≡ 39 → ((b : Base) (n : ℕ) → Fits text (based b) i n → ⊥) → OnlyOperators text i
+pub apostrophe_alone : (text : List ℕ) (i : ℕ) → i < length text → get_or text i 0 ≡ 39 → ((b : Base) (n : ℕ) → HasForm text (based b) i n → ⊥) → OnlyOperators text i
 apostrophe_alone text i l h none = record { others = others; no_comment = apostrophe_no_comment text i l h }
   where
     others : (p : Piece) (n : ℕ) → Spells text i p n → (p ≡ Item Operator) ⊎ (p ≡ Item NotSupported)
@@ -334,10 +334,10 @@ dollar_alone text i j l h r e = record { others = others; no_comment = dollar_no
 
 -- strings
 
-quotes_avoid : (text : List ℕ) (q k : ℕ) → Passes is_inside text q → Fits text (One is_quote ∷ []) q k → ⊥
+quotes_avoid : (text : List ℕ) (q k : ℕ) → Passes is_inside text q → HasForm text (One is_quote ∷ []) q k → ⊥
 quotes_avoid text q k s f = let e = eqb-true (get_or text q 0) 34 f.0.1 in let g = subst (λ c. is_inside c ≡ true) e s.1 in absurd (cc)
 
-string_rest : (text : List ℕ) (i j n : ℕ) → Runs is_inside text (i + 1) j → Fits text quoted i n → Fits text (One is_quote ∷ []) j n
+string_rest : (text : List ℕ) (i j n : ℕ) → Runs is_inside text (i + 1) j → HasForm text quoted i n → HasForm text (One is_quote ∷ []) j n
 string_rest text i j n r f = run_then is_inside (One is_quote ∷ []) text (i + 1) j n r (quotes_avoid text) f.1
 
 quote_passes : (text : List ℕ) (i : ℕ) → get_or text i 0 ≡ 34 → Passes is_quote text i
@@ -471,7 +471,7 @@ blank_no_slash b e h = let g = subst (λ q. is_blank q ≡ true) e h in absurd (
 line_no_block : (text : List ℕ) (i : ℕ) → i < length text → stands text i (codes "//") ≡ true → stands text i (codes "/*") ≡ true → ⊥
 line_no_block text i l h k = let a = (second_byte text i 47 47 l h).1 in let b = (second_byte text i 47 42 l k).1 in absurd (omega (arith, a, b))
 
-line_stands : (text : List ℕ) (i n : ℕ) → Fits text line_comment i n → stands text i (codes "//") ≡ true
+line_stands : (text : List ℕ) (i n : ℕ) → HasForm text line_comment i n → stands text i (codes "//") ≡ true
 line_stands text i n f = stands_two text i 47 47 f.1.0.0 (eqb-true _ 47 f.0.1) (eqb-true _ 47 f.1.0.1)
 
 slash_short : (text : List ℕ) (i j n : ℕ) (p : Piece) (k : TokenKind) → i < length text → get_or text i 0 ≡ 47 → i + 1 < j → IsOneAt text i k operators n → (n < j) ⊎ ((n ≡ j) × (p ≡ Separator))
@@ -495,7 +495,7 @@ block_inside text i l h = stands_inside text i (47 ∷ 42 ∷ []) (omega arith) 
 
 pub line_piece : (text : List ℕ) (i j : ℕ) → i < length text → get_or text i 0 ≡ 47 → stands text i (codes "//") ≡ true → Runs is_in_line text (i + 2) j → IsPiece text i Separator j
 line_piece text i j l h s r = record {
-  spells = inr (inl (slash_passes text i h, (slash_passes text (i + 1) (second_byte text i 47 47 l s).1, (let e : i + 2 ≡ i + 1 + 1 = omega arith in subst (λ q. Fits text (Many is_in_line ∷ []) q j) e (run_fits is_in_line [] text (i + 2) j j r refl)))));
+  spells = inr (inl (slash_passes text i h, (slash_passes text (i + 1) (second_byte text i 47 47 l s).1, (let e : i + 2 ≡ i + 1 + 1 = omega arith in subst (λ q. HasForm text (Many is_in_line ∷ []) q j) e (run_fits is_in_line [] text (i + 2) j j r refl)))));
   longest = slash_pieces text i j l h (let a = r.from in omega arith) most;
 }
   where
@@ -503,7 +503,7 @@ line_piece text i j l h s r = record {
     most n f = elim f [
       | inl b ↦ absurd (blank_no_slash _ h b.0.1)
       | inr g ↦ elim g [
-        | inl c ↦ (let e : i + 1 + 1 ≡ i + 2 = omega arith in run_last is_in_line text (i + 2) j n r (subst (λ q. Fits text (Many is_in_line ∷ []) q n) e c.1.1))
+        | inl c ↦ (let e : i + 1 + 1 ≡ i + 2 = omega arith in run_last is_in_line text (i + 2) j n r (subst (λ q. HasForm text (Many is_in_line ∷ []) q n) e c.1.1))
         | inr c ↦ absurd (line_no_block text i l s c.opens)
       ]
     ]

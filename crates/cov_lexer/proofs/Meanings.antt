@@ -8,7 +8,7 @@ use Rattle.cov_lexer.specs.declared.bytes.Base.{Base}
 use Rattle.cov_lexer.specs.declared.bytes.Base.TheVariants as bases
 use Rattle.cov_tree.specs.declared.literal.Literal.{Literal}
 use Rattle.cov_lexer.specs.Bytes.{is_digit, is_number, is_space, is_apostrophe, is_sign, is_base, is_base_digit, is_base_more}
-use Rattle.cov_lexer.specs.Forms.{Part, One, Maybe, Many, Passes, Fits, decimal, based, sized, digits as digits_in}
+use Rattle.cov_lexer.specs.Forms.{Part, One, Maybe, Many, Passes, HasForm, decimal, based, sized, digits as digits_in}
 use Rattle.cov_lexer.specs.Literals.{base_of, value_of, decimal_literal, meaning, spaces, marks, IsSize, IsBased, IsDecimal, IsLiteral, IsNumber, run_to, are_digits, lettered, based_literal, literal_of}
 use Rattle.cov_lexer.specs.Reading.{Runs}
 use Rattle.cov_lexer.proofs.Fitting.{inside, run_fits}
@@ -42,7 +42,7 @@ run_is p text i j r =
       ]
     ]
 
-fits_run : (p : ℕ → Bool) (text : List ℕ) (i j : ℕ) → Fits text (Many p ∷ []) i j → (j < length text → p (get_or text j 0) ≡ false) → Runs p text i j
+fits_run : (p : ℕ → Bool) (text : List ℕ) (i j : ℕ) → HasForm text (Many p ∷ []) i j → (j < length text → p (get_or text j 0) ≡ false) → Runs p text i j
 fits_run p text i j f h = subst (λ q. Runs p text i q) f.4 (record { from = f.1; inside = f.2; all = f.3; stops = subst (λ q. q < length text → p (get_or text q 0) ≡ false) (sym f.4) h })
 
 not_true : (x : Bool) → (x ≡ true → ⊥) → x ≡ false
@@ -60,7 +60,7 @@ decimal_means text f =
 
 -- a based literal
 
-digits_mean : (text size : List ℕ) (signed : Bool) (base : Base) (l f : ℕ) → Fits text (One (is_base base) ∷ spaces) l f → Fits text (digits_in base) f (length text) →
+digits_mean : (text size : List ℕ) (signed : Bool) (base : Base) (l f : ℕ) → HasForm text (One (is_base base) ∷ spaces) l f → HasForm text (digits_in base) f (length text) →
     lettered text size signed l ≡ meaning size signed base (drop f text)
 digits_mean text size signed base l f b d =
     let o : base_of (get_or text l 0) ≡ Some base = base_is base _ b.0.1 in
@@ -70,23 +70,23 @@ digits_mean text size signed base l f b d =
     let t : nat_eq (length text) (length text) ≡ true = eq-eqb (length text) (length text) refl in
     rw (o, e, d.0.1, m, t) refl
 
-marks_mean : (text size : List ℕ) (signed : Bool) (base : Base) (a l f : ℕ) → Fits text (marks signed) a l → Fits text (One (is_base base) ∷ spaces) l f → Fits text (digits_in base) f (length text) →
+marks_mean : (text size : List ℕ) (signed : Bool) (base : Base) (a l f : ℕ) → HasForm text (marks signed) a l → HasForm text (One (is_base base) ∷ spaces) l f → HasForm text (digits_in base) f (length text) →
     based_literal text size a ≡ meaning size signed base (drop f text)
 marks_mean text size true base a l f m b d =
     let e : l ≡ a + 2 = (let x = m.1.1 in omega arith) in
-    rw (m.0.1, m.1.0.1) (digits_mean text size true base (a + 2) f (subst (λ q. Fits text (One (is_base base) ∷ spaces) q f) e b) d)
+    rw (m.0.1, m.1.0.1) (digits_mean text size true base (a + 2) f (subst (λ q. HasForm text (One (is_base base) ∷ spaces) q f) e b) d)
 marks_mean text size false base a l f m b d =
     let e : l ≡ a + 1 = sym m.1 in
-    let b1 = subst (λ q. Fits text (One (is_base base) ∷ spaces) q f) e b in
+    let b1 = subst (λ q. HasForm text (One (is_base base) ∷ spaces) q f) e b in
     let s : is_sign (get_or text (a + 1) 0) ≡ false = not_true _ (λ h. no_base_sign base _ h b1.0.1) in
     rw (m.0.1, s) (digits_mean text size false base (a + 1) f b1 d)
 
-mark_passes : (text : List ℕ) (signed : Bool) (a l : ℕ) → Fits text (marks signed) a l → Passes is_apostrophe text a
+mark_passes : (text : List ℕ) (signed : Bool) (a l : ℕ) → HasForm text (marks signed) a l → Passes is_apostrophe text a
 mark_passes text true a l m = m.0
 mark_passes text false a l m = m.0
 
 -- a byte that is a space or the apostrophe ends the size
-size_stops : (text : List ℕ) (n a : ℕ) → Fits text spaces n a → Passes is_apostrophe text a → is_number (get_or text n 0) ≡ false
+size_stops : (text : List ℕ) (n a : ℕ) → HasForm text spaces n a → Passes is_apostrophe text a → is_number (get_or text n 0) ≡ false
 size_stops text n a s p = not_true _ (λ h. elim (cases_lt n a) [
   | inl l ↦ (let e = s.4 in number_no_space _ h (s.3 n (omega arith) (omega arith)))
   | inr l ↦ (let x = s.1 in let y = s.4 in let e : a ≡ n = omega arith in number_no_apostrophe _ h (subst (λ q. is_apostrophe (get_or text q 0) ≡ true) e p.1))
@@ -119,9 +119,9 @@ option_cases None = inl refl
 option_cases (Some x) = inr (x, refl)
 
 abbrev Lettered : List ℕ → ℕ → Type 0
-Lettered text l = (base : Base) × (f : ℕ) × Fits text (One (is_base base) ∷ spaces) l f × Fits text (digits_in base) f (length text)
+Lettered text l = (base : Base) × (f : ℕ) × HasForm text (One (is_base base) ∷ spaces) l f × HasForm text (digits_in base) f (length text)
 
-run_form : (p : ℕ → Bool) (text : List ℕ) (i : ℕ) → i ≤ length text → Fits text (Many p ∷ []) i (run_to p text i)
+run_form : (p : ℕ → Bool) (text : List ℕ) (i : ℕ) → i ≤ length text → HasForm text (Many p ∷ []) i (run_to p text i)
 run_form p text i l = run_fits p [] text i (run_to p text i) (run_to p text i) (runs p text i l) refl
 
 letter_or_none : (text size : List ℕ) (signed : Bool) (l : ℕ) → (lettered text size signed l ≡ None) ⊎ Lettered text l
@@ -136,7 +136,7 @@ letter_or_none text size signed l = elim (option_cases (base_of (get_or text l 0
         let d = digit_passes text f b.0 t.0 in
         let x = p.0 in let w = d.0 in
         let e : run_to (is_base_more b.0) text (f + 1) ≡ length text = eqb-true _ _ t.1 in
-        inr (b.0, f, (p, run_form is_space text (l + 1) (omega arith)), (d, subst (λ q. Fits text (Many (is_base_more b.0) ∷ []) (f + 1) q) e (run_form (is_base_more b.0) text (f + 1) (omega arith)))))
+        inr (b.0, f, (p, run_form is_space text (l + 1) (omega arith)), (d, subst (λ q. HasForm text (Many (is_base_more b.0) ∷ []) (f + 1) q) e (run_form (is_base_more b.0) text (f + 1) (omega arith)))))
   ]
 ]
 
@@ -195,9 +195,9 @@ none_means text none = elim (cases_Bool (is_digit (get_or text 0 0))) [
       let d = inside is_digit text 0 refl y in
       let x = d.0 in
       let n = run_to is_number text 1 in
-      let f : Fits text decimal 0 n = (d, run_form is_number text 1 (omega arith)) in
+      let f : HasForm text decimal 0 n = (d, run_form is_number text 1 (omega arith)) in
       elim (cases_Bool (nat_eq n (length text))) [
-        | inl e ↦ absurd (none (inl (subst (λ q. Fits text decimal 0 q) (eqb-true n (length text) e) f)))
+        | inl e ↦ absurd (none (inl (subst (λ q. HasForm text decimal 0 q) (eqb-true n (length text) e) f)))
         | inr e ↦ rw (y, e) (
             let u = (runs is_number text 1 (omega arith)).inside in
             based_or_none text (take n text) (run_to is_space text n) (inr (n, f, run_form is_space text n u, refl)) none)
@@ -240,13 +240,13 @@ sized_from text n a h r s ne = let x = run_is is_number text 1 n r in let y = ru
 
 -- what the lexer finds as a literal is one
 
-fits_from : (ps : List Part) (text : List ℕ) (i j : ℕ) → Fits text ps i j → i ≤ j
+fits_from : (ps : List Part) (text : List ℕ) (i j : ℕ) → HasForm text ps i j → i ≤ j
 fits_from [] text i j f = omega (arith, f)
 fits_from (One p ∷ ps) text i j f = let a = fits_from ps text (i + 1) j f.1 in omega arith
 fits_from (Maybe p ∷ ps) text i j f = elim f [ inl g ↦ fits_from ps text i j g | inr g ↦ (let a = fits_from ps text (i + 1) j g.1 in omega arith) ]
 fits_from (Many p ∷ ps) text i j f = let a = fits_from ps text f.0 j f.4 in let b = f.1 in omega arith
 
-fits_inside : (ps : List Part) (text : List ℕ) (i j : ℕ) → i ≤ length text → Fits text ps i j → j ≤ length text
+fits_inside : (ps : List Part) (text : List ℕ) (i j : ℕ) → i ≤ length text → HasForm text ps i j → j ≤ length text
 fits_inside [] text i j l f = omega (arith, f)
 fits_inside (One p ∷ ps) text i j l f = let a = f.0.0 in fits_inside ps text (i + 1) j (omega arith) f.1
 fits_inside (Maybe p ∷ ps) text i j l f = elim f [ inl g ↦ fits_inside ps text i j l g | inr g ↦ (let a = g.0.0 in fits_inside ps text (i + 1) j (omega arith) g.1) ]
@@ -262,18 +262,18 @@ part_passes : (p : ℕ → Bool) (text : List ℕ) (i n q : ℕ) → n ≤ lengt
 part_passes p text i n q u l h = ((let e = part_length text i n (omega arith) u in omega arith), subst (λ x. p x ≡ true) (sym (part_byte text i n q l)) h)
 
 -- what fits in a text fits in a part of it
-part_fits : (ps : List Part) (text : List ℕ) (i n a b : ℕ) → n ≤ length text → i + b ≤ n → Fits text ps (i + a) (i + b) → Fits (slice_range text i n) ps a b
+part_fits : (ps : List Part) (text : List ℕ) (i n a b : ℕ) → n ≤ length text → i + b ≤ n → HasForm text ps (i + a) (i + b) → HasForm (slice_range text i n) ps a b
 part_fits [] text i n a b u l f = omega (arith, f)
 part_fits (One p ∷ ps) text i n a b u l f =
     let e : i + a + 1 ≡ i + (a + 1) = omega arith in
     let k = fits_from ps text (i + a + 1) (i + b) f.1 in
-    (part_passes p text i n a u (omega arith) f.0.1, part_fits ps text i n (a + 1) b u l (subst (λ q. Fits text ps q (i + b)) e f.1))
+    (part_passes p text i n a u (omega arith) f.0.1, part_fits ps text i n (a + 1) b u l (subst (λ q. HasForm text ps q (i + b)) e f.1))
 part_fits (Maybe p ∷ ps) text i n a b u l f = elim f [
   | inl g ↦ inl (part_fits ps text i n a b u l g)
   | inr g ↦ (
       let e : i + a + 1 ≡ i + (a + 1) = omega arith in
       let k = fits_from ps text (i + a + 1) (i + b) g.1 in
-      inr (part_passes p text i n a u (omega arith) g.0.1, part_fits ps text i n (a + 1) b u l (subst (λ q. Fits text ps q (i + b)) e g.1)))
+      inr (part_passes p text i n a u (omega arith) g.0.1, part_fits ps text i n (a + 1) b u l (subst (λ q. HasForm text ps q (i + b)) e g.1)))
 ]
 part_fits (Many p ∷ ps) text i n a b u l f =
     let k = fits_from ps text f.0 (i + b) f.4 in
@@ -283,20 +283,20 @@ part_fits (Many p ∷ ps) text i n a b u l f =
       omega arith,
       (let g = part_length text i n (omega arith) u in omega arith),
       (λ q x y. subst (λ c. p c ≡ true) (sym (part_byte text i n q (omega arith))) (f.3 (i + q) (omega arith) (omega arith))),
-      part_fits ps text i n (f.0 - i) b u l (subst (λ q. Fits text ps q (i + b)) e f.4),
+      part_fits ps text i n (f.0 - i) b u l (subst (λ q. HasForm text ps q (i + b)) e f.4),
     )
 
-piece_fits : (ps : List Part) (text : List ℕ) (i j : ℕ) → i < length text → Fits text ps i j → Fits (slice_range text i j) ps 0 (length (slice_range text i j))
+piece_fits : (ps : List Part) (text : List ℕ) (i j : ℕ) → i < length text → HasForm text ps i j → HasForm (slice_range text i j) ps 0 (length (slice_range text i j))
 piece_fits ps text i j l f =
     let a = fits_from ps text i j f in
     let u = fits_inside ps text i j (omega arith) f in
     let e : i ≡ i + 0 = omega arith in
     let g : j ≡ i + (j - i) = omega arith in
     let k : i + (j - i) ≤ j = omega arith in
-    subst (λ q. Fits (slice_range text i j) ps 0 q) (sym (part_length text i j a u))
-    (part_fits ps text i j 0 (j - i) u k (subst (λ q. Fits text ps q (i + (j - i))) e (subst (λ q. Fits text ps i q) g f)))
+    subst (λ q. HasForm (slice_range text i j) ps 0 q) (sym (part_length text i j a u))
+    (part_fits ps text i j 0 (j - i) u k (subst (λ q. HasForm text ps q (i + (j - i))) e (subst (λ q. HasForm text ps i q) g f)))
 
-based_is : (text size : List ℕ) (base : Base) (a : ℕ) → IsSize text size a → Fits text (based base) a (length text) → IsLiteral text
+based_is : (text size : List ℕ) (base : Base) (a : ℕ) → IsSize text size a → HasForm text (based base) a (length text) → IsLiteral text
 based_is text size base a s f = elim f.1 [
   | inl g ↦ inr (
     size,
@@ -332,7 +332,7 @@ based_is text size base a s f = elim f.1 [
   ))
 ]
 
-sized_is : (text : List ℕ) (base : Base) → Fits text (sized base) 0 (length text) → IsLiteral text
+sized_is : (text : List ℕ) (base : Base) → HasForm text (sized base) 0 (length text) → IsLiteral text
 sized_is text base f =
     let n = f.1 in
     let m = n.4 in

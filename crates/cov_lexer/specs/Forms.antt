@@ -22,11 +22,11 @@ abbrev pub Passes : (ℕ → Bool) → List ℕ → ℕ → Type 0
 Passes p text i = (i < length text) × (p (slice_index text i) ≡ true)
 
 -- the bytes from i up to j are parts of these kinds, in this order
-abbrev pub Fits : List ℕ → List Part → ℕ → ℕ → Type 0
-Fits text [] i j = i ≡ j
-Fits text (One p ∷ ps) i j = Passes p text i × Fits text ps (i + 1) j
-Fits text (Maybe p ∷ ps) i j = Fits text ps i j ⊎ (Passes p text i × Fits text ps (i + 1) j)
-Fits text (Many p ∷ ps) i j = (m : ℕ) × (i ≤ m) × (m ≤ length text) × AllPass p text i m × Fits text ps m j
+abbrev pub HasForm : List ℕ → List Part → ℕ → ℕ → Type 0
+HasForm text [] i j = i ≡ j
+HasForm text (One p ∷ ps) i j = Passes p text i × HasForm text ps (i + 1) j
+HasForm text (Maybe p ∷ ps) i j = HasForm text ps i j ⊎ (Passes p text i × HasForm text ps (i + 1) j)
+HasForm text (Many p ∷ ps) i j = (m : ℕ) × (i ≤ m) × (m ≤ length text) × AllPass p text i m × HasForm text ps m j
 
 -- the forms, one a line
 
@@ -42,11 +42,11 @@ decimal = One is_digit ∷ Many is_number ∷ []
 abbrev pub digits : Base → List Part
 digits base = One (is_base_digit base) ∷ Many (is_base_more base) ∷ []
 
-abbrev pub marked : Base → List Part
-marked base = One (is_base base) ∷ Many is_space ∷ digits base
+abbrev pub base_and_digits : Base → List Part
+base_and_digits base = One (is_base base) ∷ Many is_space ∷ digits base
 
 abbrev pub based : Base → List Part
-based base = One is_apostrophe ∷ Maybe is_sign ∷ marked base
+based base = One is_apostrophe ∷ Maybe is_sign ∷ base_and_digits base
 
 abbrev pub sized : Base → List Part
 sized base = One is_digit ∷ Many is_number ∷ Many is_space ∷ based base
@@ -76,13 +76,13 @@ pub data Piece : Type 0 where
 
 -- the bytes from i up to j have a form of this piece
 abbrev pub Spells : List ℕ → ℕ → Piece → ℕ → Type 0
-Spells text i Separator j = Fits text blank i j ⊎ (Fits text line_comment i j ⊎ IsBlockComment text i j)
-Spells text i (Item Ident) j = Fits text name i j × (is_keyword (slice_range text i j) ≡ false)
-Spells text i (Item Keyword) j = Fits text name i j × (is_keyword (slice_range text i j) ≡ true)
-Spells text i (Item System) j = Fits text system_name i j
-Spells text i (Item Decimal) j = Fits text decimal i j
-Spells text i (Item Based) j = (base : Base) × (Fits text (based base) i j ⊎ Fits text (sized base) i j)
-Spells text i (Item Text) j = Fits text quoted i j
+Spells text i Separator j = HasForm text blank i j ⊎ (HasForm text line_comment i j ⊎ IsBlockComment text i j)
+Spells text i (Item Ident) j = HasForm text name i j × (is_keyword (slice_range text i j) ≡ false)
+Spells text i (Item Keyword) j = HasForm text name i j × (is_keyword (slice_range text i j) ≡ true)
+Spells text i (Item System) j = HasForm text system_name i j
+Spells text i (Item Decimal) j = HasForm text decimal i j
+Spells text i (Item Based) j = (base : Base) × (HasForm text (based base) i j ⊎ HasForm text (sized base) i j)
+Spells text i (Item Text) j = HasForm text quoted i j
 Spells text i (Item Operator) j = IsOneAt text i Operator operators j
 Spells text i (Item NotSupported) j = IsOneAt text i NotSupported operators j
 

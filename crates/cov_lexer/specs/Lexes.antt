@@ -71,7 +71,7 @@ IsFaultAt text (LiteralTooWide k) =
 IsFaultAt text Memory = ⊥
 
 -- the text is covered up to the fault
-pub record IsFault (text : List ℕ) (f : LexFault) : Type 0 where
+pub record IsLexFault (text : List ℕ) (f : LexFault) : Type 0 where
   pub before : (c : ℕ) × (ts : List Token) × Covers text c 0 ts (place f)
   pub inside : place f < length text
   pub here : IsFaultAt text f

@@ -7,7 +7,7 @@ use Rattle.cov_lexer.specs.declared.bytes.Base.{Base}
 use Rattle.cov_lexer.specs.declared.bytes.Base.TheVariants.{Binary, Octal, Decimal, Hexadecimal}
 use Rattle.cov_lexer.specs.Bytes.{is_unknown, is_apostrophe, is_sign, is_digit, is_number, is_space, is_base, is_base_digit, is_base_more}
 use Rattle.cov_lexer.specs.declared.token.TokenKind.TheVariants.{Based, Decimal as Number}
-use Rattle.cov_lexer.specs.Forms.{Part, One, Many, Fits, decimal, digits as digits_in, Item, Spells}
+use Rattle.cov_lexer.specs.Forms.{Part, One, Many, HasForm, decimal, digits as digits_in, Item, Spells}
 
 -- how many bits a digit stands for; none of its own where the base is ten
 abbrev pub digit_bits : Base → ℕ
@@ -103,7 +103,7 @@ spaces = Many is_space ∷ []
 abbrev pub IsSize : List ℕ → List ℕ → ℕ → Type 0
 IsSize text size i =
     ((size ≡ []) × (i ≡ 0))
-    ⊎ ((n : ℕ) × Fits text decimal 0 n × Fits text spaces n i × (size ≡ take n text))
+    ⊎ ((n : ℕ) × HasForm text decimal 0 n × HasForm text spaces n i × (size ≡ take n text))
 
 -- the apostrophe, and an `s` where the literal is signed
 abbrev pub marks : Bool → List Part
@@ -116,14 +116,14 @@ pub record IsBased (text : List ℕ) (size : List ℕ) (signed : Bool) (base : B
   pub letter : ℕ
   pub first : ℕ
   pub sized : IsSize text size apostrophe
-  pub marked : Fits text (marks signed) apostrophe letter
-  pub in_base : Fits text (One (is_base base) ∷ spaces) letter first
-  pub spelled : Fits text (digits_in base) first (length text)
+  pub marked : HasForm text (marks signed) apostrophe letter
+  pub in_base : HasForm text (One (is_base base) ∷ spaces) letter first
+  pub spelled : HasForm text (digits_in base) first (length text)
   pub are : digits ≡ drop first text
 
 -- the text is a decimal literal
 abbrev pub IsDecimal : List ℕ → Type 0
-IsDecimal text = Fits text decimal 0 (length text)
+IsDecimal text = HasForm text decimal 0 (length text)
 
 abbrev pub IsLiteral : List ℕ → Type 0
 IsLiteral text = IsDecimal text ⊎ ((size : _) × (signed : _) × (base : _) × (digits : _) × IsBased text size signed base digits)

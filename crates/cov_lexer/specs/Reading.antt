@@ -10,7 +10,7 @@ use Rattle.cov_lexer.specs.declared.token.TokenKind.TheVariants.{Operator, NotSu
 use Rattle.cov_lexer.specs.declared.token.LexFault.{LexFault}
 use Rattle.cov_lexer.specs.Spellings.{Spelling, operators}
 use Rattle.cov_lexer.specs.Operators.{sort_of, stands, IsOneAt}
-use Rattle.cov_lexer.specs.Forms.{AllPass, Part, Fits, Piece, Separator, Item, Spells, IsPiece}
+use Rattle.cov_lexer.specs.Forms.{AllPass, Part, HasForm, Piece, Separator, Item, Spells, IsPiece}
 use Rattle.cov_lexer.specs.Lexes.{IsToken, IsSpelled, IsFaultAt, place, opens_comment}
 
 -- the bytes from i up to j pass the test, and the one at j doesn't
@@ -42,13 +42,13 @@ OperatorAt text i (Some x) = IsOperator text i x.0 x.1
 -- what fits a form of one of the bases, and is the longest that does
 pub record IsLongestOf (form : Base → List Part) (text : List ℕ) (i : ℕ) (j : ℕ) : Type 0 where
   pub base : Base
-  pub fits : Fits text (form base) i j
-  pub longest : (b : Base) (n : ℕ) → Fits text (form b) i n → n ≤ j
+  pub fits : HasForm text (form base) i j
+  pub longest : (b : Base) (n : ℕ) → HasForm text (form b) i n → n ≤ j
   pub more : i + 1 < j
   pub inside : j ≤ length text
 
 abbrev pub EndsOf : (Base → List Part) → List ℕ → ℕ → Option ℕ → Type 0
-EndsOf form text i None = (b : Base) (n : ℕ) → Fits text (form b) i n → ⊥
+EndsOf form text i None = (b : Base) (n : ℕ) → HasForm text (form b) i n → ⊥
 EndsOf form text i (Some j) = IsLongestOf form text i j
 
 -- the first `*/` at i or behind it

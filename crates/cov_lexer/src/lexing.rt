@@ -2,7 +2,7 @@
 ghost use Rattle.std.specs.Prelude.{◌≡◌, ◌≤◌, ◌≢◌, length, IfOk, IfErr};
 ghost use Rattle.cov_ground.specs.Limits.{longest_design};
 ghost use Rattle.cov_lexer.specs.declared.token.LexFault.TheVariants.{Memory};
-ghost use Rattle.cov_lexer.specs.Lexes.{Lexes, IsFault, Ascend, AllWithin};
+ghost use Rattle.cov_lexer.specs.Lexes.{Lexes, IsLexFault, Ascend, AllWithin};
 
 use crate::pieces::piece_at;
 use crate::token::{LexFault, Token};
@@ -18,10 +18,10 @@ pub fn lex(alloc: Global, text: &[u8]) -> Result<Vec<Token>, LexFault>
         (λ tokens. (others : _) → Lexes text.now others → others ≡ tokens.items) }
     ensures ascend { IfOk result (λ tokens. Ascend 0 tokens.items (length text.now)) }
     ensures within { IfOk result (λ tokens. AllWithin text.now tokens.items) }
-    ensures sound { IfOk result (λ _. (fault : _) → IsFault text.now fault → ⊥) }
-    ensures cause { IfErr result (λ fault. fault ≢ Memory → IsFault text.now fault) }
+    ensures sound { IfOk result (λ _. (fault : _) → IsLexFault text.now fault → ⊥) }
+    ensures cause { IfErr result (λ fault. fault ≢ Memory → IsLexFault text.now fault) }
     ensures only_cause { IfErr result
-        (λ fault. fault ≢ Memory → (other : _) → IsFault text.now other → other ≡ fault) }
+        (λ fault. fault ≢ Memory → (other : _) → IsLexFault text.now other → other ≡ fault) }
     ensures none { IfErr result
         (λ fault. fault ≢ Memory → (tokens : _) → Lexes text.now tokens → ⊥) }
 {

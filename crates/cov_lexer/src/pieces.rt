@@ -2,7 +2,7 @@
 ghost use Rattle.std.specs.Prelude.{◌≡◌, ◌≢◌, ◌≤◌, ◌<◌, ◌^◌, length, ◌⊎◌, slice_index, true, false, Some, None};
 ghost use Rattle.cov_lexer.specs.Bytes.{is_letter, is_digit};
 ghost use Rattle.cov_lexer.specs.declared.token.TokenKind.TheVariants.{Decimal, Based};
-ghost use Rattle.cov_lexer.specs.Forms.{based, marked, IsPiece, Item};
+ghost use Rattle.cov_lexer.specs.Forms.{based, base_and_digits, IsPiece, Item};
 ghost use Rattle.cov_lexer.specs.Lexes.{opens_comment};
 ghost use Rattle.cov_lexer.specs.Reading.{Finds, EndsOf, ClosesAt, OnlyOperators};
 
@@ -142,7 +142,7 @@ fn based_end(text: &[u8], at: usize) -> Option<usize>
 /// Where the based literal ends whose base letter stands at this place.
 fn marked_end(text: &[u8], at: usize) -> Option<usize>
     requires { at ≤ length text.now }
-    ensures { EndsOf marked text.now at result }
+    ensures { EndsOf base_and_digits text.now at result }
 {
     let Some(base) = Base::of(byte_at(text, at)) else {
         return None;

@@ -16,8 +16,8 @@ abbrev pub place_of : List ℕ → List Marked → ℕ → ℕ
 place_of text ts k = begin_of text (slice_get ts k)
 
 -- what the fault tells is so, at the byte at which its token begins
-abbrev pub IsFault : List ℕ → List Token → ParseFault → Type 0
-IsFault text tokens (Syntax at) = (k : ℕ) × IsSyntaxFault limits text (marked text tokens) k × (is_foreign (marked text tokens) k ≡ false) × (at ≡ place_of text (marked text tokens) k)
-IsFault text tokens (NotSupported at) = (k : ℕ) × IsSyntaxFault limits text (marked text tokens) k × (is_foreign (marked text tokens) k ≡ true) × (at ≡ place_of text (marked text tokens) k)
-IsFault text tokens (TooDeep at) = (k : ℕ) × IsTooDeepAt limits text (marked text tokens) k × (at ≡ place_of text (marked text tokens) k)
-IsFault text tokens Memory = ⊥
+abbrev pub IsParseFault : List ℕ → List Token → ParseFault → Type 0
+IsParseFault text tokens (Syntax at) = (k : ℕ) × IsSyntaxFault limits text (marked text tokens) k × (is_foreign (marked text tokens) k ≡ false) × (at ≡ place_of text (marked text tokens) k)
+IsParseFault text tokens (NotSupported at) = (k : ℕ) × IsSyntaxFault limits text (marked text tokens) k × (is_foreign (marked text tokens) k ≡ true) × (at ≡ place_of text (marked text tokens) k)
+IsParseFault text tokens (TooDeep at) = (k : ℕ) × IsTooDeepAt limits text (marked text tokens) k × (at ≡ place_of text (marked text tokens) k)
+IsParseFault text tokens Memory = ⊥

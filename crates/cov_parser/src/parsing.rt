@@ -6,7 +6,7 @@ ghost use Rattle.cov_grammar.specs.Marking.{marked};
 ghost use Rattle.cov_grammar.specs.Parses.{Parses};
 ghost use Rattle.cov_grammar.specs.Designs.{decl};
 ghost use Rattle.cov_grammar.specs.Fault.{DerivesWithin, Derives, IsCause, is_foreign, limits};
-ghost use Rattle.cov_parser.specs.Parse.{place_of, IsFault};
+ghost use Rattle.cov_parser.specs.Parse.{place_of, IsParseFault};
 ghost use Rattle.cov_parser.specs.Told.{told};
 ghost use Rattle.cov_parser.specs.declared.fault.ParseFault.TheVariants.{Memory};
 ghost use Rattle.cov_parser.specs.Reading.{over};
@@ -34,10 +34,10 @@ pub fn parse(alloc: Global, text: &[u8], tokens: &[Token]) -> Result<DesignText,
         DerivesWithin limits text.now (marked text.now tokens.now) design.decls) }
     ensures only { IfOk result (λ design. (decls : _) →
         Derives text.now (marked text.now tokens.now) decls → decls ≡ design.decls) }
-    ensures sound { IfOk result (λ _. (fault : _) → IsFault text.now tokens.now fault → ⊥) }
-    ensures cause { IfErr result (λ fault. fault ≢ Memory → IsFault text.now tokens.now fault) }
+    ensures sound { IfOk result (λ _. (fault : _) → IsParseFault text.now tokens.now fault → ⊥) }
+    ensures cause { IfErr result (λ fault. fault ≢ Memory → IsParseFault text.now tokens.now fault) }
     ensures only_cause { IfErr result (λ fault. fault ≢ Memory →
-        (other : _) → IsFault text.now tokens.now other → other ≡ fault) }
+        (other : _) → IsParseFault text.now tokens.now other → other ≡ fault) }
     ensures none { IfErr result (λ fault. fault ≢ Memory →
         (decls : _) → DerivesWithin limits text.now (marked text.now tokens.now) decls → ⊥) }
 {

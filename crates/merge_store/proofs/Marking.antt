@@ -15,7 +15,7 @@ use Rattle.ucis_model.specs.Paths.{node_at, HasSmallerParents}
 use Rattle.cov_history.specs.Nodes.{bin_nodes, all_nodes, bins_under, is_bin, kind_of_bin}
 use Rattle.cov_history.specs.Coverage.{is_out, is_excluded, is_live, is_covered, live_under, covered_under}
 use Rattle.cov_history.proofs.Bools.{by_bool, and_false}
-use Rattle.merge_store.specs.Runs.{Marks, marks_in, marked, unmarked, remarked, stands, stands_covered, bin_at, has_row, HasMarks, live_in, covered_in}
+use Rattle.merge_store.specs.Runs.{Marks, marks_in, with_marks, unmarked, remarked, stands, stands_covered, bin_at, has_row, HasMarks, live_in, covered_in}
 use Rattle.merge_store.specs.Branches.{part}
 use Rattle.merge_store.proofs.Numbers.{bin_number, no_root, passes, map_at}
 use Rattle.merge_store.proofs.Ranges.{at_any}
@@ -35,7 +35,7 @@ module _ (nodes : List Node) (counts : List ℕ) (out : List (Option (List ℕ))
       by_bool (nat_lt k (length (bin_nodes nodes)))
       (λ t.
       let inside : k < length (bin_nodes nodes) = ltb-true k (length (bin_nodes nodes)) t in
-      let new : Marks = marked k (stands nodes out (bin_at nodes k)) (stands_covered nodes counts out (bin_at nodes k)) marks in
+      let new : Marks = with_marks k (stands nodes out (bin_at nodes k)) (stands_covered nodes counts out (bin_at nodes k)) marks in
       let whole : HasMarks nodes counts out (λ p. done p || (k == p)) new = record {
         parents = h.parents;
         live_len = length-set marks.live k (stands nodes out (bin_at nodes k)) ∙ h.live_len;

@@ -50,8 +50,8 @@ abbrev pub unmarked : List ℕ → Marks
 unmarked parents = record { parents = parents; live = replicate (length parents) false; covered = replicate (length parents) false }
 
 -- with both marks of a bin
-abbrev pub marked : (place : ℕ) → (live covered : Bool) → Marks → Marks
-marked place live covered marks = record { parents = marks.parents; live = slice_set marks.live place live; covered = slice_set marks.covered place covered }
+abbrev pub with_marks : (place : ℕ) → (live covered : Bool) → Marks → Marks
+with_marks place live covered marks = record { parents = marks.parents; live = slice_set marks.live place live; covered = slice_set marks.covered place covered }
 
 -- ---- what the marks of a design's bins say
 
@@ -76,7 +76,7 @@ pub record HasMarks (nodes : List Node) (counts : List ℕ) (out : List (Option 
 
 -- the marks of a bin as they should be
 abbrev pub remarked : List Node → (counts : List ℕ) → (out : List (Option (List ℕ))) → (place : ℕ) → Marks → Marks
-remarked nodes counts out place marks = if nat_lt place (length (bin_nodes nodes)) then marked place (stands nodes out (bin_at nodes place)) (stands_covered nodes counts out (bin_at nodes place)) marks else marks
+remarked nodes counts out place marks = if nat_lt place (length (bin_nodes nodes)) then with_marks place (stands nodes out (bin_at nodes place)) (stands_covered nodes counts out (bin_at nodes place)) marks else marks
 
 -- some row is of this bin
 abbrev pub has_row : List (ℕ × ℕ) → ℕ → Bool

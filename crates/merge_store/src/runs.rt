@@ -1,13 +1,13 @@
 //! Marks of bins, with how many are set among bins of one parent in a row.
 ghost use Rattle.std.specs.Prelude.{◌≡◌, ℕ, ◌+◌, ◌-◌, ◌<◌, ◌≤◌, ◌^◌, ◌∷◌, ◌++◌, [], true, false, length, replicate, slice_index, slice_index_or, slice_set, IfOk, OnOk};
-ghost use Rattle.merge_store.specs.Runs.{begin_of, marks_in, marked, unmarked, renumbered, HasRuns};
+ghost use Rattle.merge_store.specs.Runs.{begin_of, marks_in, with_marks, unmarked, renumbered, HasRuns};
 
 use cov_base::Memory;
 use std::alloc::Global;
 use std::marker::Model;
 
 /// Bins in order, each with the node right above it and two marks: whether it counts, and whether it is covered as well.
-/// How many are marked is kept for each row of bins of one parent.
+/// How many are with_marks is kept for each row of bins of one parent.
 #[derive(Drop)]
 pub(crate) struct Runs {
     parents: Vec<u32>,
@@ -33,7 +33,7 @@ impl Model for Runs {
         × (length runs.parents.items < 2 ^ 32) };
 }
 
-/// Some bins of one parent in a row: where they end, and how many are marked.
+/// Some bins of one parent in a row: where they end, and how many are with_marks.
 #[derive(Clone, Copy)]
 pub(crate) struct Piece {
     pub(crate) end: u32,
@@ -139,7 +139,7 @@ impl Runs {
     /// Sets both marks of a bin.
     pub(crate) fn mark(&mut self, place: u32, live: bool, covered: bool)
         requires { place < length self.old.parents }
-        ensures { self.new ≡ marked place live covered self.old }
+        ensures { self.new ≡ with_marks place live covered self.old }
     {
         let first = self.begins[place as usize];
         set_mark(&mut self.live, &mut self.lives, first, place, live);
@@ -147,7 +147,7 @@ impl Runs {
     }
 
     /// The bins from one on that stand in a row right below one node, or some of them: where they end, before the end that
-    /// is given, and how many of them are marked.
+    /// is given, and how many of them are with_marks.
     pub(crate) fn piece(&self, first: u32, end: u32) -> Piece
         requires some { first < end }
         requires inside { end ≤ length self.now.parents }

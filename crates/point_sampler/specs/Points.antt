@@ -25,8 +25,8 @@ pub record IsSample (all : List Env) (m : ℕ) (env : Env) : Type 0 where
 -- ---- what is remembered
 
 -- the state has a place for each automaton of the plan
-abbrev pub Fits : PointPlan → PointState → Type 0
-Fits plan state = length state.runs.items ≡ length plan.machines.items
+abbrev pub FitsPlan : PointPlan → PointState → Type 0
+FitsPlan plan state = length state.runs.items ≡ length plan.machines.items
 
 -- the runs of each automaton stand after the values
 abbrev pub RunsStand : List Machine → Removers → (runs : List (List (ℕ × ℕ))) → List Value → Type 0

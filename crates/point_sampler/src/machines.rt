@@ -4,7 +4,7 @@ ghost use Rattle.trans_seq.specs.Windows.{EndsKept, EndsWindow};
 ghost use Rattle.trans_auto.specs.State.{Stands, SaysKept, SaysWindow, TakesSample};
 ghost use Rattle.design_data.specs.Laws.{Value};
 ghost use Rattle.point_sampler.specs.Plans.{removed_by, IsEntrance, AreEntrances};
-ghost use Rattle.point_sampler.specs.Points.{Fits, RunsStand, OthersStand, Remembers};
+ghost use Rattle.point_sampler.specs.Points.{FitsPlan, RunsStand, OthersStand, Remembers};
 ghost use Rattle.point_sampler.specs.Met.{AreSteps, IsStill, Answered, Ascend, IsPlaceOf, StandApart, IsTransPlace, AreTransMet};
 
 use crate::entrances::rests;
@@ -276,10 +276,10 @@ pub(crate) fn push_value(
     state: &mut PointState,
     value: &Option<Int>,
 ) -> Result<(), Memory>
-    requires fits { Fits plan.now state.old }
+    requires fits { FitsPlan plan.now state.old }
     requires entrances { AreEntrances plan.now.machines.items plan.now.entrances.items }
     requires apart { StandApart plan.now }
-    ensures fits { OnOk result (Fits plan.now state.new) }
+    ensures fits { OnOk result (FitsPlan plan.now state.new) }
     ensures remembers { OnOk result ((w : List Value) → Remembers plan.now state.old w
         → Remembers plan.now state.new (w ++ value.now ∷ [])) }
     ensures met { OnOk result ((w : List Value) → Remembers plan.now state.old w

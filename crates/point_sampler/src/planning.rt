@@ -8,7 +8,7 @@ ghost use Rattle.design_data.specs.declared.infos.BinInfo.{BinInfo as Bin};
 ghost use Rattle.design_data.specs.Limits.{IsPointRule};
 ghost use Rattle.record_codec.specs.Samples.{Env};
 ghost use Rattle.point_sampler.specs.Plans.{IsPoint, IsPlanOf, IsLookupOf, IsGuardAt, IsPlain, AreEntriesOf, AreEntries, AreQuestionsOf, AreEntrances, AreRemovers, machine_of, machines_from, places_from, is_default_sequence as is_default_sequence_of};
-ghost use Rattle.point_sampler.specs.Points.{Fits, StateStands, RunsStand};
+ghost use Rattle.point_sampler.specs.Points.{FitsPlan, StateStands, RunsStand};
 
 use crate::entrances::entrance_of;
 use crate::lookups::lookup_of;
@@ -274,7 +274,7 @@ fn first_runs(alloc: Global, plan: &PointPlan) -> Result<Vec<TransState>, Memory
 impl PointState {
     /// What a point remembers before the first sample of a record.
     pub fn start(alloc: Global, plan: &PointPlan) -> Result<PointState, Memory>
-        ensures fits { IfOk result (λ state. Fits plan.now state) }
+        ensures fits { IfOk result (λ state. FitsPlan plan.now state) }
         ensures stands { IfOk result (λ state. (item : Item) (expr : Term) (all : List Env)
             → StateStands item expr plan.now all 0 state) }
     {

@@ -3,7 +3,7 @@ ghost use Rattle.std.specs.Prelude.{◌≡◌, ◌∷◌, ◌++◌, ◌+ℤ◌, 
 ghost use Rattle.design_data.specs.Laws.{Value};
 ghost use Rattle.record_codec.specs.Samples.{Env};
 ghost use Rattle.point_sampler.specs.Plans.{IsPoint, IsPlanOf, IsLookupOf};
-ghost use Rattle.point_sampler.specs.Points.{IsSample, Fits, Remembers, PointStands, RowStands, IsOutside};
+ghost use Rattle.point_sampler.specs.Points.{IsSample, FitsPlan, Remembers, PointStands, RowStands, IsOutside};
 ghost use Rattle.point_sampler.specs.Met.{ValueTaken, IsStill};
 
 use crate::counting::count_met;
@@ -46,10 +46,10 @@ fn sample_key(
     requires still { IsStill plan.now }
     requires lookup { IsLookupOf item.now.bins lookup.now }
     requires key { value.now ≡ Some (lookup.now.least +ℤ pos key) }
-    requires fits { Fits plan.now state.old }
+    requires fits { FitsPlan plan.now state.old }
     requires counts { item.now.first_bin + length item.now.bins ≤ length counts.old }
     requires none { row.old.items ≡ [] }
-    ensures fits { OnOk result (Fits plan.now state.new) }
+    ensures fits { OnOk result (FitsPlan plan.now state.new) }
     ensures remembers { OnOk result ((w : List Value) → Remembers plan.now state.old w
         → Remembers plan.now state.new (w ++ value.now ∷ [])) }
     ensures taken { OnOk result ((w : List Value) → Remembers plan.now state.old w
@@ -76,10 +76,10 @@ fn sample_any(
 ) -> Result<(), Memory>
     requires point { IsPoint item.now }
     requires plan { IsPlanOf item.now plan.now }
-    requires fits { Fits plan.now state.old }
+    requires fits { FitsPlan plan.now state.old }
     requires counts { item.now.first_bin + length item.now.bins ≤ length counts.old }
     requires none { row.old.items ≡ [] }
-    ensures fits { OnOk result (Fits plan.now state.new) }
+    ensures fits { OnOk result (FitsPlan plan.now state.new) }
     ensures remembers { OnOk result ((w : List Value) → Remembers plan.now state.old w
         → Remembers plan.now state.new (w ++ value.now ∷ [])) }
     ensures taken { OnOk result ((w : List Value) → Remembers plan.now state.old w
@@ -113,10 +113,10 @@ fn sample_value(
 ) -> Result<(), Memory>
     requires point { IsPoint item.now }
     requires plan { IsPlanOf item.now plan.now }
-    requires fits { Fits plan.now state.old }
+    requires fits { FitsPlan plan.now state.old }
     requires counts { item.now.first_bin + length item.now.bins ≤ length counts.old }
     requires none { row.old.items ≡ [] }
-    ensures fits { OnOk result (Fits plan.now state.new) }
+    ensures fits { OnOk result (FitsPlan plan.now state.new) }
     ensures remembers { OnOk result ((w : List Value) → Remembers plan.now state.old w
         → Remembers plan.now state.new (w ++ value.now ∷ [])) }
     ensures taken { OnOk result ((w : List Value) → Remembers plan.now state.old w
@@ -153,9 +153,9 @@ impl PointPlan {
     ) -> Result<(), Memory>
         requires point { IsPoint item.now }
         requires plan { IsPlanOf item.now self.now }
-        requires fits { Fits self.now state.old }
+        requires fits { FitsPlan self.now state.old }
         requires counts { item.now.first_bin + length item.now.bins ≤ length counts.old }
-        ensures fits { OnOk result (Fits self.now state.new) }
+        ensures fits { OnOk result (FitsPlan self.now state.new) }
         ensures stands { OnOk result ((all : List Env) (m : ℕ) → IsSample all m env.now
             → PointStands item.now expr.now self.now all m state.old counts.old
             → PointStands item.now expr.now self.now all (m + 1) state.new counts.new) }

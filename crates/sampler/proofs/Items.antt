@@ -21,7 +21,7 @@ use Rattle.sampler.specs.declared.plan.ItemPlan.{ItemPlan}
 use Rattle.sampler.specs.declared.plan.ItemPlan.TheVariants as plan
 use Rattle.sampler.specs.declared.instance.ItemState.{ItemState}
 use Rattle.sampler.specs.declared.instance.ItemState.TheVariants as kept
-use Rattle.sampler.specs.Standing.{Stands, RowStands, RowsStand, AreNumbered, AreChosen, IsChosen, AllFit, Fits, AllStand, KeepsOthers, SomeTaken, AllTaken}
+use Rattle.sampler.specs.Standing.{Stands, RowStands, RowsStand, AreNumbered, AreChosen, IsChosen, AllFit, FitsItem, AllStand, KeepsOthers, SomeTaken, AllTaken}
 
 -- ---- rows of crossed points
 
@@ -137,20 +137,20 @@ module _ (items : List ItemInfo) (plans : List ItemPlan) (chosen : List ℕ) (t 
           found (λ (y : ItemInfo) (r : ItemPlan). Stands items y all (after y.shape) y.shape r (get_or (set states t state) i s) new) i k x q same ci ei fq
           (subst (λ (y : ItemState). Stands items item all (after item.shape) item.shape p y new) (sym read) stand)
 
-  pub fits_more : (states : List ItemState) → t < length states → Fits item p state → AllFit items plans chosen states → AllFit items plans chosen (set states t state)
+  pub fits_more : (states : List ItemState) → t < length states → FitsItem item p state → AllFit items plans chosen states → AllFit items plans chosen (set states t state)
   fits_more states inside fit h = record {
     same_plans = h.same_plans;
     same = length-set states t state ∙ h.same;
     at = λ i k x q s ci ei fq. each i k x q s ci ei fq (cases_order i t);
   }
     where
-      stays : (i k : ℕ) (x : ItemInfo) (q : ItemPlan) (s : ItemState) → slice_get chosen i ≡ Some k → slice_get items k ≡ Some x → slice_get plans k ≡ Some q → i ≢ t → Fits x q (get_or (set states t state) i s)
-      stays i k x q s ci ei fq ne = subst (λ (y : ItemState). Fits x q y) (sym (get_or-set_other states t i state s ne)) (h.at i k x q s ci ei fq)
+      stays : (i k : ℕ) (x : ItemInfo) (q : ItemPlan) (s : ItemState) → slice_get chosen i ≡ Some k → slice_get items k ≡ Some x → slice_get plans k ≡ Some q → i ≢ t → FitsItem x q (get_or (set states t state) i s)
+      stays i k x q s ci ei fq ne = subst (λ (y : ItemState). FitsItem x q y) (sym (get_or-set_other states t i state s ne)) (h.at i k x q s ci ei fq)
 
-      each : (i k : ℕ) (x : ItemInfo) (q : ItemPlan) (s : ItemState) → slice_get chosen i ≡ Some k → slice_get items k ≡ Some x → slice_get plans k ≡ Some q → (i ≡ t) ⊎ ((i < t) ⊎ (t < i)) → Fits x q (get_or (set states t state) i s)
+      each : (i k : ℕ) (x : ItemInfo) (q : ItemPlan) (s : ItemState) → slice_get chosen i ≡ Some k → slice_get items k ≡ Some x → slice_get plans k ≡ Some q → (i ≡ t) ⊎ ((i < t) ⊎ (t < i)) → FitsItem x q (get_or (set states t state) i s)
       each i k x q s ci ei fq (inl same) =
           let read : get_or (set states t state) i s ≡ state = ap (λ (j : ℕ). get_or (set states t state) j s) same ∙ get_or-set_same states t state s inside in
-          found (λ (y : ItemInfo) (r : ItemPlan). Fits y r (get_or (set states t state) i s)) i k x q (sym same) ci ei fq (subst (λ (y : ItemState). Fits item p y) (sym read) fit)
+          found (λ (y : ItemInfo) (r : ItemPlan). FitsItem y r (get_or (set states t state) i s)) i k x q (sym same) ci ei fq (subst (λ (y : ItemState). FitsItem item p y) (sym read) fit)
       each i k x q s ci ei fq (inr (inl less)) = stays i k x q s ci ei fq (λ same. absurd (omega (arith, same, less)))
       each i k x q s ci ei fq (inr (inr more)) = stays i k x q s ci ei fq (λ same. absurd (omega (arith, same, more)))
 

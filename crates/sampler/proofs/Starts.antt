@@ -36,7 +36,7 @@ use Rattle.sampler.specs.declared.instance.ItemState.TheVariants as kept
 use Rattle.sampler.specs.declared.instance.InstState.{InstState}
 use Rattle.sampler.specs.Values.{places}
 use Rattle.sampler.specs.Starting.{IsZeroAt, AreAllZero, AllInstStart, AreUnknown}
-use Rattle.sampler.specs.Standing.{IsPlanOf, Fits, Stands, AllStand, InstAt}
+use Rattle.sampler.specs.Standing.{IsPlanOf, FitsItem, Stands, AllStand, InstAt}
 use Rattle.sampler.specs.Walking.{IsWork, InstFits, AllInstFit, WalkAt, ShareCounted}
 use Rattle.sampler.proofs.Items.{one_of, one_number}
 use Rattle.sampler.proofs.Walks.{at_end}
@@ -90,7 +90,7 @@ start_cross items item all counts (Cross axes) p s h samples marks zeros = recor
 
 -- what is kept of the item at a place fits, and stands before the first sample
 abbrev pub FitsAt : List ItemInfo → List ItemPlan → (chosen : List ℕ) → ℕ → ItemState → Type 0
-FitsAt items plans chosen i s = (k : ℕ) (item : ItemInfo) (p : ItemPlan) → slice_get chosen i ≡ Some k → slice_get items k ≡ Some item → slice_get plans k ≡ Some p → Fits item p s
+FitsAt items plans chosen i s = (k : ℕ) (item : ItemInfo) (p : ItemPlan) → slice_get chosen i ≡ Some k → slice_get items k ≡ Some item → slice_get plans k ≡ Some p → FitsItem item p s
 
 abbrev pub StartsAt : List ItemInfo → List ItemPlan → (chosen : List ℕ) → List Env → (counts : List ℕ) → ℕ → ItemState → Type 0
 StartsAt items plans chosen all counts i s = (k : ℕ) (item : ItemInfo) (p : ItemPlan) → slice_get chosen i ≡ Some k → slice_get items k ≡ Some item → slice_get plans k ≡ Some p → Stands items item all 0 item.shape p s counts
@@ -101,8 +101,8 @@ module _ (items : List ItemInfo) (plans : List ItemPlan) (chosen : List ℕ) (i 
       let number = one_number chosen i at k c ck in
       one_of (λ (y : ItemInfo). P y q) items k item x (ap (λ (j : ℕ). slice_get items j) (sym number) ∙ e) ex (one_of (λ (y : ItemPlan). P item y) plans k p q (ap (λ (j : ℕ). slice_get plans j) (sym number) ∙ f) fq h)
 
-  pub fits_here : Fits item p state → FitsAt items plans chosen i state
-  fits_here h = at_place (λ (x : ItemInfo) (q : ItemPlan). Fits x q state) h
+  pub fits_here : FitsItem item p state → FitsAt items plans chosen i state
+  fits_here h = at_place (λ (x : ItemInfo) (q : ItemPlan). FitsItem x q state) h
 
   pub starts_here : (all : List Env) (counts : List ℕ) → AreAllZero counts → ((all : List Env) (counts : List ℕ) → IsZeroAt item counts → Stands items item all 0 item.shape p state counts) → StartsAt items plans chosen all counts i state
   starts_here all counts zeros h = at_place (λ (x : ItemInfo) (q : ItemPlan). Stands items x all 0 x.shape q state counts) (h all counts (λ b lt. zeros (item.first_bin + b)))

@@ -45,11 +45,11 @@ IsPlanOf items item (Point expr) p = IsPointPlan item p
 IsPlanOf items item (Cross axes) p = IsCrossPlan items item axes p
 
 -- what the item keeps has the form that its plan asks for
-abbrev pub Fits : ItemInfo → ItemPlan → ItemState → Type 0
-Fits item (plan.Point p) (kept.Point s) = points_stand.Fits p s
-Fits item (plan.Point p) (kept.Cross s) = ⊥
-Fits item (plan.Cross p) (kept.Point s) = ⊥
-Fits item (plan.Cross p) (kept.Cross s) = length s.stamps.items ≡ length item.bins
+abbrev pub FitsItem : ItemInfo → ItemPlan → ItemState → Type 0
+FitsItem item (plan.Point p) (kept.Point s) = points_stand.FitsPlan p s
+FitsItem item (plan.Point p) (kept.Cross s) = ⊥
+FitsItem item (plan.Cross p) (kept.Point s) = ⊥
+FitsItem item (plan.Cross p) (kept.Cross s) = length s.stamps.items ≡ length item.bins
 
 -- what a point keeps, and its counts, after the first m samples
 abbrev pub PointStands : ItemInfo → Term → List Env → ℕ → ItemPlan → ItemState → (counts : List ℕ) → Type 0
@@ -109,7 +109,7 @@ pub record AreChosen (items : List ItemInfo) (chosen : List ℕ) : Type 0 where
 pub record AllFit (items : List ItemInfo) (plans : List ItemPlan) (chosen : List ℕ) (states : List ItemState) : Type 0 where
   pub same_plans : length plans ≡ length items
   pub same : length states ≡ length chosen
-  pub at : (i k : ℕ) (item : ItemInfo) (p : ItemPlan) (s : ItemState) → slice_get chosen i ≡ Some k → slice_get items k ≡ Some item → slice_get plans k ≡ Some p → Fits item p (slice_index_or states i s)
+  pub at : (i k : ℕ) (item : ItemInfo) (p : ItemPlan) (s : ItemState) → slice_get chosen i ≡ Some k → slice_get items k ≡ Some item → slice_get plans k ≡ Some p → FitsItem item p (slice_index_or states i s)
 
 -- each of them stands after as many samples as its shape says
 abbrev pub AllStand : List ItemInfo → List ItemPlan → (chosen : List ℕ) → List Env → (samples : ItemShape → ℕ) → List ItemState → (counts : List ℕ) → Type 0

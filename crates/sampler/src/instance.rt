@@ -3,7 +3,7 @@ ghost use Rattle.std.specs.Prelude.{◌≡◌, ◌≢◌, ◌+◌, ◌<◌, ◌�
 ghost use Rattle.cross_sampler.specs.Numbers.{row_at};
 ghost use Rattle.record_codec.specs.Samples.{Env};
 ghost use Rattle.point_sampler.specs.Points.{RowStands as PointRowStands};
-ghost use Rattle.sampler.specs.Standing.{IsSample, IsPointPlan, IsCrossPlan, IsPlanOf, Fits, PointStands, CrossStands, Stands, point_first, RowStands, AreNumbered, ArePlans, AreChosen, IsChosen, IsCovered, AllFit, AllStand, RowsStand, KeepsOthers, CrossTaken, ItemTaken, AllTaken};
+ghost use Rattle.sampler.specs.Standing.{IsSample, IsPointPlan, IsCrossPlan, IsPlanOf, FitsItem, PointStands, CrossStands, Stands, point_first, RowStands, AreNumbered, ArePlans, AreChosen, IsChosen, IsCovered, AllFit, AllStand, RowsStand, KeepsOthers, CrossTaken, ItemTaken, AllTaken};
 ghost use Rattle.std.specs.List.{AllByRecursion};
 ghost use Rattle.sampler.specs.Walking.{InstFits};
 
@@ -41,9 +41,9 @@ fn point_taken(
     counts: &mut [u64],
 ) -> Result<(), Memory>
     requires plan { IsPointPlan item.now plan.now }
-    requires fits { Fits item.now plan.now state.old }
+    requires fits { FitsItem item.now plan.now state.old }
     requires counts { item.now.first_bin + length item.now.bins ≤ length counts.old }
-    ensures fits { OnOk result (Fits item.now plan.now state.new) }
+    ensures fits { OnOk result (FitsItem item.now plan.now state.new) }
     ensures stands { OnOk result ((all : List Env) (m : ℕ) → IsSample all m env.now
         → PointStands item.now expr.now all m plan.now state.old counts.old → PointStands item.now expr.now all (m + 1) plan.now state.new counts.new) }
     ensures row { OnOk result ((all : List Env) (m : ℕ) → IsSample all m env.now
@@ -70,9 +70,9 @@ fn take_point(
     counts: &mut [u64],
 ) -> Result<(), Memory>
     requires plan { IsPlanOf items.now item.now item.now.shape plan.now }
-    requires fits { Fits item.now plan.now state.old }
+    requires fits { FitsItem item.now plan.now state.old }
     requires counts { item.now.first_bin + length item.now.bins ≤ length counts.old }
-    ensures fits { OnOk result (Fits item.now plan.now state.new) }
+    ensures fits { OnOk result (FitsItem item.now plan.now state.new) }
     ensures stands { OnOk result ((all : List Env) (m : ℕ) → IsSample all m env.now
         → Stands items.now item.now all m item.now.shape plan.now state.old counts.old
         → Stands items.now item.now all (point_first item.now.shape m) item.now.shape plan.now state.new counts.new) }
@@ -99,10 +99,10 @@ fn take_point_at(
     counts: &mut [u64],
 ) -> Result<(), Memory>
     requires plan { IsPlanOf items.now item.now item.now.shape plan.now }
-    requires fits { Fits item.now plan.now state.old }
+    requires fits { FitsItem item.now plan.now state.old }
     requires counts { item.now.first_bin + length item.now.bins ≤ length counts.old }
     requires row { index < length rows.old.items }
-    ensures fits { OnOk result (Fits item.now plan.now state.new) }
+    ensures fits { OnOk result (FitsItem item.now plan.now state.new) }
     ensures rows { OnOk result (length rows.new.items ≡ length rows.old.items) }
     ensures stands { OnOk result ((all : List Env) (m : ℕ) → IsSample all m env.now
         → Stands items.now item.now all m item.now.shape plan.now state.old counts.old
@@ -177,9 +177,9 @@ fn cross_taken(
     counts: &mut [u64],
 ) -> Result<(), Memory>
     requires plan { IsCrossPlan items.now item.now axes.now plan.now }
-    requires fits { Fits item.now plan.now state.old }
+    requires fits { FitsItem item.now plan.now state.old }
     requires counts { item.now.first_bin + length item.now.bins ≤ length counts.old }
-    ensures fits { OnOk result (Fits item.now plan.now state.new) }
+    ensures fits { OnOk result (FitsItem item.now plan.now state.new) }
     ensures taken { OnOk result ((all : List Env) (m : ℕ) (chosen : List ℕ) → IsSample all m env.now → AllByRecursion (IsChosen chosen) axes.now → RowsStand items.now chosen all m rows.now
         → CrossStands items.now item.now axes.now all m state.old counts.old
         → CrossTaken items.now item.now axes.now all (m + 1) counts.old state.new counts.new) }
@@ -208,9 +208,9 @@ fn take_cross(
     counts: &mut [u64],
 ) -> Result<(), Memory>
     requires plan { IsPlanOf items.now item.now item.now.shape plan.now }
-    requires fits { Fits item.now plan.now state.old }
+    requires fits { FitsItem item.now plan.now state.old }
     requires counts { item.now.first_bin + length item.now.bins ≤ length counts.old }
-    ensures fits { OnOk result (Fits item.now plan.now state.new) }
+    ensures fits { OnOk result (FitsItem item.now plan.now state.new) }
     ensures taken { OnOk result ((all : List Env) (m : ℕ) (chosen : List ℕ) → IsSample all m env.now → IsCovered chosen item.now.shape → RowsStand items.now chosen all m rows.now
         → Stands items.now item.now all (point_first item.now.shape m) item.now.shape plan.now state.old counts.old
         → ItemTaken items.now item.now all (m + 1) plan.now counts.old state.new counts.new) }

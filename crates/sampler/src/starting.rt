@@ -1,7 +1,7 @@
 //! What stands before the first sample.
 ghost use Rattle.std.specs.Prelude.{◌≡◌, ℕ, List, length, IfOk};
 ghost use Rattle.record_codec.specs.Samples.{Env};
-ghost use Rattle.sampler.specs.Standing.{IsPlanOf, Fits, Stands, ArePlans, AreChosen, AllFit, AllStand};
+ghost use Rattle.sampler.specs.Standing.{IsPlanOf, FitsItem, Stands, ArePlans, AreChosen, AllFit, AllStand};
 ghost use Rattle.sampler.specs.Walking.{IsWork, InstFits, AllInstFit};
 ghost use Rattle.sampler.specs.Values.{places};
 ghost use Rattle.sampler.specs.Starting.{IsZeroAt, AreAllZero, AllInstStart, AreUnknown};
@@ -27,7 +27,7 @@ fn item_state(
     plan: &ItemPlan,
 ) -> Result<ItemState, Memory>
     requires { IsPlanOf items.now item.now item.now.shape plan.now }
-    ensures fits { IfOk result (λ state. Fits item.now plan.now state) }
+    ensures fits { IfOk result (λ state. FitsItem item.now plan.now state) }
     ensures stands { IfOk result (λ state. (all : List Env) (counts : List ℕ) → IsZeroAt item.now counts → Stands items.now item.now all 0 item.now.shape plan.now state counts) }
 {
     let _ = items;

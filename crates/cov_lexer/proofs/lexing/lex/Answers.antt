@@ -2,7 +2,7 @@ use Rattle.std.proofs.Common.{◌≡◌, ◌+◌, ◌-◌, ◌<◌, ◌++◌, �
 use Rattle.std.proofs.lemmas.Result.{err_from_is_err_and}
 use Rattle.cov_lexer.specs.declared.token.Token.{Token}
 use Rattle.cov_lexer.specs.declared.token.LexFault.{LexFault}
-use Rattle.cov_lexer.specs.Lexes.{Covers, Lexes, IsFault, IsFaultAt, place}
+use Rattle.cov_lexer.specs.Lexes.{Covers, Lexes, IsLexFault, IsFaultAt, place}
 use Rattle.cov_lexer.specs.Reading.{MayStand}
 use Rattle.cov_lexer.proofs.Covering.{one_list, fault_or_tokens, one_fault, covers_ascend, covers_within}
 use Rattle.cov_lexer.proofs.lexing.lex.Goals as goal
@@ -37,7 +37,7 @@ loop-at-preserved-in_ok-push c =
     }
 
 fault_here : (text : List ℕ) (f : LexFault) (i : ℕ) (ts : List Token) → ((c : ℕ) (rest : List Token) (k : ℕ) → Covers text c i rest k → (d : ℕ) × Covers text d 0 (ts ++ rest) k) →
-    i < length text → IsFaultAt text f → place f ≡ i → IsFault text f
+    i < length text → IsFaultAt text f → place f ≡ i → IsLexFault text f
 fault_here text f i ts so_far l h e = record {
   before = (let q = so_far 0 [] i (refl, refl) in (q.0, _, subst (λ k. Covers text q.0 0 (ts ++ []) k) (sym e) q.1));
   inside = omega arith;

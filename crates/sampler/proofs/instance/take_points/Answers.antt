@@ -2,7 +2,7 @@ use Rattle.std.proofs.Common.{◌≡◌, ◌∙◌, ◌<◌, length, Some, refl,
 use Rattle.std.specs.Prelude.{slice_get}
 use Rattle.std.proofs.lemmas.List.{length-set}
 use Rattle.sampler.specs.declared.instance.ItemState.{ItemState}
-use Rattle.sampler.specs.Standing.{Fits, Stands, point_first}
+use Rattle.sampler.specs.Standing.{FitsItem, Stands, point_first}
 use Rattle.sampler.proofs.Items.{some_first, some_more, some_last, fits_more, read_at, rows_more, rows_all}
 use Rattle.sampler.proofs.instance.take_points.Goals as goal
 
@@ -48,7 +48,7 @@ take_point_at-requires-clause-fits c =
     let at_item : slice_get items t ≡ Some item = read_at items t item lt c.index-items-t.is in
     let at_plan : slice_get plans t ≡ Some p = read_at plans t p (omega (arith, lt, inv.plans_len)) c.index-plans-t.is in
     let state = c.index_mut.result.now in
-    subst (λ (s : ItemState). Fits item p s) (sym c.index_mut.ensures.value) (inv.fits.at i t item p state at_t at_item at_plan)
+    subst (λ (s : ItemState). FitsItem item p s) (sym c.index_mut.ensures.value) (inv.fits.at i t item p state at_t at_item at_plan)
 
 pub take_point_at-requires-clause-counts : goal.take_point_at-requires-clause-counts
 take_point_at-requires-clause-counts c =
