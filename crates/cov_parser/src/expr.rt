@@ -102,6 +102,7 @@ impl Reader<'_> {
 
     /// Operators before an operand, and the operand.
     #[cycle(expr)]
+    #[inline(always)]
     fn unary(
         self,
         place: Place,
@@ -122,6 +123,7 @@ impl Reader<'_> {
     }
 
     #[cycle(expr)]
+    #[inline(always)]
     fn primary(
         self,
         place: Place,
