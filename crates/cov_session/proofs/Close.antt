@@ -13,7 +13,7 @@ use Rattle.cov_session.specs.declared.ended.Ended.{Ended}
 use Rattle.cov_session.specs.declared.ended.Ended.TheVariants as ended
 use Rattle.cov_session.specs.Streams.{Rest, Out, Took, Cut, Outside, Session, NoBye, begins_at}
 use Rattle.cov_session.specs.Moments.{World, Goes, Ran, RanToBye, RanToFault}
-use Rattle.cov_session.specs.Fills.{Filled}
+use Rattle.cov_session.specs.Fills.{longest_frame, Filled}
 use Rattle.cov_session.proofs.Chain.{one_all, none_all, ran_then, bye_then, fault_then}
 use Rattle.cov_session.proofs.Parts.{grows_none, shrinks_none}
 
@@ -76,7 +76,7 @@ no_bytes : (xs : List ℕ) → length xs ≡ 0 → xs ≡ []
 no_bytes [] e = refl
 no_bytes (x ∷ xs) e = absurd (omega arith)
 
-pub torn_short : (xs : List ℕ) → IsTorn xs → length xs < 1048644
+pub torn_short : (xs : List ℕ) → IsTorn xs → length xs < longest_frame
 torn_short xs (inl p) = omega arith
 torn_short xs (inr f) = omega (arith, ap length f.whole, length-append xs f.more, f.some, f.is_body.1)
 

@@ -15,6 +15,7 @@ use Rattle.session_table.specs.Says.{Says, IsWritable}
 use Rattle.session_table.specs.Table.{is_bye}
 use Rattle.session_table.specs.Serves.{Place}
 use Rattle.session_table.proofs.Growing.{grown_refl}
+use Rattle.cov_session.specs.Fills.{longest_frame}
 use Rattle.cov_session.specs.Streams.{NoBye, reply_frame}
 use Rattle.cov_session.specs.Moments.{World, Goes, Ran, Frame}
 use Rattle.cov_session.proofs.Chain.{one_all, none_all}
@@ -100,5 +101,5 @@ writable_short r w = omega (arith, w.1, length-append (to_be_bytes w64 r.point) 
 pub frame_short : (len n : ℕ) (held : List ℕ) (h : HasFrame len held) → n ≡ len → length (take n (drop 4 held)) ≤ longest_body
 frame_short len n held h e = subst (λ b. length b ≤ longest_body) (sym (frame_body len n held h e)) h.is_body.1
 
-pub frame_room : (r : Reply) (n room : ℕ) → IsWritable r.body → n ≡ 0 → 1048644 ≤ room → n + length (frame (reply_spelled r)) ≤ room
+pub frame_room : (r : Reply) (n room : ℕ) → IsWritable r.body → n ≡ 0 → longest_frame ≤ room → n + length (frame (reply_spelled r)) ≤ room
 frame_room r n room w e le = let s = writable_short r w in omega (arith, s, e, le)

@@ -2,14 +2,15 @@
 ghost use Rattle.std.specs.Prelude.{◌≡◌, ◌+◌, ◌-◌, ◌<◌, ◌≤◌, [], length, take, drop, IfOk};
 ghost use Rattle.cov_spec.specs.Causes.{HasCause};
 ghost use Rattle.cov_spec.specs.Told.{Reads};
-ghost use Rattle.cov_session.specs.Fills.{Fills};
+ghost use Rattle.cov_session.specs.Fills.{longest_frame, Fills};
 
 use cov_base::{Failed, Link, Memory};
+use cov_proto::LONGEST_BODY;
 use std::alloc::Global;
 use std::marker::Model;
 
-/// The bytes of the longest frame.
-pub(crate) const LONGEST_FRAME: usize = 1_048_644;
+/// The bytes of the longest frame: the four of a length, and the longest body.
+pub(crate) const LONGEST_FRAME: usize = 4 + LONGEST_BODY as usize;
 
 /// A buffer of one whole frame. Contracts see the bytes between its two ends.
 #[derive(Drop)]
@@ -21,12 +22,13 @@ pub(crate) struct Inbox {
 
 impl Model for Inbox {
     ghost use Rattle.std.specs.Prelude.{◌≡◌, ℕ, ◌≤◌, List, length, take, drop};
+    ghost use Rattle.cov_session.specs.Fills.{longest_frame};
 
     ghost Value = { List ℕ };
 
     ghost view = { λ b. drop b.start (take b.end b.bytes.items) };
 
-    ghost invariant = { λ b. (b.start ≤ b.end) × (b.end ≤ 1048644) × (length b.bytes.items ≡ 1048644) };
+    ghost invariant = { λ b. (b.start ≤ b.end) × (b.end ≤ longest_frame) × (length b.bytes.items ≡ longest_frame) };
 }
 
 // Moves a part of the bytes to the front.
@@ -90,7 +92,7 @@ impl Inbox {
 
     /// Reads more bytes, at most so many. Bytes are moved only where the end of the buffer is reached.
     pub(crate) fn fill<L: Link>(&mut self, link: &mut L, most: u64) -> Result<usize, Failed>
-        requires room { length self.old < 1048644 }
+        requires room { length self.old < longest_frame }
         requires some { 0 < most }
         ensures bound { IfOk result (λ n. n ≤ most) }
         ensures fills { Fills (L.left link.old) (L.left link.new) self.old self.new result }

@@ -6,6 +6,7 @@ ghost use Rattle.cov_spec.specs.Told.{Grows, GrowsByFront};
 ghost use Rattle.cov_history.specs.History.{is_legal};
 ghost use Rattle.cov_proto.specs.Frames.{HasFrame};
 ghost use Rattle.session_table.specs.Says.{place_of};
+ghost use Rattle.cov_session.specs.Fills.{longest_frame};
 ghost use Rattle.cov_session.specs.Ends.{Stops, StopsByFault, Framed};
 ghost use Rattle.cov_session.specs.Streams.{Session};
 
@@ -57,12 +58,12 @@ fn answer_frame<P: Port, L: Link, R: Threads + Sync, G: Gate>(
 ) -> Result<bool, Failed>
     requires opening { P.opening port.old ≡ opening.now }
     requires within { talk.old.point ≤ length (P.seen port.old) }
-    requires room { 1048644 ≤ vec_capacity out.old }
+    requires room { longest_frame ≤ vec_capacity out.old }
     requires frame { HasFrame len inbox.old }
     ensures rest { P.rest port.new ≡ P.rest port.old }
     ensures opening { P.opening port.new ≡ P.opening port.old }
     ensures caller { P.caller port.new ≡ P.caller port.old }
-    ensures room { 1048644 ≤ vec_capacity out.new }
+    ensures room { longest_frame ≤ vec_capacity out.new }
     ensures less { length inbox.new < length inbox.old }
     ensures cause { HasCause (L.write_faults link.old) (L.write_faults link.new) result }
     ensures same_faults { L.read_faults link.new ≡ L.read_faults link.old }
@@ -118,11 +119,11 @@ fn answer_all<P: Port, L: Link, R: Threads + Sync, G: Gate>(
 ) -> Result<(), Stop>
     requires opening { P.opening port.old ≡ opening.now }
     requires within { talk.old.point ≤ length (P.seen port.old) }
-    requires room { 1048644 ≤ vec_capacity out.old }
+    requires room { longest_frame ≤ vec_capacity out.old }
     ensures rest { P.rest port.new ≡ P.rest port.old }
     ensures opening { P.opening port.new ≡ P.opening port.old }
     ensures caller { P.caller port.new ≡ P.caller port.old }
-    ensures room { 1048644 ≤ vec_capacity out.new }
+    ensures room { longest_frame ≤ vec_capacity out.new }
     ensures later { L.write_faults link.old ≤ L.write_faults link.new }
     ensures cause { StopsByFault (L.write_faults link.old) (L.write_faults link.new) result }
     ensures same_faults { L.read_faults link.new ≡ L.read_faults link.old }

@@ -1,5 +1,5 @@
 -- What one body leads to, over a history that grows.
-use Rattle.std.specs.Prelude.{◌≡◌, ◌⊎◌, ℕ, ◌≤◌, List, ◌++◌, length, Option, Some, Result, Ok, Err, Bool, true, false}
+use Rattle.std.specs.Prelude.{◌≡◌, ◌⊎◌, ℕ, ◌+◌, ◌-◌, ◌≤◌, List, ◌++◌, length, Option, Some, Result, Ok, Err, Bool, true, false}
 use Rattle.std.proofs.Common.{inl, inr}
 use Rattle.std.specs.Global.{Vec}
 use Rattle.design_data.specs.declared.design.Design.{Design}
@@ -17,6 +17,7 @@ use Rattle.cov_proto.specs.declared.replies.Body.{Body}
 use Rattle.cov_proto.specs.declared.replies.Body.TheVariants as body
 use Rattle.cov_proto.specs.declared.replies.Reply.{Reply}
 use Rattle.cov_proto.specs.Limits.{IsReplyBody}
+use Rattle.cov_proto.specs.Frames.{longest_body}
 use Rattle.cov_proto.specs.Spelled.{body_fields}
 use Rattle.session_table.specs.declared.talk.Talk.{Talk}
 use Rattle.session_table.specs.declared.bodies.Said.{Said}
@@ -28,9 +29,9 @@ use Rattle.session_table.specs.Serves.{Place, BySaid, Lacks, Answered, Step}
 abbrev pub place_of : Talk → Place
 place_of t = record { point = t.point; stage = t.stage }
 
--- the reply has a spelling, and a frame can hold it behind its tag and its point
+-- the reply has a spelling, and a frame can hold it behind its tag, which is one byte, and its point, which is eight
 unfoldable pub IsWritable : Body → Type 0
-IsWritable b = IsReplyBody b × (length (body_fields b) ≤ 1048631)
+IsWritable b = IsReplyBody b × (length (body_fields b) ≤ longest_body - (1 + 8))
 
 -- ---- over a history that grows
 

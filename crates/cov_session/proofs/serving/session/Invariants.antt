@@ -1,5 +1,6 @@
 use Rattle.std.proofs.Common.{◌≡◌, ◌≤◌, ◌-◌, length, [], None}
 use Rattle.std.specs.Prelude.{vec_capacity}
+use Rattle.cov_session.specs.Fills.{longest_frame}
 use Rattle.cov_session.specs.Moments.{Ran}
 use Rattle.cov_session.proofs.serving.session.Given as goal
 
@@ -8,7 +9,7 @@ invariant-loop-talk g l = record {
   rest : g.P.Port.rest l.port ≡ g.P.Port.rest l.initial.port;
   opening : g.P.Port.opening l.port ≡ g.P.Port.opening l.initial.port;
   caller : g.P.Port.caller l.port ≡ g.P.Port.caller l.initial.port;
-  space : 1048644 ≤ vec_capacity l.out;
+  space : longest_frame ≤ vec_capacity l.out;
   within : l.talk.point ≤ length (g.P.Port.seen l.port);
   low : l.room ≤ l.most;
   read : g.L.Link.read_faults l.initial.link ≤ g.L.Link.read_faults l.link;

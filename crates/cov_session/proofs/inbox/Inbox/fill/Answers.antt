@@ -1,4 +1,5 @@
 use Rattle.std.proofs.Common.{◌≡◌, ◌∙◌, ◌+◌, ◌-◌, ◌≤◌, arith, rules, drop, take, length, refl, ap, sym}
+use Rattle.cov_session.specs.Fills.{longest_frame}
 use Rattle.cov_session.proofs.Buffers.{filled_all, written, took_long}
 use Rattle.cov_session.proofs.inbox.Inbox.fill.Goals as goal
 use Rattle.cov_session.proofs.inbox.Inbox.fill.Goals.{then-self-eq-LONGEST_FRAME, else-self-eq-LONGEST_FRAME}
@@ -10,7 +11,7 @@ returns-clause-fills g c =
       | then-self-eq-LONGEST_FRAME w ↦ rw w.self-inside-is (ap (take (c.self.inside.end - c.self.inside.start)) (written c.self.inside.bytes.len w.to_front.new.bytes c.self.inside.bytes.items (omega (arith, w.to_front.auto.bytes, ap length w.as_mut_slice.ensures.value))) ∙ (w.to_front.ensures ∙ (ap (λ b. drop c.self.inside.start (take c.self.inside.end b)) w.as_mut_slice.ensures.value ∙ c.self.view_is)))
       | else-self-eq-LONGEST_FRAME w ↦ rw w.self-inside-is c.self.view_is
     ] in
-    let iv : (i.start ≤ i.end) × (i.end ≤ 1048644) × (length i.bytes.items ≡ 1048644) = elim c.if-self-eq-LONGEST_FRAME.branch [
+    let iv : (i.start ≤ i.end) × (i.end ≤ longest_frame) × (length i.bytes.items ≡ longest_frame) = elim c.if-self-eq-LONGEST_FRAME.branch [
       | then-self-eq-LONGEST_FRAME w ↦ rw w.self-inside-is (omega arith, omega (arith, c.self.invariant.1), ap length (written c.self.inside.bytes.len w.to_front.new.bytes c.self.inside.bytes.items (omega (arith, w.to_front.auto.bytes, ap length w.as_mut_slice.ensures.value))) ∙ omega (arith, w.to_front.auto.bytes, ap length w.as_mut_slice.ensures.value, c.self.invariant.2))
       | else-self-eq-LONGEST_FRAME w ↦ rw w.self-inside-is c.self.invariant
     ] in
