@@ -7,6 +7,7 @@ use crate::fault::Fault;
 use crate::fields::{u8_at, u16_at, u32_at, u64_up_to};
 use crate::tables::{Rows, counted};
 use crate::{ArgRow, Event, InstRow, SignalRow};
+use cov_base::ones;
 use cov_ground::limits::{MOST_BITS, MOST_EVENTS};
 use cov_tree::List;
 use std::alloc::{AllocError, Global};
@@ -21,7 +22,10 @@ pub(crate) fn most_of(width: u8) -> u64
     if width >= MOST_BITS {
         return u64::MAX;
     }
-    (1 << width) - 1
+    if width == 0 {
+        return 0;
+    }
+    ones(width)
 }
 
 /// The greatest value of each signal.
