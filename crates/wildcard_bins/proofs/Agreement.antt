@@ -1,5 +1,5 @@
 -- Whether a number agrees with a pattern, by the bits that differ and the places that aren't free.
-use Rattle.std.proofs.Common.{◌≡◌, ◌∙◌, refl, ap, sym, subst, ℕ, zero, suc, ◌+◌, ◌-◌, ◌/◌, ◌%◌, ◌^◌, ◌<◌, ◌≤◌, ◌==◌, min, nat_eq, nat_lt, ℤ, ◌≤ℤ◌, ◌<ℤ◌, arith, Bool, true, false, inl, inr, w64, bit_and}
+use Rattle.std.proofs.Common.{◌≡◌, ◌∙◌, refl, ap, sym, subst, ℕ, zero, suc, ◌+◌, ◌-◌, ◌%◌, ◌^◌, ◌<◌, ◌≤◌, ◌==◌, min, nat_eq, nat_lt, ℤ, ◌≤ℤ◌, ◌<ℤ◌, arith, Bool, true, false, inl, inr, w64, bit_and}
 use Rattle.std.specs.Prelude.{◌&&◌, ◌||◌, ◌⊎◌, bit_xor}
 use Rattle.std.specs.List.{list_all}
 use Rattle.std.specs.Int.{bit_at, trailing_ones}
