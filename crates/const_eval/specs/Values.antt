@@ -1,5 +1,5 @@
 -- Values of expressions (IEEE 1800-2017, clause 11): whole numbers, or none where a value is unknown.
-use Rattle.std.specs.Prelude.{ℕ, ◌+◌, ◌-◌, ◌*◌, ◌/◌, ◌%◌, ◌^◌, nat_eq, nat_le, ℤ, pos, negsuc, ◌+ℤ◌, ◌-ℤ◌, ◌*ℤ◌, ◌≤ℤ◌, neg_ℤ, int_lt, int_le, int_div, int_rem, bit_and, bit_or, bit_xor, count_ones, Bool, true, false, not, ◌&&◌, ◌||◌, if◌then◌else◌, List, Option, Some, None, slice_index_or}
+use Rattle.std.specs.Prelude.{ℕ, ◌+◌, ◌-◌, ◌*◌, ◌/◌, ◌%◌, ◌^◌, nat_eq, ℤ, pos, negsuc, ◌+ℤ◌, ◌-ℤ◌, ◌*ℤ◌, ◌≤ℤ◌, neg_ℤ, int_lt, int_le, int_div, int_rem, bit_and, bit_or, bit_xor, count_ones, Bool, true, false, not, ◌||◌, if◌then◌else◌, List, Option, Some, None, slice_index_or}
 use Rattle.std.specs.Int.{int_shr}
 use Rattle.bin_spec.specs.Types.{lowest, highest, number_of}
 use Rattle.cov_tree.specs.declared.expr.UnOp.{UnOp}
