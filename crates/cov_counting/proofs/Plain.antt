@@ -4,7 +4,7 @@ use Rattle.std.specs.Prelude.{pos, ◌-ℤ◌, if◌then◌else◌}
 use Rattle.std.proofs.Math.Pow.{pow_mono}
 use Rattle.std.proofs.Math.IntN.{ -ℤ_one}
 use Rattle.std.proofs.lemmas.Bool.{lt-leb, le-leb}
-use Rattle.record_codec.specs.Samples.{number_of}
+use Rattle.bin_spec.specs.Types.{number_of}
 
 pub wide_plain : (width bits : ℕ) (signed : Bool) → 64 < width → bits < 2 ^ 64 → number_of width signed bits ≡ pos bits
 wide_plain width bits false lt few = refl

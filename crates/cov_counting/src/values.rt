@@ -1,13 +1,13 @@
 //! The values at each sample of an instance, each looked up from the front of the record.
-ghost use Rattle.std.specs.Prelude.{◌≡◌, ◌≤◌, ◌∷◌, ◌++◌, true, IfOk, OnOk, Some, pos, map, reverse, slice_get};
+ghost use Rattle.std.specs.Prelude.{◌≡◌, ◌∷◌, ◌++◌, IfOk, OnOk, Some, pos, map, reverse, slice_get};
 ghost use Rattle.std.specs.List.{range_with_len};
-ghost use Rattle.cov_base.specs.Sets.{IsInt};
-ghost use Rattle.record_codec.specs.Samples.{number_of, latest as latest_of, signal_value as value_of_signal, arg_value as value_of_arg, args_of, signal_at, arg_at, env_of, envs_after, samples_of};
+ghost use Rattle.bin_spec.specs.Types.{number_of};
+ghost use Rattle.record_codec.specs.Samples.{latest as latest_of, signal_value as value_of_signal, arg_value as value_of_arg, args_of, signal_at, arg_at, env_of, envs_after, samples_of};
 ghost use Rattle.cov_counting.specs.Steps.{envs_at, values_to};
 
-use cov_base::Int;
+use cov_base::{Int, read_bits};
 use cov_ground::Memory;
-use cov_ground::limits::{MOST_ARGUMENTS, MOST_SIGNALS};
+use cov_ground::limits::{MOST_ARGUMENTS, MOST_BITS, MOST_SIGNALS};
 use cov_tree::List;
 use record_codec::{ArgRow, Event, InstRow, Record, SignalRow};
 use std::alloc::Global;
@@ -26,29 +26,13 @@ fn number(width: u8, signed: bool, bits: u64) -> Option<Int>
     if !signed {
         return plain(bits);
     }
-    if width > 64 {
+    if width > MOST_BITS {
         return plain(bits);
     }
     if width == 0 {
         return plain(bits.saturating_sub(1));
     }
-    Int::new(in_twos_complement(width, bits))
-}
-
-/// Bits read in two's complement.
-fn in_twos_complement(width: u8, bits: u64) -> i128
-    requires least { 1 ≤ width }
-    requires most { width ≤ 64 }
-    ensures value { result ≡ number_of width true bits }
-    ensures range { IsInt result }
-{
-    let number = i128::from(bits);
-    let half = 1u64 << (width - 1);
-    if half <= bits {
-        number - 2 * i128::from(half)
-    } else {
-        number
-    }
+    Some(read_bits(width, true, bits))
 }
 
 /// What the last Set of the signal gave.

@@ -1,8 +1,8 @@
 -- The values of the signals and of the arguments at each sample of an instance. A signal is Unknown until it is set
 -- (IEEE 1800-2017, 6.8); an instance is sampled at each of its Sample events, with the arguments of that event (19.8.1).
-use Rattle.std.specs.Prelude.{ℤ, pos, ◌-ℤ◌, ℕ, ◌*◌, ◌^◌, ◌==◌, nat_le, List, [], ◌∷◌, ◌++◌, map, slice_get, Option, Some, None, option_map, Bool, if◌then◌else◌}
+use Rattle.std.specs.Prelude.{ℤ, ℕ, ◌==◌, List, [], ◌∷◌, ◌++◌, map, slice_get, Option, Some, None, option_map, if◌then◌else◌}
 use Rattle.std.specs.List.{range_with_len}
-use mathlib.Core.Bool.{◌&&◌}
+use Rattle.bin_spec.specs.Types.{number_of}
 use Rattle.cov_ground.specs.Limits.{most_signals, most_arguments}
 use Rattle.record_codec.specs.declared.record.Record.{Record}
 use Rattle.record_codec.specs.declared.record.SignalRow.{SignalRow}
@@ -15,10 +15,6 @@ use Rattle.record_codec.specs.declared.record.Event.TheVariants.{Set, Sample}
 -- 4,096 + k that of the k-th argument. There are 4,112 places; Unknown stands where there is no signal or argument.
 abbrev pub Env : Type 0
 Env = List (Option ℤ)
-
--- the number that bits stand for: in two's complement where it is signed
-abbrev pub number_of : (width : ℕ) → (signed : Bool) → (bits : ℕ) → ℤ
-number_of width signed bits = if signed && nat_le (2 ^ width) (2 * bits) then pos bits -ℤ pos (2 ^ width) else pos bits
 
 -- the value that the latest Set of the signal gave, the events standing latest first; Unknown where there is none
 abbrev pub latest : ℕ → List Event → Option ℕ

@@ -1,6 +1,6 @@
 use Rattle.std.proofs.Common.{◌∙◌, Some, ap, sym, arith}
 use Rattle.std.specs.Prelude.{ℤ, ℕ, pos, Bool, true}
-use Rattle.record_codec.specs.Samples.{number_of}
+use Rattle.bin_spec.specs.Types.{number_of}
 use Rattle.cov_counting.proofs.Plain.{wide_plain, zero_width}
 use Rattle.cov_counting.proofs.values.number.Goals as goal
 
