@@ -1,5 +1,6 @@
 -- Types (IEEE 1800-2017, 6.9, 6.11 and 6.19).
 use Rattle.std.specs.Prelude.{ℕ, ◌+◌, ℤ, pos, ◌-ℤ◌, int_lt, int_le, unsigned_abs, ◌&&◌, Bool, Option, Some, None, Result, Ok, Err, slice_get}
+use Rattle.cov_ground.specs.Limits.{most_bits}
 use Rattle.bin_spec.specs.Types.{lowest, highest}
 use Rattle.name_map.specs.Names.{meaning_of}
 use Rattle.cov_tree.specs.Widths.{bits_of}
@@ -16,9 +17,9 @@ use Rattle.elab_decls.specs.declared.outside.Outside.{Outside}
 use Rattle.elab_decls.specs.declared.outside.Enumeration.{Enumeration}
 use Rattle.elab_decls.specs.declared.outside.Shape.{Shape}
 
--- high >= low >= 0, of 64 bits at most; a low end above 255 has no place in a design
+-- high >= low >= 0, of most_bits at most; a low end above 255 has no place in a design
 abbrev pub is_span : (high low : ℤ) → Bool
-is_span high low = int_le (pos 0) low && (int_le low high && (int_le low (pos 255) && int_lt (high -ℤ low) (pos 64)))
+is_span high low = int_le (pos 0) low && (int_le low high && (int_le low (pos 255) && int_lt (high -ℤ low) (pos most_bits)))
 
 abbrev pub span_shape : Bool → (high low : ℤ) → Shape
 span_shape signed high low = record { typ = record { width = unsigned_abs (high -ℤ low) + 1; signed = signed }; low = unsigned_abs low; enumeration = None }

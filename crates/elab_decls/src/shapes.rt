@@ -18,7 +18,7 @@ use std::alloc::Global;
 fn spans(high: i128, low: i128) -> bool
     ensures { result ≡ is_span high low }
 {
-    0 <= low && low <= high && low <= 255 && high - low < 64
+    0 <= low && low <= high && low <= 255 && high - low < i128::from(MOST_BITS)
 }
 
 fn span(signed: bool, high: i128, low: i128) -> Shape
