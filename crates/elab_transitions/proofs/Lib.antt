@@ -1,5 +1,6 @@
 pub mod Arrows
 pub mod TooMany
+pub mod Untaken
 pub mod OnlyLists
 pub mod Words
 pub mod Same

@@ -1,5 +1,5 @@
 //! What removal leaves of transition bins.
-ghost use Rattle.std.specs.Prelude.{◌≡◌, ◌++◌, IfOk, OnOk, true};
+ghost use Rattle.std.specs.Prelude.{◌≡◌, [], ◌++◌, IsTrue, IfOk, OnOk, true};
 ghost use Rattle.std.specs.List.{list_any};
 ghost use Rattle.trans_seq.specs.Words.{one_of as number_of_set, value_once as value_of_item, word_of as word_of_items};
 ghost use Rattle.design_data.specs.Left.{is_same_seq as are_same_seqs, has_numbers as has_ranges, has_lists as has_all_numbers};
@@ -130,6 +130,13 @@ fn removes(removing: &Removing, list: &[Int]) -> bool
     removing.removes(list)
 }
 
+#[tactic(auto, using(crate::proofs::Untaken::no_seqs))]
+fn has_none(seqs: &List<Seq>) -> bool
+    ensures { IsTrue result → seqs.now ≡ [] }
+{
+    seqs.as_slice().is_empty()
+}
+
 impl Removers {
     /// The ignored and the illegal sequences of a point, which have 120 cells at most together.
     pub fn new(alloc: Global, ignored: List<Seq>, illegal: List<Seq>) -> Result<Removers, Memory>
@@ -182,9 +189,25 @@ impl Removers {
         }
     }
 
+    /// Whether nothing is taken from bins of a kind.
+    fn takes_none(&self, kind: BinKind) -> bool
+        ensures { IsTrue result → removing_of kind self.now.0 self.now.1 ≡ [] }
+    {
+        match kind {
+            BinKind::CvgBin => has_none(&self.ignored) && has_none(&self.illegal),
+            BinKind::IgnoreBin => has_none(&self.illegal),
+            BinKind::IllegalBin => true,
+            BinKind::DefaultBin => true,
+        }
+    }
+
+    #[tactic(auto, using(crate::proofs::Untaken::untaken))]
     fn is_list_left(&self, alloc: Global, kind: BinKind, seq: &Seq) -> Result<bool, Memory>
         ensures { IfOk result (λ left. left ≡ is_left true (removing_of kind self.now.0 self.now.1) seq.now) }
     {
+        if self.takes_none(kind) {
+            return Ok(true);
+        }
         match only_list(alloc, seq.items.as_slice())? {
             None => Ok(true),
             Some(list) => Ok(!self.removes(kind, list.as_slice())),
