@@ -7,3 +7,4 @@ pub mod Alike
 mod Expressions
 pub mod Designs
 mod OneRecord
+pub mod Alone

@@ -1,12 +1,12 @@
 -- What the items of an instance keep and count along its samples.
-use Rattle.std.specs.Prelude.{◌≡◌, ℕ, ◌+◌, ◌-◌, ◌^◌, ◌<◌, ◌≤◌, List, [], length, drop, slice_get, slice_index, slice_index_or, Some}
+use Rattle.std.specs.Prelude.{◌≡◌, ℕ, ◌+◌, ◌-◌, ◌^◌, ◌<◌, ◌≤◌, List, [], length, drop, slice_get, slice_index, slice_index_or, Some, true}
 use Rattle.std.specs.List.{AllByRecursion}
 use Rattle.std.specs.Global.{Vec}
 use Rattle.const_eval.specs.Terms.{Term}
 use Rattle.design_data.specs.declared.infos.ItemInfo.{ItemInfo}
 use Rattle.design_data.specs.declared.infos.ItemShape.{ItemShape}
 use Rattle.design_data.specs.declared.infos.ItemShape.TheVariants.{Point, Cross}
-use Rattle.design_data.specs.Bins.{sizes_of, IsNumberedFrom}
+use Rattle.design_data.specs.Bins.{sizes_of, is_point, IsNumberedFrom}
 use Rattle.design_data.specs.Limits.{IsPointIndex}
 use Rattle.record_codec.specs.Samples.{Env, envs_after, args_of, samples_of}
 use Rattle.record_codec.specs.declared.record.Record.{Record}
@@ -98,6 +98,10 @@ IsChosen chosen k = (place : ℕ) × (slice_get chosen place ≡ Some k)
 abbrev pub IsCovered : (chosen : List ℕ) → ItemShape → Type 0
 IsCovered chosen (Point expr) = Unit {0}
 IsCovered chosen (Cross axes) = AllByRecursion (IsChosen chosen) axes
+
+-- all items that are taken along are points
+abbrev pub ArePoints : List ItemInfo → (chosen : List ℕ) → Type 0
+ArePoints items chosen = (i k : ℕ) (item : ItemInfo) → slice_get chosen i ≡ Some k → slice_get items k ≡ Some item → is_point item.shape ≡ true
 
 -- items of the instance, each once, and with each cross its points
 pub record AreChosen (items : List ItemInfo) (chosen : List ℕ) : Type 0 where

@@ -1,9 +1,10 @@
 //! One sample of an instance.
-ghost use Rattle.std.specs.Prelude.{◌≡◌, ◌≢◌, ◌+◌, ◌<◌, ◌≤◌, ℕ, List, length, slice_get, Some, OnOk};
+ghost use Rattle.std.specs.Prelude.{◌≡◌, ◌≢◌, ◌+◌, ◌<◌, ◌≤◌, ℕ, List, length, slice_get, Some, true, IfOk, OnOk};
 ghost use Rattle.cross_sampler.specs.Numbers.{row_at};
+ghost use Rattle.design_data.specs.Bins.{is_point as is_point_of};
 ghost use Rattle.record_codec.specs.Samples.{Env};
 ghost use Rattle.point_sampler.specs.Points.{RowStands as PointRowStands};
-ghost use Rattle.sampler.specs.Standing.{IsSample, IsPointPlan, IsCrossPlan, IsPlanOf, FitsItem, PointStands, CrossStands, Stands, point_first, RowStands, AreNumbered, ArePlans, AreChosen, IsChosen, IsCovered, AllFit, AllStand, RowsStand, KeepsOthers, CrossTaken, ItemTaken, AllTaken};
+ghost use Rattle.sampler.specs.Standing.{IsSample, IsPointPlan, IsCrossPlan, IsPlanOf, FitsItem, PointStands, CrossStands, Stands, point_first, RowStands, AreNumbered, ArePlans, AreChosen, IsChosen, IsCovered, ArePoints, AllFit, AllStand, RowsStand, KeepsOthers, CrossTaken, ItemTaken, AllTaken};
 ghost use Rattle.std.specs.List.{AllByRecursion};
 ghost use Rattle.sampler.specs.Walking.{InstFits};
 
@@ -127,7 +128,26 @@ pub(crate) fn chosen_at(items: &[ItemInfo], chosen: &[u32], place: usize) -> usi
     chosen[place] as usize
 }
 
-/// Takes the points among the chosen items of an instance over a sample.
+/// Whether the item is a point.
+#[inline(always)]
+fn is_point(item: &ItemInfo) -> bool
+    ensures { result ≡ is_point_of item.now.shape }
+{
+    match &item.shape {
+        ItemShape::Point(_) => true,
+        ItemShape::Cross(_) => false,
+    }
+}
+
+/// Whether both hold.
+#[inline(always)]
+fn both(first: bool, second: bool) -> bool
+    ensures { result ≡ true → (first ≡ true) × (second ≡ true) }
+{
+    first && second
+}
+
+/// Takes the points among the chosen items of an instance over a sample, and says whether all items are points.
 fn take_points(
     items: &[ItemInfo],
     plans: &[ItemPlan],
@@ -136,7 +156,7 @@ fn take_points(
     rows: &mut Vec<Vec<u32>>,
     env: &[Option<Int>],
     counts: &mut [u64],
-) -> Result<(), Memory>
+) -> Result<bool, Memory>
     requires plans { ArePlans items.now plans.now }
     requires chosen { AreChosen items.now chosen.now }
     requires fits { AllFit items.now plans.now chosen.now states.old.items }
@@ -148,21 +168,16 @@ fn take_points(
         → AllTaken items.now plans.now chosen.now all (λ shape. point_first shape m) counts.old states.new.items counts.new) }
     ensures hit { OnOk result ((all : List Env) (m : ℕ) → IsSample all m env.now → AllStand items.now plans.now chosen.now all (λ shape. m) states.old.items counts.old
         → RowsStand items.now chosen.now all m rows.new.items) }
+    ensures alone { IfOk result (λ alone. alone ≡ true → ArePoints items.now chosen.now) }
 {
+    let mut alone = true;
     for i in 0..chosen.len() {
         let t = chosen_at(items, chosen, i);
-        take_point_at(
-            items,
-            &items[t],
-            &plans[t],
-            &mut states[i],
-            rows,
-            t,
-            env,
-            counts,
-        )?;
+        let item = &items[t];
+        alone = both(alone, is_point(item));
+        take_point_at(items, item, &plans[t], &mut states[i], rows, t, env, counts)?;
     }
-    Ok(())
+    Ok(alone)
 }
 
 /// Takes a cross over a sample.
@@ -225,6 +240,7 @@ fn take_cross(
 }
 
 /// Takes the crosses among the chosen items of an instance over a sample, after its points.
+#[inline(never)]
 fn take_crosses(
     items: &[ItemInfo],
     plans: &[ItemPlan],
@@ -275,7 +291,7 @@ pub(crate) fn sample_instance(
     ensures taken { OnOk result ((all : List Env) (m : ℕ) → IsSample all m env.now → AllStand items.now plans.now chosen.now all (λ shape. m) kept.old.states.items counts.old
         → AllTaken items.now plans.now chosen.now all (λ shape. m + 1) counts.old kept.new.states.items counts.new) }
 {
-    take_points(
+    let alone = take_points(
         items,
         plans,
         chosen,
@@ -284,6 +300,9 @@ pub(crate) fn sample_instance(
         env,
         counts,
     )?;
+    if alone {
+        return Ok(());
+    }
     take_crosses(
         items,
         plans,

@@ -27,6 +27,7 @@ fn arguments(instances: &[InstRow], index: usize) -> &[ArgRow]
 
 /// Takes the chosen items of an instance over its sample with these arguments, which stand behind the signals' values for
 /// this sample alone.
+#[inline(never)]
 fn take_with_args(
     rec: &Record,
     instance: usize,

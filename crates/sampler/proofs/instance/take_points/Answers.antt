@@ -3,6 +3,7 @@ use Rattle.std.specs.Prelude.{slice_get}
 use Rattle.std.proofs.lemmas.List.{length-set}
 use Rattle.sampler.specs.declared.instance.ItemState.{ItemState}
 use Rattle.sampler.specs.Standing.{FitsItem, Stands, point_first}
+use Rattle.sampler.proofs.Alone.{points_more, points_all}
 use Rattle.sampler.proofs.Items.{some_first, some_more, some_last, fits_more, read_at, rows_more, rows_all}
 use Rattle.sampler.proofs.instance.take_points.Goals as goal
 
@@ -15,6 +16,7 @@ loop-i-init c = record {
   fits = c.requires.fits;
   taken = λ all m sample h. some_first c.args.items.now c.args.plans.now c.args.chosen.now all (λ shape. m) (λ shape. point_first shape m) c.args.states.now.items c.args.counts.now h;
   hit = λ all m sample h i k item lt. absurd (omega (arith, lt));
+  alone = λ alone i k item lt. absurd (omega (arith, lt));
 }
 
 pub take_point_at-requires-clause-plan : goal.take_point_at-requires-clause-plan
@@ -113,6 +115,9 @@ loop-i-preserved c =
           let some = inv.taken all m sample h in
           let before : Stands items item all m item.shape p state c.loop-i.counts = subst (λ (s : ItemState). Stands items item all m item.shape p s c.loop-i.counts) (sym c.index_mut.ensures.value) (some.left i t item p state (omega arith) at_t at_item at_plan) in
           rows_more items chosen all m i t c.loop-i.rows.items c.take_point_at.new.rows.items item c.requires.chosen at_t at_item (c.in_ok-take_point_at.ensures.row all m sample before) c.in_ok-take_point_at.ensures.other_rows (inv.hit all m sample h);
+      alone = λ alone.
+          let each = c.both-alone.ensures alone in
+          points_more items chosen i t item at_t at_item (sym c.is_point.ensures ∙ each.1) (inv.alone each.0);
     }
 
 pub returns-clause-taken : goal.returns-clause-taken
@@ -121,3 +126,6 @@ returns-clause-taken c = λ all m sample h.
 
 pub returns-clause-hit : goal.returns-clause-hit
 returns-clause-hit c = λ all m sample h. rows_all c.args.items.now c.args.chosen.now all m c.loop-i.i c.loop-i.rows.items c.loop-i-test.false (c.loop-i.invariant.hit all m sample h)
+
+pub returns-clause-alone : goal.returns-clause-alone
+returns-clause-alone c = λ alone. points_all c.args.items.now c.args.chosen.now c.loop-i.i c.loop-i-test.false (c.loop-i.invariant.alone alone)

@@ -1,6 +1,7 @@
-use Rattle.std.proofs.Common.{◌≡◌, ℕ, List, length}
+use Rattle.std.proofs.Common.{◌≡◌, ℕ, List, length, true}
 use Rattle.record_codec.specs.Samples.{Env}
 use Rattle.sampler.specs.Standing.{IsSample, AllFit, AllStand, SomeTaken, point_first}
+use Rattle.sampler.proofs.Alone.{SomePoints}
 use Rattle.sampler.proofs.Items.{SomeRows}
 use Rattle.sampler.proofs.instance.take_points.Given as goal
 
@@ -15,4 +16,5 @@ invariant-loop-i l = record {
       → SomeTaken l.items l.plans l.chosen all (λ shape. m) (λ shape. point_first shape m) l.i l.initial.counts l.states.items l.counts;
   hit : (all : List Env) (m : ℕ) → IsSample all m l.env → AllStand l.items l.plans l.chosen all (λ shape. m) l.initial.states.items l.initial.counts
       → SomeRows l.items l.chosen all m l.i l.rows.items;
+  alone : l.alone ≡ true → SomePoints l.items l.chosen l.i;
 }
