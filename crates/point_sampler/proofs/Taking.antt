@@ -298,3 +298,22 @@ pub all_taken_more : (item : ItemInfo) (env : Env) (front : List ℕ) (place : �
     → PlaceTaken item env place now row new next_row → AllTaken item env front old now row → AllTaken item env (front ++ place ∷ []) old new next_row
 all_taken_more item env front place old now new row next_row lt fresh within t h =
     let b = some_at item.bins place lt in taken_by item env front place old now new row next_row b.0 (holds b.0.guard env) refl b.1 fresh within t h
+
+none_taken : (item : ItemInfo) (env : Env) (counts : List ℕ) → AllTaken item env [] counts counts []
+none_taken item env counts = record {
+  on = λ place bin h o. absurd (omega (arith, h.1));
+  off = λ number h. refl;
+  row = λ number. ((λ h. absurd (omega (arith, h.1))), (λ n. absurd (omega (arith, n.is_met.1))));
+  once = λ i j d less lt. absurd (omega (arith, lt));
+}
+
+-- one place alone
+pub one_taken : (item : ItemInfo) (env : Env) (place : ℕ) (old new row next_row : List ℕ) → place < length item.bins → item.first_bin + length item.bins ≤ length old → row ≡ [] → PlaceTaken item env place old row new next_row
+    → AllTaken item env (place ∷ []) old new next_row
+one_taken item env place old new row next_row lt within none t =
+    all_taken_more item env [] place old old new row next_row lt (λ h. absurd (omega (arith, h.1))) within t (subst (λ (r : List ℕ). AllTaken item env [] old old r) (sym none) (none_taken item env old))
+
+pub single : (xs : List ℕ) → length xs ≡ 1 → get_or xs 0 0 ∷ [] ≡ xs
+single [] e = absurd (omega (arith, e))
+single (x ∷ []) e = refl
+single (x ∷ y ∷ xs) e = absurd (omega (arith, e))

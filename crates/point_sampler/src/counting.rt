@@ -124,6 +124,31 @@ fn count_apart(
     Ok(())
 }
 
+/// The same. It is quick where one bin is met.
+#[inline(always)]
+fn count_few(
+    entries: &[Entry],
+    item: &ItemInfo,
+    env: &[Option<Int>],
+    met: &[u32],
+    counts: &mut [u64],
+    row: &mut Vec<u32>,
+) -> Result<(), Memory>
+    requires entries { AreEntries item.now.bins entries.now }
+    requires within { All (λ place. place < length item.now.bins) met.now }
+    requires once { AllPairs (λ a b. a ≢ b) met.now }
+    requires counts { item.now.first_bin + length item.now.bins ≤ length counts.old }
+    requires none { row.old.items ≡ [] }
+    ensures { OnOk result (AllTaken item.now env.now met.now counts.old counts.new row.new.items) }
+{
+    if let [place] = met {
+        count_one(entries, item, env, *place, counts, row)?;
+        return Ok(());
+    }
+    count_each(entries, item, env, met, counts, row)?;
+    Ok(())
+}
+
 /// The same. It is quick where each bin counts for coverage and has no guard.
 #[inline(always)]
 pub(crate) fn count_met(
@@ -142,7 +167,7 @@ pub(crate) fn count_met(
     ensures { OnOk result (AllTaken item.now env.now met.now counts.old counts.new row.new.items) }
 {
     if entries.is_empty() {
-        count_each(entries, item, env, met, counts, row)?;
+        count_few(entries, item, env, met, counts, row)?;
         return Ok(());
     }
     count_apart(entries, item, env, met, counts, row)?;
