@@ -13,7 +13,7 @@ use Rattle.cov_tree.specs.declared.bins.Size.{Size}
 use Rattle.cov_tree.specs.declared.bins.Size.TheVariants.{Scalar, Open, Fixed}
 use Rattle.cov_tree.specs.declared.bins.OptText.TheVariants.{Number, Text}
 use Rattle.cov_lexer.specs.declared.kind.Kind.{Kind}
-use Rattle.cov_lexer.specs.declared.kind.Kind.TheVariants.{Ident, Quoted, WithWord, WildcardWord, IffWord, DefaultWord, SequenceWord, OpenParen, CloseParen, OpenSquare, CloseSquare, OpenBrace, CloseBrace, Comma, Semi, Colon, Dot, Assign, FatArrow, ThinArrow, Star, DollarSign, OptionWord, TypeOptionWord}
+use Rattle.cov_lexer.specs.declared.kind.Kind.TheVariants.{Ident, Quoted, WithWord, WildcardWord, IffWord, DefaultWord, SequenceWord, OpenParen, CloseParen, OpenSquare, CloseSquare, OpenBrace, CloseBrace, Semi, Colon, Dot, Assign, FatArrow, ThinArrow, Star, DollarSign, OptionWord, TypeOptionWord}
 use Rattle.cov_grammar.specs.declared.marked.Marked.{Marked}
 use Rattle.cov_grammar.specs.declared.place.Place.{Place}
 use Rattle.cov_grammar.specs.declared.place.Room.{Room}
@@ -34,7 +34,7 @@ use Rattle.cov_grammar.proofs.Compose.{map_reads, map_fails, both_reads, both_fa
 use Rattle.cov_grammar.proofs.Steps.{Leads, leads_self, then, here_reads, right, bind_step, map_leads}
 use Rattle.cov_grammar.proofs.Steps as walk
 use Rattle.cov_grammar.proofs.ExprLaws.{expr_firsts, whole_expr_lawful, expr_lawful}
-use Rattle.cov_grammar.proofs.BinsLaws.{no_comma, ident_lawful, guard_lawful, range_end_lawful, span_lawful, elem_lawful, elems_lawful, repetition_lawful, step_lawful, seq_lawful, keep_lawful, option_value_lawful, bins_word_lawful, bins_head_lawful, size_lawful, seqs_lawful, values_lawful, default_right_lawful, right_lawful, sized_head_lawful, bins_rest_lawful}
+use Rattle.cov_grammar.proofs.BinsLaws.{ident_lawful, guard_lawful, range_end_lawful, span_lawful, elems_lawful, repetition_lawful, step_lawful, keep_lawful, option_value_lawful, bins_word_lawful, bins_head_lawful, size_lawful, seqs_lawful, values_lawful, default_right_lawful, right_lawful, sized_head_lawful, bins_rest_lawful}
 use Rattle.cov_parser.proofs.Chains.{no_part, part}
 
 module _ (text : List ℕ) (ts : List Marked) where

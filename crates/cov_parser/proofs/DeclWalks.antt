@@ -21,10 +21,10 @@ use Rattle.cov_grammar.specs.Designs.{vector_words, fixed_words, vector_of, name
 use Rattle.cov_grammar.proofs.Sets.{split, In_apart}
 use Rattle.cov_grammar.proofs.Lawful.{Lawful, Lawfuls, facts_of, lawful_word, lawful_map, lawful_maybe, lawful_many, lawful_both, lawful_either, lawful_fold}
 use Rattle.cov_grammar.proofs.Compose.{Past, both_reads, both_fails, both_then_fails, left_reads, left_fails, maybe_some, maybe_fails}
-use Rattle.cov_grammar.proofs.Steps.{Leads, leads_self, then, both_opens, one_here, one_fails, step, ends, bind_step, bind_ends, map_leads, without, maybe_step, left, right, item_read, item_fails, no_item, one_next}
-use Rattle.cov_grammar.proofs.ExprLaws.{expr_firsts, expr_lawful}
+use Rattle.cov_grammar.proofs.Steps.{Leads, leads_self, then, both_opens, one_here, one_fails, step, ends, bind_step, bind_ends, map_leads, without, maybe_step, left, right, one_next}
+use Rattle.cov_grammar.proofs.ExprLaws.{expr_firsts}
 use Rattle.cov_grammar.proofs.BinsLaws.{ident_lawful}
-use Rattle.cov_grammar.proofs.DesignLaws.{vector_lawful, built_in_lawful, value_lawful, enum_name_lawful, enum_names_lawful, enum_body_lawful, enum_rest_lawful, enum_decl_lawful, more_name_lawful, built_in_decl_lawful, expr_list_lawful, arguments_lawful, instance_rest_lawful, variables_rest_lawful, two_names_lawful, named_rest_lawful, named_decl_lawful, group_lawful}
+use Rattle.cov_grammar.proofs.DesignLaws.{vector_lawful, built_in_lawful, value_lawful, enum_names_lawful, enum_body_lawful, enum_rest_lawful, enum_decl_lawful, more_name_lawful, built_in_decl_lawful, expr_list_lawful, arguments_lawful, instance_rest_lawful, variables_rest_lawful, two_names_lawful, named_rest_lawful, named_decl_lawful, group_lawful}
 use Rattle.cov_parser.proofs.Chains.{chain_first, chain_fails}
 
 -- where a part stops at its beginning, it is left out

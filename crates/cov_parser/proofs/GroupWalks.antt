@@ -1,10 +1,8 @@
 -- Where a reader of coverpoints and crosses stands, from one part of a rule to the next.
-use Rattle.std.proofs.Common.{◌≡◌, ℕ, ◌-◌, ◌<◌, List, [], ◌∷◌, ◌++◌, Option, Some, true, false, length, inl, inr, refl, sym, ◌∙◌, subst, arith}
+use Rattle.std.proofs.Common.{◌≡◌, ℕ, ◌-◌, ◌<◌, List, [], ◌∷◌, Option, Some, true, false, length, inl, inr, refl, sym, ◌∙◌, subst, arith}
 use Rattle.cov_tree.specs.declared.expr.Expr.{Expr}
 use Rattle.cov_tree.specs.declared.bins.OptDecl.{OptDecl}
-use Rattle.cov_tree.specs.declared.bins.BinsDecl.{BinsDecl}
 use Rattle.cov_tree.specs.declared.groups.Sel.{Sel}
-use Rattle.cov_tree.specs.declared.groups.CrossBins.{CrossBins}
 use Rattle.cov_lexer.specs.declared.kind.Kind.{Kind}
 use Rattle.cov_lexer.specs.declared.kind.Kind.TheVariants.{CoverpointWord, CrossWord, OpenBrace, CloseBrace, Comma, Semi, Assign}
 use Rattle.cov_grammar.specs.declared.marked.Marked.{Marked}
@@ -18,13 +16,13 @@ use Rattle.cov_grammar.specs.Parses.{Reads, Stops, Fails}
 use Rattle.cov_grammar.specs.Expressions.{pair, snoc, expr}
 use Rattle.cov_grammar.specs.Bins.{bins_words, ident, guard, bins, optset}
 use Rattle.cov_grammar.specs.Groups.{Entry, Setting, Counting, put, nothing_put, cross_bins_of, point_of, cross_of, sel, cross_bins, body, point, crossed, cross}
-use Rattle.cov_grammar.proofs.Sets.{disjoint, split, In_apart}
+use Rattle.cov_grammar.proofs.Sets.{split, In_apart}
 use Rattle.cov_grammar.proofs.Lawful.{Lawful, facts_of, lawful_word, lawful_one, lawful_map, lawful_maybe, lawful_many, lawful_both}
-use Rattle.cov_grammar.proofs.Compose.{many_stuck, map_reads, map_fails, both_reads, both_fails, both_then_fails}
-use Rattle.cov_grammar.proofs.Steps.{Leads, leads_self, no_start, step, ends, left, right, map_leads, many_next, many_ends, many_breaks, one_fails, fold_starts, fold_fails, item_read, item_fails, no_item, one_next, reads_more, reads_inside}
+use Rattle.cov_grammar.proofs.Compose.{many_stuck, map_reads, both_reads, both_fails, both_then_fails}
+use Rattle.cov_grammar.proofs.Steps.{Leads, leads_self, no_start, step, ends, left, right, map_leads, many_next, many_ends, many_breaks, one_fails, fold_starts, fold_fails, reads_more, reads_inside}
 use Rattle.cov_grammar.proofs.ExprLaws.{expr_lawful}
-use Rattle.cov_grammar.proofs.BinsLaws.{ident_lawful, guard_lawful, bins_lawful, optset_lawful}
-use Rattle.cov_grammar.proofs.GroupLaws.{option_words, sel_lawful, cross_bins_lawful, point_entry_lawful, cross_entry_lawful, point_body_lawful, cross_body_lawful, crossed_lawful}
+use Rattle.cov_grammar.proofs.BinsLaws.{ident_lawful, guard_lawful, optset_lawful}
+use Rattle.cov_grammar.proofs.GroupLaws.{option_words, sel_lawful, cross_bins_lawful, point_body_lawful, cross_body_lawful, crossed_lawful}
 use Rattle.cov_parser.specs.Bodies.{BesideOptions}
 
 abbrev Setting' : (A : Type 0) → OptDecl → Entry A

@@ -7,10 +7,7 @@ use Rattle.cov_tree.specs.declared.bins.Times.{Times}
 use Rattle.cov_tree.specs.declared.bins.Size.{Size}
 use Rattle.cov_tree.specs.declared.bins.Right.{Right}
 use Rattle.cov_tree.specs.declared.bins.Right.TheVariants.{Trans}
-use Rattle.cov_tree.specs.declared.bins.BinsDecl.{BinsDecl}
-use Rattle.cov_tree.specs.declared.bins.OptDecl.{OptDecl}
 use Rattle.cov_tree.specs.declared.groups.Sel.{Sel}
-use Rattle.cov_tree.specs.declared.groups.CrossBins.{CrossBins}
 use Rattle.cov_tree.specs.declared.groups.Formal.{Formal}
 use Rattle.cov_tree.specs.declared.groups.EdgeText.{EdgeText}
 use Rattle.cov_tree.specs.declared.declarations.TypeText.{TypeText}
@@ -22,8 +19,8 @@ use Rattle.cov_grammar.specs.declared.place.Standing.{Standing}
 use Rattle.cov_grammar.specs.declared.place.Standing.TheVariants.{Plain}
 use Rattle.cov_grammar.specs.Rule.{Rule, one, word, same_word, counted, either, many, map_to, fold, ◌▸◌, ◌◂◌, allow, maybe}
 use Rattle.cov_grammar.specs.Expressions.{Inner, snoc, expr, part_expr, list_in, inner_at, index_in, primary_in, unary_in, binary_in}
-use Rattle.cov_grammar.specs.Bins.{ident, guard, elems, values, keep, step, seqs, repetition, is_scalar, is_fixed, bins}
-use Rattle.cov_grammar.specs.Groups.{label, sel_inner_at, sand_in, sunary_in, cross_bins, body}
+use Rattle.cov_grammar.specs.Bins.{ident, guard, elems, values, keep, step, seqs, repetition, is_scalar, is_fixed}
+use Rattle.cov_grammar.specs.Groups.{label, sel_inner_at, sand_in, sunary_in}
 use Rattle.cov_grammar.specs.Designs.{vector, vector_span, arguments, argument_parens, edge}
 
 module _ (text : List ℕ) (ts : List Marked) where
