@@ -4,8 +4,8 @@ use Rattle.bin_spec.specs.Types.{number_of}
 use Rattle.cov_counting.proofs.Plain.{wide_plain, zero_width}
 use Rattle.cov_counting.proofs.values.number.Goals as goal
 
-pub returns-then-width-gt64 : goal.returns-then-width-gt64
-returns-then-width-gt64 c = c.plain-then-width-gt64.ensures ∙ ap (λ (z : ℤ). Some z) (sym (wide_plain c.args.width c.args.bits c.args.signed (omega arith) (omega arith)))
+pub returns-then-width-gt-MOST_BITS : goal.returns-then-width-gt-MOST_BITS
+returns-then-width-gt-MOST_BITS c = c.plain-then-width-gt-MOST_BITS.ensures ∙ ap (λ (z : ℤ). Some z) (sym (wide_plain c.args.width c.args.bits c.args.signed (omega arith) (omega arith)))
 
 pub returns-then-width-eq0 : goal.returns-then-width-eq0
 returns-then-width-eq0 c =
