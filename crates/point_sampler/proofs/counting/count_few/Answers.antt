@@ -1,4 +1,4 @@
-use Rattle.std.proofs.Common.{◌≡◌, ◌<◌, ◌∷◌, List, ℕ, [], get_or, length, subst, arith}
+use Rattle.std.proofs.Common.{◌≡◌, ◌<◌, List, ℕ, get_or, length, subst, arith}
 use Rattle.point_sampler.specs.Met.{AllTaken}
 use Rattle.point_sampler.proofs.Taking.{one_taken, single}
 use Rattle.point_sampler.proofs.counting.count_few.Goals as goal
