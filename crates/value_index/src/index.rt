@@ -146,6 +146,7 @@ impl Index {
     }
 
     /// The places of the sets that have v, ascending.
+    #[inline(always)]
     pub fn hits(&self, v: u64) -> &[u32]
         ensures { (sets : List (List Span)) → Finds self.now sets → result.now ≡ places v 0 sets }
     {
