@@ -10,3 +10,4 @@ pub mod Steps
 pub mod Laws
 pub mod Flags
 pub mod Sums
+pub mod Amounts

@@ -15,7 +15,7 @@ use std::alloc::Global;
 use ucis_model::{Node, NodeKind};
 
 /// Puts a place behind others, where a test holds.
-pub(crate) fn push_if(places: &mut Vec<u32>, test: bool, place: u32) -> Result<(), Memory>
+pub fn push_if(places: &mut Vec<u32>, test: bool, place: u32) -> Result<(), Memory>
     ensures { OnOk result (places.new.items ≡ places.old.items ++ cond test (place ∷ []) []) }
 {
     if test {
@@ -38,9 +38,10 @@ fn is_coverage(kind: NodeKind) -> bool
 }
 
 /// The nodes of all bins, in order.
-pub(crate) fn bin_nodes(alloc: Global, nodes: &[Node]) -> Result<Vec<u32>, Memory>
+pub fn bin_nodes(alloc: Global, nodes: &[Node]) -> Result<Vec<u32>, Memory>
     requires { length nodes.now < 2 ^ 32 }
-    ensures { IfOk result (λ bins. bins.items ≡ bin_nodes_of nodes.now) }
+    ensures bins { IfOk result (λ bins. bins.items ≡ bin_nodes_of nodes.now) }
+    ensures few { IfOk result (λ bins. length bins.items < 2 ^ 32) }
 {
     let mut bins = Vec::new(alloc);
     for place in 0..nodes.len() as u32 {
@@ -70,9 +71,10 @@ pub(crate) fn children(alloc: Global, nodes: &[Node], above: u32) -> Result<Vec<
 }
 
 /// Those of the bins, by their nodes, that are under a node.
-pub(crate) fn bins_under<'a>(nodes: &[Node], bins: &'a [u32], above: u32) -> &'a [u32]
+pub fn bins_under<'a>(nodes: &[Node], bins: &'a [u32], above: u32) -> &'a [u32]
     requires { bins.now ≡ bin_nodes_of nodes.now }
-    ensures { result.now ≡ bins_meant nodes.now above }
+    ensures bins { result.now ≡ bins_meant nodes.now above }
+    ensures few { length result.now ≤ length bins.now }
 {
     let said = said(nodes, above);
     let first = (said.first_bin as usize).min(bins.len());

@@ -7,21 +7,21 @@ use ucis_model::{Node, NodeKind};
 
 /// What a node says, without its name.
 #[derive(Clone, Copy)]
-pub(crate) struct Facts {
-    pub(crate) kind: NodeKind,
-    pub(crate) parent: u32,
-    pub(crate) first_bin: u32,
-    pub(crate) bins: u32,
-    pub(crate) weight: u32,
-    pub(crate) type_weight: u32,
-    pub(crate) goal: u32,
-    pub(crate) at_least: u32,
-    pub(crate) merge: bool,
+pub struct Facts {
+    pub kind: NodeKind,
+    pub parent: u32,
+    pub first_bin: u32,
+    pub bins: u32,
+    pub weight: u32,
+    pub type_weight: u32,
+    pub goal: u32,
+    pub at_least: u32,
+    pub merge: bool,
 }
 
 /// What the node at a place says; where there is none, a root without bins.
 #[tactic(auto, using(crate::proofs::Places::read_is, crate::proofs::Places::past_is))]
-pub(crate) fn said(nodes: &[Node], place: u32) -> Facts
+pub fn said(nodes: &[Node], place: u32) -> Facts
     ensures kind { result.kind ≡ (node_at nodes.now place).kind }
     ensures parent { result.parent ≡ (node_at nodes.now place).parent }
     ensures first_bin { result.first_bin ≡ (node_at nodes.now place).first_bin }
@@ -94,7 +94,7 @@ fn first(flags: &[bool]) -> bool
 
 /// The count at a place; 0 past the end.
 #[tactic(auto, using(crate::proofs::Places::read_is, crate::proofs::Places::past_is))]
-pub(crate) fn count(counts: &[u64], place: u32) -> u64
+pub fn count(counts: &[u64], place: u32) -> u64
     ensures { result ≡ slice_index counts.now place }
 {
     if place as usize >= counts.len() {

@@ -61,7 +61,7 @@ fn is_out_up(tree: &Tree, out: &[Name], most: u64, place: u32) -> bool
 
 /// Whether the node or one above it is out.
 #[tactic(auto, unfolding(crate::specs::Coverage::is_excluded))]
-fn is_excluded(tree: &Tree, out: &[Name], place: u32) -> bool
+pub fn is_excluded(tree: &Tree, out: &[Name], place: u32) -> bool
     ensures { result ≡ meant.is_excluded tree.now out.now place }
 {
     is_out_up(tree, out, u64::from(place) + 1, place)

@@ -21,7 +21,7 @@ fn design_after<'a>(design: &'a Design, event: &'a Event) -> &'a Design
 }
 
 /// The design at the end of a history.
-pub(crate) fn design_at<'a>(opening: &'a Design, entries: &'a [Entry]) -> &'a Design
+pub fn design_at<'a>(opening: &'a Design, entries: &'a [Entry]) -> &'a Design
     ensures { result.now ≡ design_of opening.now entries.now }
 {
     let mut design = opening;
@@ -65,7 +65,7 @@ fn is_found(tree: &Tree, path: &Name) -> bool
 }
 
 /// The paths that find a node of the design.
-fn found(alloc: Global, design: &Design, out: &[Name]) -> Result<Vec<Name>, Memory>
+pub fn found(alloc: Global, design: &Design, out: &[Name]) -> Result<Vec<Name>, Memory>
     ensures { IfOk result (λ left. left.items ≡ filter (found_meant design.now) out.now) }
 {
     let tree = tree(alloc, design)?;
@@ -97,7 +97,7 @@ fn out_after(alloc: Global, out: Vec<Name>, event: &Event) -> Result<Vec<Name>, 
 }
 
 /// The paths that are out at the end of a history.
-pub(crate) fn out_at(alloc: Global, entries: &[Entry]) -> Result<Vec<Name>, Memory>
+pub fn out_at(alloc: Global, entries: &[Entry]) -> Result<Vec<Name>, Memory>
     ensures { IfOk result (λ out. out.items ≡ out_of entries.now) }
 {
     let mut out = Vec::new(alloc);

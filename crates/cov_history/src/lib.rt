@@ -4,6 +4,7 @@
 //! with their laws.
 #![tactic(auto)]
 
+mod amounts;
 mod asking;
 mod asks;
 mod covering;
@@ -16,7 +17,13 @@ mod merging;
 mod together;
 mod whole;
 
+pub use amounts::{Amounts, amount, passed};
 pub use asking::coverage_answer;
 pub use asks::Ask;
+pub use covering::{bin_nodes, bins_under, push_if};
 pub use entry::{Entry, Event, Revision};
+pub use facts::{Facts, count, said};
+pub use flags::is_excluded;
+pub use gone::{design_at, found, out_at};
+pub use together::counts_of;
 pub use whole::coverage_by_definition;

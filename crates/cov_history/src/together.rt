@@ -14,7 +14,7 @@ use record_codec::Record;
 use std::alloc::Global;
 
 /// The counts of a record.
-fn tally(alloc: Global, design: &Design, content: &Record) -> Result<List<u64>, Memory>
+pub fn counts_of(alloc: Global, design: &Design, content: &Record) -> Result<List<u64>, Memory>
     ensures { IfOk result (λ counts. counts ≡ tally_of design.now content.now) }
 {
     let counts = tally_by_definition(alloc, design, content)?;
@@ -73,7 +73,7 @@ fn with_record(
     requires room { (bin : ℕ) → slice_index counts.now bin < 2 ^ 63 }
     ensures { IfOk result (λ after. after.items ≡ plus counts.now (tally_of design.now content.now)) }
 {
-    let own = tally(alloc, design, content)?;
+    let own = counts_of(alloc, design, content)?;
     let both = added(alloc, counts, own.as_slice())?;
     Ok(both)
 }

@@ -18,8 +18,9 @@ use Rattle.cov_history.specs.Answers.{by, unless_full, change}
 use Rattle.cov_history.proofs.Bools.{and_left}
 use Rattle.cov_history.proofs.Snoc.{test_count_snoc, bytes_snoc, entries_snoc, history_snoc, stop_snoc}
 use Rattle.cov_history.proofs.Legal.{kept_along, legal_within, within_of}
-use Rattle.history_answers.specs.declared.amounts.Amounts.{Amounts}
-use Rattle.history_answers.specs.Amounts.{AreAmounts, first_passed, told_by}
+use Rattle.cov_history.specs.declared.amounts.Amounts.{Amounts}
+use Rattle.cov_history.specs.Amounts.{AreAmounts, first_passed}
+use Rattle.history_answers.specs.Amounts.{told_by}
 
 -- ---- legal histories are short
 

@@ -12,8 +12,8 @@ use Rattle.cov_history.specs.declared.entry.Entry.{Entry}
 use Rattle.cov_history.specs.History.{Test, tests_in, tests_from, kept, has_stop, suits, most, passed, may_follow, is_legal}
 use Rattle.cov_history.specs.Answers.{by}
 use Rattle.cov_history.proofs.Snoc.{legal_snoc}
-use Rattle.history_answers.specs.declared.amounts.Amounts.{Amounts}
-use Rattle.history_answers.specs.Amounts.{AreAmounts, first_passed}
+use Rattle.cov_history.specs.declared.amounts.Amounts.{Amounts}
+use Rattle.cov_history.specs.Amounts.{AreAmounts, first_passed}
 use Rattle.history_answers.specs.Kept.{admits}
 
 -- a test of the id is kept where an entry admits a record of it

@@ -1,26 +1,10 @@
--- Four amounts at once.
-use Rattle.std.specs.Prelude.{◌≡◌, ℕ, find, nat_lt, Option, Some, None, List, [], ◌∷◌}
-use Rattle.design_data.specs.declared.design.Design.{Design}
+-- What a change is answered by the amounts before it and after.
+use Rattle.std.specs.Prelude.{Option, Some, None}
 use Rattle.ucis_model.specs.declared.answers.Answer.{Answer}
 use Rattle.ucis_model.specs.declared.answers.Answer.TheVariants as answers
 use Rattle.ucis_model.specs.declared.answers.Which.{Which}
-use Rattle.ucis_model.specs.declared.answers.Which.TheVariants.{Tests, Bytes, Entries, History}
-use Rattle.cov_history.specs.declared.entry.Entry.{Entry}
-use Rattle.cov_history.specs.History.{amount, most}
-use Rattle.history_answers.specs.declared.amounts.Amounts.{Amounts}
-
-abbrev pub amount_in : Amounts → Which → ℕ
-amount_in a Tests = a.tests
-amount_in a Bytes = a.bytes
-amount_in a Entries = a.entries
-amount_in a History = a.history
-
--- these are the amounts of a history
-abbrev pub AreAmounts : (opening : Design) → List Entry → Amounts → Type 0
-AreAmounts opening h a = (which : Which) → amount_in a which ≡ amount opening h which
-
-abbrev pub first_passed : Amounts → Option Which
-first_passed a = find (λ which. nat_lt (most which) (amount_in a which)) (Tests ∷ Bytes ∷ Entries ∷ History ∷ [])
+use Rattle.cov_history.specs.declared.amounts.Amounts.{Amounts}
+use Rattle.cov_history.specs.Amounts.{amount_in}
 
 -- what a change is answered whose amounts before and after are these
 abbrev pub told_by : (before after : Amounts) → Option Which → Answer → Answer

@@ -3,18 +3,17 @@ ghost use Rattle.std.specs.Prelude.{◌≡◌, ◌∷◌, ◌++◌, ◌&&◌, �
 ghost use Rattle.cov_history.specs.declared.entry.Event.TheVariants as event;
 ghost use Rattle.cov_history.specs.History.{kept, has_stop as has_stop_meant, suits, is_legal, may_follow};
 ghost use Rattle.cov_history.specs.Answers.{by};
-ghost use Rattle.history_answers.specs.Amounts.{AreAmounts};
+ghost use Rattle.cov_history.specs.Amounts.{AreAmounts};
 ghost use Rattle.history_answers.specs.Kept.{admits as admits_meant};
 ghost use Rattle.history_answers.specs.Plain.{opening_of, entries_of};
 
 use crate::PlainStore;
-use crate::amounts::{Amounts, amounts_of, passed};
+use crate::amounts::amounts_of;
 use crate::changes::with_test;
-use crate::replay::design_at;
 use crate::since::has_stop;
 use crate::suiting::fits;
 use cov_ground::Memory;
-use cov_history::{Entry, Event};
+use cov_history::{Amounts, Entry, Event, design_at, passed};
 use design_data::Design;
 use record_codec::Record;
 use std::alloc::Global;

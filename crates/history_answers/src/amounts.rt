@@ -3,58 +3,16 @@ ghost use Rattle.std.specs.Prelude.{◌≡◌, ◌<◌, ◌≤◌, ◌^◌, ◌+
 ghost use Rattle.ucis_model.specs.declared.answers.Which as which_type;
 ghost use Rattle.cov_history.specs.History.{bytes_in as bytes_meant, is_stop, amount as amount_meant, most};
 ghost use Rattle.history_answers.specs.Kept.{hit_by as hit_meant};
-ghost use Rattle.history_answers.specs.Amounts.{amount_in, first_passed, told_by, AreAmounts};
+ghost use Rattle.cov_history.specs.Amounts.{first_passed, AreAmounts};
+ghost use Rattle.history_answers.specs.Amounts.{told_by};
 
 use crate::keeping::{Kept, kept_tests};
-use crate::replay::{design_at, out_at};
 use cov_ground::Memory;
-use cov_ground::limits::{MOST_BYTES, MOST_ENTRIES, MOST_HISTORY, MOST_TESTS};
-use cov_history::{Entry, Event};
+use cov_history::{Amounts, Entry, Event, amount, design_at, out_at, passed};
 use design_data::Design;
 use record_codec::encode;
 use std::alloc::Global;
-use ucis_model::{Answer, Which};
-
-/// What a history amounts to.
-#[derive(Clone, Copy)]
-pub(crate) struct Amounts {
-    pub(crate) tests: u64,
-    pub(crate) bytes: u64,
-    pub(crate) entries: u64,
-    pub(crate) history: u64,
-}
-
-/// The first limit that is passed.
-pub(crate) fn passed(amounts: &Amounts) -> Option<Which>
-    ensures { result ≡ first_passed amounts.now }
-{
-    let amounts = *amounts;
-    if amounts.tests > MOST_TESTS {
-        return Some(Which::Tests);
-    }
-    if amounts.bytes > MOST_BYTES {
-        return Some(Which::Bytes);
-    }
-    if amounts.entries > MOST_ENTRIES {
-        return Some(Which::Entries);
-    }
-    if amounts.history > MOST_HISTORY {
-        return Some(Which::History);
-    }
-    None
-}
-
-fn amount(amounts: &Amounts, which: Which) -> u64
-    ensures { result ≡ amount_in amounts.now which }
-{
-    let amounts = *amounts;
-    match which {
-        Which::Tests => amounts.tests,
-        Which::Bytes => amounts.bytes,
-        Which::Entries => amounts.entries,
-        Which::History => amounts.history,
-    }
-}
+use ucis_model::Answer;
 
 /// What a change is answered that nothing but a limit stands against.
 pub(crate) fn unless_full(before: &Amounts, after: &Amounts, made: Answer) -> Answer

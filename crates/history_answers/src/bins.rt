@@ -6,77 +6,12 @@ ghost use Rattle.cov_history.specs.Nodes.{is_bin as is_bin_kind, bin_kind as bin
 ghost use Rattle.cov_history.specs.Coverage.{count_at, is_live as is_live_meant, is_excluded as is_excluded_meant};
 ghost use Rattle.cov_history.specs.Answers.{illegal_hit as illegal_meant};
 
-use crate::excluded::is_excluded;
 use cov_ground::Memory;
+use cov_history::{count, is_excluded, push_if, said};
 use cov_tree::Name;
 use design_data::BinKind;
 use std::alloc::Global;
 use ucis_model::{Node, NodeKind, Tree};
-
-/// What a node says that answers need.
-#[derive(Clone, Copy)]
-pub(crate) struct Facts {
-    pub(crate) kind: NodeKind,
-    pub(crate) parent: u32,
-    pub(crate) first_bin: u32,
-    pub(crate) bins: u32,
-    pub(crate) at_least: u32,
-}
-
-/// What the node at a place says; where there is none, a root without bins.
-#[tactic(auto, using(cov_history::proofs::Places::read_is, cov_history::proofs::Places::past_is))]
-pub(crate) fn said(nodes: &[Node], place: u32) -> Facts
-    ensures kind { result.kind ≡ (node_at nodes.now place).kind }
-    ensures parent { result.parent ≡ (node_at nodes.now place).parent }
-    ensures first_bin { result.first_bin ≡ (node_at nodes.now place).first_bin }
-    ensures bins { result.bins ≡ (node_at nodes.now place).bins }
-    ensures at_least { result.at_least ≡ (node_at nodes.now place).at_least }
-{
-    if place as usize >= nodes.len() {
-        return Facts {
-            kind: NodeKind::Root,
-            parent: 0,
-            first_bin: 0,
-            bins: 0,
-            at_least: 1,
-        };
-    }
-    let node = &nodes[place as usize];
-    Facts {
-        kind: node.kind,
-        parent: node.parent,
-        first_bin: node.first_bin,
-        bins: node.bins,
-        at_least: node.at_least,
-    }
-}
-
-/// The count at a place; 0 past the end.
-#[tactic(auto, using(cov_history::proofs::Places::read_is, cov_history::proofs::Places::past_is))]
-pub(crate) fn count(counts: &[u64], place: u32) -> u64
-    ensures { result ≡ slice_index counts.now place }
-{
-    if place as usize >= counts.len() {
-        return 0;
-    }
-    counts[place as usize]
-}
-
-/// Puts a place behind others, where a test holds.
-fn push_if(places: &mut Vec<u32>, test: bool, place: u32) -> Result<(), Memory>
-    ensures { OnOk result (places.new.items ≡ places.old.items ++ cond test (place ∷ []) []) }
-{
-    if test {
-        places.push(place)?;
-    }
-    Ok(())
-}
-
-fn is_bin(kind: NodeKind) -> bool
-    ensures { result ≡ is_bin_kind kind }
-{
-    matches!(kind, NodeKind::Bin(_))
-}
 
 /// The kind of a bin's node.
 fn bin_kind(kind: NodeKind) -> BinKind
@@ -95,20 +30,6 @@ pub(crate) fn kind_at(nodes: &[Node], bin: u32) -> BinKind
     bin_kind(said(nodes, bin).kind)
 }
 
-/// The nodes of all bins, in order.
-pub(crate) fn bin_nodes(alloc: Global, nodes: &[Node]) -> Result<Vec<u32>, Memory>
-    requires { length nodes.now < 2 ^ 32 }
-    ensures bins { IfOk result (λ bins. bins.items ≡ bin_nodes_of nodes.now) }
-    ensures few { IfOk result (λ bins. length bins.items < 2 ^ 32) }
-{
-    let mut bins = Vec::new(alloc);
-    for place in 0..nodes.len() as u32 {
-        let is_bin = is_bin(said(nodes, place).kind);
-        push_if(&mut bins, is_bin, place)?;
-    }
-    Ok(bins)
-}
-
 fn number_at(nodes: &[Node], bins: &[u32], number: u32) -> Option<u32>
     requires { bins.now ≡ bin_nodes_of nodes.now }
     ensures { result ≡ node_of_bin nodes.now number }
@@ -123,19 +44,6 @@ pub(crate) fn bin_at(nodes: &[Node], bins: &[u32], number: u32) -> Option<u32>
     ensures inside { IfSome result (λ node. node < length nodes.now) }
 {
     number_at(nodes, bins, number)
-}
-
-/// Those of the bins, by their nodes, that are under a node.
-pub(crate) fn bins_under<'a>(nodes: &[Node], bins: &'a [u32], above: u32) -> &'a [u32]
-    requires { bins.now ≡ bin_nodes_of nodes.now }
-    ensures bins { result.now ≡ bins_meant nodes.now above }
-    ensures few { length result.now ≤ length bins.now }
-{
-    let said = said(nodes, above);
-    let first = (said.first_bin as usize).min(bins.len());
-    let rest = &bins[first..];
-    let most = (said.bins as usize).min(rest.len());
-    &rest[..most]
 }
 
 fn is_coverage(kind: BinKind) -> bool

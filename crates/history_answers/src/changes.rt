@@ -5,20 +5,34 @@ ghost use Rattle.ucis_model.specs.declared.answers.Answer.TheVariants as answers
 ghost use Rattle.ucis_model.specs.declared.answers.Which as which_type;
 ghost use Rattle.ucis_model.specs.declared.answers.Which.TheVariants as which;
 ghost use Rattle.cov_history.specs.declared.entry.Event.TheVariants as event;
-ghost use Rattle.cov_history.specs.History.{is_legal, is_stop, is_found, bins_hit, contents, out_of, most};
+ghost use Rattle.cov_history.specs.History.{has as has_meant, is_legal, is_stop, is_found, bins_hit, contents, out_of, most};
 ghost use Rattle.cov_history.specs.Answers.{by, admit_at, exclude_at, include_at, revise_at, change};
-ghost use Rattle.history_answers.specs.Amounts.{amount_in};
+ghost use Rattle.cov_history.specs.Amounts.{amount_in};
 
-use crate::amounts::{Amounts, amounts_of, changes, hit, hit_by, unless_full};
-use crate::keeping::{Kept, kept_tests, of_id, tally};
-use crate::replay::{design_at, found, has, out_at};
+use crate::amounts::{amounts_of, changes, hit, hit_by, unless_full};
+use crate::keeping::{Kept, kept_tests, of_id};
 use crate::since::{changed_since, revised_since};
 use cov_ground::Memory;
-use cov_history::{Entry, Revision};
+use cov_history::{Amounts, Entry, Revision, counts_of, design_at, found, out_at};
+use cov_tree::Name;
 use design_data::Design;
 use record_codec::{Record, encode};
 use std::alloc::Global;
 use ucis_model::{Answer, tree};
+
+/// Whether a path is among these.
+fn has(out: &[Name], path: &[u8]) -> bool
+    ensures { result ≡ has_meant path.now out.now }
+{
+    let mut rest = out;
+    while let Some((other, later)) = rest.split_first() {
+        if other.as_slice() == path {
+            return true;
+        }
+        rest = later;
+    }
+    false
+}
 
 // ---- amounts afterwards
 
@@ -37,7 +51,7 @@ pub(crate) fn with_test(
 {
     let before = *before;
     let bytes = encode(alloc, content)?;
-    let counts = tally(alloc, design, content)?;
+    let counts = counts_of(alloc, design, content)?;
     Ok(Amounts {
         tests: before.tests + 1,
         bytes: before.bytes + bytes.len() as u64,

@@ -3,12 +3,10 @@ ghost use Rattle.std.specs.Prelude.{◌≡◌, ◌++◌, ◌<◌, ◌^◌, ◌+�
 ghost use Rattle.record_codec.specs.Spelling.{spelling};
 ghost use Rattle.cov_history.specs.History.{tests_in};
 ghost use Rattle.cov_history.specs.Answers.{test_row};
-ghost use Rattle.cov_history.specs.Tallies.{tally as tally_meant};
 ghost use Rattle.history_answers.specs.Kept.{test_of, kept_as, kept_from};
 
-use cov_counting::tally_by_definition;
 use cov_ground::Memory;
-use cov_history::{Entry, Event};
+use cov_history::{Entry, Event, counts_of};
 use cov_tree::{List, Name};
 use design_data::Design;
 use record_codec::{Record, encode};
@@ -25,14 +23,6 @@ pub(crate) struct Kept {
     pub(crate) bytes: Name,
     /// A count for each bin.
     pub(crate) counts: List<u64>,
-}
-
-/// The counts of a record.
-pub(crate) fn tally(alloc: Global, design: &Design, content: &Record) -> Result<List<u64>, Memory>
-    ensures { IfOk result (λ counts. counts ≡ tally_meant design.now content.now) }
-{
-    let counts = tally_by_definition(alloc, design, content)?;
-    Ok(counts)
 }
 
 /// The row of a test whose record has these bytes.
@@ -58,7 +48,7 @@ fn keep(alloc: Global, design: &Design, point: u64, content: &Record) -> Result<
 {
     let bytes = encode(alloc, content)?;
     let row = row_of(alloc, point, content, bytes.as_slice())?;
-    let counts = tally(alloc, design, content)?;
+    let counts = counts_of(alloc, design, content)?;
     Ok(Kept {
         row,
         bytes: Name::from_vec(bytes)?,

@@ -2,10 +2,9 @@
 ghost use Rattle.std.specs.Prelude.{◌≡◌, true};
 ghost use Rattle.std.specs.Option.{ForSome};
 ghost use Rattle.cov_history.specs.History.{is_legal};
-ghost use Rattle.history_answers.specs.Amounts.{AreAmounts};
+ghost use Rattle.cov_history.specs.Amounts.{AreAmounts};
 
-use crate::amounts::Amounts;
-use cov_history::Entry;
+use cov_history::{Amounts, Entry};
 use design_data::Design;
 
 /// An opening design with a legal history, whose answers are worked out anew at each ask. Contracts see the design and the

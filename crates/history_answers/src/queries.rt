@@ -9,13 +9,12 @@ ghost use Rattle.cov_history.specs.Sums.{all_hits};
 ghost use Rattle.cov_history.specs.Answers.{rows as rows_meant, illegal_hit as illegal_meant, hello_at, counts_at as counts_meant, test_counts_at, illegal_at, tests_at, name_at, fetch_at};
 ghost use Rattle.history_answers.specs.Kept.{kept_from, total as total_meant};
 
-use crate::bins::{bin_at, bin_nodes, bins_under, count, illegal_hit};
+use crate::bins::{bin_at, illegal_hit};
 use crate::keeping::{Kept, kept_tests, of_id};
-use crate::replay::{design_at, out_at};
 use crate::rows::{page, rows};
 use cov_ground::Memory;
 use cov_ground::limits::{LONGEST_CHUNK, MOST_TEST_ROWS};
-use cov_history::Entry;
+use cov_history::{Entry, bin_nodes, bins_under, count, design_at, out_at};
 use cov_tree::{List, Name};
 use design_data::Design;
 use std::alloc::Global;

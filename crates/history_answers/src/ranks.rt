@@ -9,11 +9,10 @@ ghost use Rattle.cov_history.specs.History.{out_of};
 ghost use Rattle.cov_history.specs.Answers.{rank_at};
 ghost use Rattle.history_answers.specs.Kept.{kept_from, rows_of};
 
-use crate::bins::{bin_nodes, bins_under, live, said};
+use crate::bins::live;
 use crate::keeping::{Kept, kept_tests};
-use crate::replay::{design_at, out_at};
 use cov_ground::Memory;
-use cov_history::Entry;
+use cov_history::{Entry, bin_nodes, bins_under, design_at, out_at, said};
 use cov_tree::List;
 use design_data::Design;
 use rank_report::rank;

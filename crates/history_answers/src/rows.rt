@@ -3,10 +3,10 @@ ghost use Rattle.std.specs.Prelude.{◌≡◌, ℕ, ◌<◌, ◌^◌, length, ma
 ghost use Rattle.cov_history.specs.Coverage.{is_excluded as is_excluded_meant};
 ghost use Rattle.cov_history.specs.Answers.{count_row as row_meant, rows as rows_meant};
 
-use crate::bins::{count, kind_at, said};
-use crate::excluded::is_excluded;
+use crate::bins::kind_at;
 use cov_ground::Memory;
 use cov_ground::limits::MOST_ROWS;
+use cov_history::{count, is_excluded, said};
 use cov_tree::{List, Name};
 use std::alloc::Global;
 use ucis_model::{Answer, CountRow, Tree};

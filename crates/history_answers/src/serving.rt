@@ -6,10 +6,9 @@ ghost use Rattle.history_answers.specs.Plain.{opening_of, entries_of};
 
 use crate::PlainStore;
 use crate::answering::{answer_by_definition, entry_of, is_made};
-use crate::replay::design_at;
 use crate::suiting::suits;
 use cov_ground::Memory;
-use cov_history::{Ask, Entry};
+use cov_history::{Ask, Entry, design_at};
 use design_data::Design;
 use std::alloc::Global;
 use std::thread::Threads;

@@ -4,8 +4,7 @@ ghost use Rattle.cov_history.specs.History.{design_of};
 ghost use Rattle.cov_history.specs.Tables as meant;
 ghost use Rattle.cov_history.specs.Answers.{Suits};
 
-use crate::replay::design_at;
-use cov_history::{Ask, Entry};
+use cov_history::{Ask, Entry, design_at};
 use design_data::{Design, GroupInfo, InstInfo, Signal};
 use record_codec::{ArgRow, InstRow, Record, SignalRow};
 

@@ -3,7 +3,7 @@ use Rattle.design_data.specs.declared.design.Design.{Design}
 use Rattle.cov_history.specs.declared.entry.Event.TheVariants as event
 use Rattle.cov_history.specs.Answers.{by}
 use Rattle.cov_history.specs.History.{bins_hit, has_stop, suits}
-use Rattle.history_answers.specs.Amounts.{AreAmounts, first_passed}
+use Rattle.cov_history.specs.Amounts.{AreAmounts, first_passed}
 use Rattle.history_answers.proofs.Amounting.{legal_amounts, admitted_amounts}
 use Rattle.history_answers.proofs.Following.{may_if, none_of, none_left}
 use Rattle.history_answers.proofs.admitting.with_admission.Goals as goal
