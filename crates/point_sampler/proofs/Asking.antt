@@ -1,5 +1,5 @@
 -- Questions that stand for rules.
-use Rattle.std.proofs.Common.{◌≡◌, ℤ, ◌≤ℤ◌, ℕ, ◌-◌, ◌/◌, ◌^◌, ◌<◌, ◌≤◌, nat_eq, bit_and, List, [], ◌∷◌, ◌++◌, length, get_or, Bool, true, false, Some, None, inl, inr, refl, ap, sym, subst, ◌∙◌, arith, length-append}
+use Rattle.std.proofs.Common.{◌≡◌, ℤ, ◌≤ℤ◌, ℕ, ◌-◌, ◌^◌, ◌<◌, ◌≤◌, nat_eq, bit_and, List, [], ◌∷◌, ◌++◌, length, get_or, Bool, true, false, Some, None, inl, inr, refl, ap, sym, subst, ◌∙◌, arith, length-append}
 use Rattle.std.specs.Prelude.{slice_get, bit_xor}
 use mathlib.Core.Bool.{◌||◌}
 use Rattle.std.proofs.lemmas.Bool.{cases_lt}
@@ -29,12 +29,12 @@ alone false = refl
 -- bits are compared as those of the pattern
 pub asked_by_bits : (p : Pattern) (w : ℕ) (s : Bool) (bins : List BinInfo) (v : ℤ) (word : ℕ) → p.width ≡ w → p.signed ≡ s → w ≤ 64 → p.free < 2 ^ 64
     → lowest w s ≤ℤ v → v ≤ℤ highest w s → word ≡ bits_of w v
-    → nat_eq (bit_and (bit_xor word p.bits) (bit_and (18446744073709551615 - p.free) (18446744073709551615 / 2 ^ (64 - w)))) 0 ≡ has_value bins (Some v) (Patterns (p ∷ []))
+    → nat_eq (bit_and (bit_xor word p.bits) (bit_and (18446744073709551615 - p.free) (2 ^ w - 1))) 0 ≡ has_value bins (Some v) (Patterns (p ∷ []))
 asked_by_bits p w s bins v word same_width same_sign wide free =
     subst (λ (t : Bool). lowest w t ≤ℤ v → v ≤ℤ highest w t → word ≡ bits_of w v
-    → nat_eq (bit_and (bit_xor word p.bits) (bit_and (18446744073709551615 - p.free) (18446744073709551615 / 2 ^ (64 - w)))) 0 ≡ has_value bins (Some v) (Patterns (p ∷ []))) same_sign
+    → nat_eq (bit_and (bit_xor word p.bits) (bit_and (18446744073709551615 - p.free) (2 ^ w - 1))) 0 ≡ has_value bins (Some v) (Patterns (p ∷ []))) same_sign
     (subst (λ (n : ℕ). n ≤ 64 → lowest n p.signed ≤ℤ v → v ≤ℤ highest n p.signed → word ≡ bits_of n v
-    → nat_eq (bit_and (bit_xor word p.bits) (bit_and (18446744073709551615 - p.free) (18446744073709551615 / 2 ^ (64 - n)))) 0 ≡ has_value bins (Some v) (Patterns (p ∷ []))) same_width
+    → nat_eq (bit_and (bit_xor word p.bits) (bit_and (18446744073709551615 - p.free) (2 ^ n - 1))) 0 ≡ has_value bins (Some v) (Patterns (p ∷ []))) same_width
     (λ most low high is. matched p v word most free low high is ∙ alone (agrees p v)) wide)
 
 -- a set of one range

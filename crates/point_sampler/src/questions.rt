@@ -7,7 +7,7 @@ ghost use Rattle.point_sampler.specs.Plans.{IsQuestionOf, AreQuestions, AreQuest
 use crate::plan::{Question, Questions};
 use bit_width::Width;
 use const_eval::{Typ, typ};
-use cov_base::{Memory, ValueSet};
+use cov_base::{Memory, ValueSet, ones};
 use design_data::{BinInfo, BinRule, ItemInfo, ItemShape};
 use std::alloc::Global;
 use wildcard_bins::Pattern;
@@ -35,7 +35,7 @@ fn by_pattern(typ: Typ, pattern: &Pattern) -> Question
         return Question::Rule;
     }
     Question::Bits {
-        fixed: !pattern.free & (u64::MAX >> (64 - typ.width().get())),
+        fixed: !pattern.free & ones(typ.width().get()),
         bits: pattern.bits,
     }
 }
