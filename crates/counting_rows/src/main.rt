@@ -1,8 +1,9 @@
 //! Street: worked rows.
 //!
-//! Worked rows of `cov_counting`: each line of standard input is a design text of one instance, ` # `, and samples. It is
-//! written again with the count of each of the design's bins behind ` = `, or with `no design` where the text is none.
-//! The file `stdout` has the counts, written by hand after IEEE 1800-2017, clause 19.
+//! Worked rows of `cov_counting` and `sampler`: each line of standard input is a design text of one instance, ` # `, and
+//! samples. It is written again with the count of each of the design's bins behind ` = `, as the definition gives it and the
+//! sampler too; or with `no design` where the text is none. The file `stdout` has the counts, written by hand after IEEE
+//! 1800-2017, clause 19.
 #![tactic(auto)]
 
 mod samples;
@@ -11,10 +12,12 @@ use cov_compile::compile;
 use cov_counting::tally_by_definition;
 use design_data::Design;
 use record_codec::Record;
+use sampler::bin_record;
 use std::alloc::Global;
 use std::io;
 use std::io::{Input, Print};
 use std::process::ExitCode;
+use tally::Tally;
 
 /// The most bytes of a design text.
 const LONGEST_DESIGN: usize = 1_048_576;
@@ -28,7 +31,27 @@ fn show_counts<R: Print>(rt: &R, line: &str, counts: &[u64]) -> io::Result<()> {
     println!(rt; "")
 }
 
-/// Writes a row with its counts.
+/// Whether a tally has these counts of the bins, in order.
+fn has_counts(tally: &Tally, counts: &[u64]) -> bool {
+    let mut bin: u32 = 0;
+    for count in counts {
+        if tally.get(bin) != *count {
+            return false;
+        }
+        bin = bin.saturating_add(1);
+    }
+    true
+}
+
+/// Whether the sampler has the same counts.
+fn is_sampled(alloc: Global, design: &Design, record: &Record, counts: &[u64]) -> bool {
+    match bin_record(alloc, design, record) {
+        Ok(tally) => has_counts(&tally, counts),
+        Err(_) => false,
+    }
+}
+
+/// Writes a row with its counts, where the definition and the sampler agree.
 fn show<R: Print>(
     rt: &R,
     alloc: Global,
@@ -36,10 +59,13 @@ fn show<R: Print>(
     design: &Design,
     record: &Record,
 ) -> io::Result<()> {
-    match tally_by_definition(alloc, design, record) {
-        Ok(counts) => show_counts(rt, line, counts.as_slice()),
-        Err(_) => println!(rt; "{line} : no counts"),
+    let Ok(counts) = tally_by_definition(alloc, design, record) else {
+        return println!(rt; "{line} : no counts");
+    };
+    if !is_sampled(alloc, design, record, counts.as_slice()) {
+        return println!(rt; "{line} : other counts by the sampler");
     }
+    show_counts(rt, line, counts.as_slice())
 }
 
 /// Writes a row of a design with its answer.
