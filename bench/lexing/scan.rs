@@ -21,8 +21,14 @@ enum Kind {
 #[allow(dead_code)]
 struct Token {
     kind: Kind,
+    /// Which word or operator it is: the first byte and the place behind those that begin with it, or 0.
+    spelled: u16,
     at: u32,
     len: u32,
+}
+
+fn spelled(first: u8, place: usize) -> u16 {
+    u16::from(first) << 8 | place as u16
 }
 
 #[allow(dead_code)]
@@ -34,7 +40,7 @@ struct Literal {
     free: u64,
 }
 
-fn is_keyword(text: &[u8]) -> bool {
+fn keyword(text: &[u8]) -> Option<u16> {
     let words: &[&[u8]] = match text[0] {
         b'b' => &[b"bit", b"byte", b"bins", b"binsof"],
         b'c' => &[b"covergroup", b"coverpoint", b"cross", b"class"],
@@ -64,7 +70,8 @@ fn is_keyword(text: &[u8]) -> bool {
         b'w' => &[b"wildcard", b"with"],
         _ => &[],
     };
-    words.contains(&text)
+    let place = words.iter().position(|word| *word == text)?;
+    Some(spelled(text[0], place))
 }
 
 fn operators(first: u8) -> &'static [(&'static [u8], Kind)] {
@@ -231,7 +238,7 @@ fn scan(text: &[u8]) -> Option<Vec<Token>> {
     let mut at = 0;
     while at < text.len() {
         let byte = text[at];
-        let (kind, end) = match byte {
+        let (kind, spelled, end) = match byte {
             b' ' | b'\t' | b'\n' | b'\r' | 12 => {
                 at += 1;
                 continue;
@@ -247,36 +254,37 @@ fn scan(text: &[u8]) -> Option<Vec<Token>> {
             b'0'..=b'9' => {
                 let end = run(text, at + 1, is_number);
                 match based_end(text, run(text, end, |byte| byte == b' ')) {
-                    Some(last) => (Kind::Based, last),
-                    None => (Kind::Decimal, end),
+                    Some(last) => (Kind::Based, 0, last),
+                    None => (Kind::Decimal, 0, end),
                 }
             }
             b'a'..=b'z' | b'A'..=b'Z' | b'_' => {
                 let end = run(text, at + 1, is_word);
-                let keyword = is_keyword(&text[at..end]);
-                if !keyword && end - at > 1024 {
-                    return None;
+                match keyword(&text[at..end]) {
+                    Some(spelled) => (Kind::Keyword, spelled, end),
+                    None if end - at > 1024 => return None,
+                    None => (Kind::Ident, 0, end),
                 }
-                (if keyword { Kind::Keyword } else { Kind::Ident }, end)
             }
             b'"' => {
                 let end = run(text, at + 1, |byte| byte != b'"' && byte != b'\n');
                 if byte_at(text, end) != b'"' {
                     return None;
                 }
-                (Kind::Text, end + 1)
+                (Kind::Text, 0, end + 1)
             }
-            b'$' if is_word(byte_at(text, at + 1)) => (Kind::System, run(text, at + 1, is_word)),
-            b'\'' if based_end(text, at).is_some() => (Kind::Based, based_end(text, at)?),
+            b'$' if is_word(byte_at(text, at + 1)) => (Kind::System, 0, run(text, at + 1, is_word)),
+            b'\'' if based_end(text, at).is_some() => (Kind::Based, 0, based_end(text, at)?),
             _ => {
-                let (spelling, kind) = operators(byte).iter().find(|(op, _)| text[at..].starts_with(op))?;
-                (*kind, at + spelling.len())
+                let (place, (spelling, kind)) =
+                    operators(byte).iter().enumerate().find(|(_, (op, _))| text[at..].starts_with(op))?;
+                (*kind, spelled(byte, place), at + spelling.len())
             }
         };
         if matches!(kind, Kind::Decimal | Kind::Based) {
             literal(&text[at..end])?;
         }
-        tokens.push(Token { kind, at: at as u32, len: (end - at) as u32 });
+        tokens.push(Token { kind, spelled, at: at as u32, len: (end - at) as u32 });
         at = end;
     }
     Some(tokens)
