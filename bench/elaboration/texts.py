@@ -81,6 +81,10 @@ texts = {
     "boxes": group("bit [7:0] v;", point("bins b[] = " + many(box, LONGEST - 200) + "(0=>0);")),
     "single_steps": group("bit [7:0] v;", point("bins b[] = (" + "1=>" * 118 + "[0:255]=>[0:255]);")),
     "two_lengths": group("bit [15:0] v;", point("bins b[] = (" + "5[*1:2]=>" * 59 + "[0:1000]=>6);")),
+    # items of one list between items of several: the lists behind are not to be gone through for each of them
+    "singles_before": group("bit [7:0] v;", point("bins b[] = (" + "2=>1=>" * 22 + "2=>1[*1:2]=>[0:127]=>[0:255]);")),
+    "singles_between": group("bit [7:0] v;", point("bins b[] = (" + "3=>4=>5=>6=>7=>1[*1:2]=>[0:1]=>" * 8 + "2);")),
+    "singles_behind": group("bit [7:0] v;", point("bins b[] = (1[*1:2]=>" + "2=>" * 60 + "[0:127]=>[0:255]);")),
     "repeated": group(
         "bit [7:0] v;", point(many(lambda k: f"bins {'b_' + digits(k)} = (1[*1:9] => [2:3][=1:9] => 4[->1:19]);", LONGEST - 200))
     ),

@@ -59,7 +59,7 @@ pub fn auto_ranges(alloc: Global, typ: Typ2, max: u32) -> Result<Vec<(Int, Int)>
         (λ ranges. ranges.items ≡ automatic_ranges typ.width typ.signed max) }
 {
     let width = typ.width.get();
-    let low = lowest_of(width, typ.signed);
+    let low = lowest_of(typ.width, typ.signed);
     let count = power_of_two(width);
     let ranges = spread_from(alloc, low, count, count.min(max as u128))?;
     Ok(ranges)

@@ -2,6 +2,7 @@
 ghost use Rattle.std.specs.Prelude.{◌≤◌};
 
 use crate::words::{int_of, range_of, show, show_count, show_int, small_of, split};
+use bit_width::Width;
 use cov_base::{Int, Memory, ValueSet, highest_of, lowest_of, power_of_two, size_of};
 use std::alloc::Global;
 use std::io::Print;
@@ -40,23 +41,22 @@ pub(crate) fn ints<R: Print>(rt: &R, numbers: &str) {
 }
 
 /// The ends of a type, and how many numbers it has.
-fn show_type<R: Print>(rt: &R, width: u8, signed: bool)
-    requires narrowest { 1 ≤ width }
-    requires widest { width ≤ 64 }
-{
+fn show_type<R: Print>(rt: &R, width: Width, signed: bool) {
     show_range(
         rt,
         lowest_of(width, signed).get(),
         highest_of(width, signed).get(),
     );
-    show_count(rt, power_of_two(width));
+    show_count(rt, power_of_two(width.get()));
 }
 
 /// A type, as `12 signed`.
 pub(crate) fn ends<R: Print>(rt: &R, typ: &str) {
     let (width, sign) = split(typ, ' ');
-    let width = small_of(width).clamp(1, 64) as u8;
-    show_type(rt, width, sign == "signed");
+    let width = Width::new(small_of(width).min(255) as u8);
+    if let Some(width) = width {
+        show_type(rt, width, sign == "signed");
+    }
 }
 
 /// How many numbers a range has.

@@ -16,8 +16,10 @@ pub(crate) fn low_bits(width: Width, number: i128) -> u64
     ensures below { result < 2 ^ width }
     ensures width { HasWidth width }
 {
+    // its bits are 1 to 64
+    let _width = width.get();
     let word = (number.cast_unsigned() & 0xffff_ffff_ffff_ffff) as u64;
-    word & ones(width.get())
+    word & ones(width)
 }
 
 /// The number that bits of a type stand for: they are read without a sign, or in two's complement (IEEE 1800-2017,
@@ -27,7 +29,7 @@ pub fn number_of(typ: Typ, bits: u64) -> Int
     requires { bits < 2 ^ typ.width }
     ensures { result ≡ number_of_bits typ.width typ.signed bits }
 {
-    read_bits(typ.width().get(), typ.is_signed(), bits)
+    read_bits(typ.width(), typ.is_signed(), bits)
 }
 
 /// The number modulo 2 to the width, read by the sign.
@@ -38,10 +40,11 @@ pub(crate) fn cut(width: Width, signed: bool, number: i128) -> i128
     ensures range { IsInt result }
     ensures width { HasWidth width }
 {
-    read_bits(width.get(), signed, low_bits(width, number)).get()
+    read_bits(width, signed, low_bits(width, number)).get()
 }
 
 /// The number modulo 2 to the width of a type, read without a sign, or in two's complement (IEEE 1800-2017, 10.7).
+#[inline(always)]
 #[tactic(auto, unfolding(crate::specs::Values::cut))]
 pub fn cut_to(typ: Typ, number: Int) -> Int
     ensures { result ≡ cut_to_typ typ number }

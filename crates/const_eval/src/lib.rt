@@ -10,6 +10,7 @@ mod fault;
 pub mod laws;
 mod meaning;
 mod operations;
+mod sameness;
 mod scope;
 mod shifts;
 mod signals;

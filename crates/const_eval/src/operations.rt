@@ -203,10 +203,10 @@ pub(crate) fn operate_alone(op: UnOp, whole: Typ, own: Width, x: i128) -> i128
         UnOp::Neg => cut(whole.width(), whole.is_signed(), -x),
         UnOp::Not => cut(whole.width(), whole.is_signed(), -x - 1),
         UnOp::LogNot => truth(is_zero(x)),
-        UnOp::And => truth(low_bits(own, x) == ones(own.get())),
+        UnOp::And => truth(low_bits(own, x) == ones(own)),
         UnOp::Or => truth(low_bits(own, x) != 0),
         UnOp::Xor => truth(low_bits(own, x).count_ones() % 2 == 1),
-        UnOp::Nand => truth(low_bits(own, x) != ones(own.get())),
+        UnOp::Nand => truth(low_bits(own, x) != ones(own)),
         UnOp::Nor => truth(low_bits(own, x) == 0),
         UnOp::Xnor => truth(low_bits(own, x).count_ones() % 2 != 1),
     }

@@ -6,7 +6,7 @@ ghost use Rattle.const_eval.specs.Terms.{typ_in, typ_of as typ_of_term};
 ghost use Rattle.const_eval.specs.Nodes.{term_of, IsTyped, IsWithin};
 ghost use Rattle.const_eval.specs.Values.{given, value_in, value_of, value, on_known, single, cut as cut_of, bits_of};
 
-use crate::bits::{cut, low_bits};
+use crate::bits::{cut, cut_to, low_bits};
 use crate::bound::{Node, Typed};
 use crate::operations::{combine, decide, is_zero, operate_alone, put};
 use crate::typs::{either_typ, operand_typs};
@@ -30,17 +30,33 @@ pub fn typ(bound: &Bound) -> Typ
 }
 
 /// The value of the expression, or None where it is unknown. `signals` are the values of the signals by their places; a
-/// signal whose place is beyond the slice counts as unknown. It takes no memory.
+/// signal whose place is beyond the slice counts as unknown. It takes no memory, and a name alone is read where the call
+/// stands.
+#[inline(always)]
 pub fn eval(bound: &Bound, signals: &[Option<Int>], item: Option<Int>) -> Option<Int>
     ensures { result ≡ value bound.now signals.now item }
 {
-    let sample = Sample { signals, item };
     let typed = bound.typed.get();
-    let mut out = 0;
-    if typed.value(typed.own_typ(), &sample, &mut out) {
-        Int::new(out)
-    } else {
-        None
+    match &typed.node {
+        Node::Name { meaning, .. } => value_alone(meaning, signals, &item),
+        _ => typed.value_of_whole(signals, item),
+    }
+}
+
+impl Typed {
+    /// The value of the expression, which stands by itself.
+    #[inline(never)]
+    fn value_of_whole(&self, signals: &[Option<Int>], item: Option<Int>) -> Option<Int>
+        requires { IsTyped self.now }
+        ensures { result ≡ value (term_of self.now) signals.now item }
+    {
+        let sample = Sample { signals, item };
+        let mut out = 0;
+        if self.value(self.own_typ(), &sample, &mut out) {
+            Int::new(out)
+        } else {
+            None
+        }
     }
 }
 
@@ -136,25 +152,44 @@ fn put_known(found: Option<Int>, out: &mut i128) -> bool
     }
 }
 
+/// The value of a name.
+#[inline(always)]
+fn value_of_name(meaning: &Meaning, signals: &[Option<Int>], item: &Option<Int>) -> Option<Int>
+    ensures { result ≡ value_in meaning.now signals.now item.now }
+{
+    match meaning {
+        Meaning::Const { value, .. } => Some(*value),
+        Meaning::Signal { index, .. } => {
+            if *index == ITEM {
+                return *item;
+            }
+            match signals.get(*index as usize) {
+                Some(found) => *found,
+                None => None,
+            }
+        }
+    }
+}
+
+/// The value of a name that stands by itself, whose bits are read by its own sign.
+#[inline(always)]
+fn value_alone(meaning: &Meaning, signals: &[Option<Int>], item: &Option<Int>) -> Option<Int>
+    ensures { result ≡ on_known (cut_of (typ_in meaning.now).width (typ_in meaning.now).signed) (value_in meaning.now signals.now item.now) }
+{
+    match value_of_name(meaning, signals, item) {
+        Some(number) => Some(cut_to(meaning.typ(), number)),
+        None => None,
+    }
+}
+
 /// Puts the value of a name into `out`.
 #[inline(always)]
-fn value_of_name(meaning: &Meaning, sample: &Sample<'_>, out: &mut i128) -> bool
+fn put_name(meaning: &Meaning, sample: &Sample<'_>, out: &mut i128) -> bool
     requires { IsInt out.old }
     ensures value { given result out.new ≡ value_in meaning.now sample.now.signals.now sample.now.item }
     ensures range { IsInt out.new }
 {
-    match meaning {
-        Meaning::Const { value, .. } => put(out, value.get()),
-        Meaning::Signal { index, .. } => {
-            if *index == ITEM {
-                return put_known(sample.item, out);
-            }
-            match sample.signals.get(*index as usize) {
-                Some(found) => put_known(*found, out),
-                None => false,
-            }
-        }
-    }
+    put_known(value_of_name(meaning, sample.signals, &sample.item), out)
 }
 
 /// Puts the value of a name into `out`, its bits read by the sign of the whole.
@@ -170,7 +205,7 @@ fn value_in_whole(
     ensures value { given result out.new ≡ on_known (cut_of width signed) (value_in meaning.now sample.now.signals.now sample.now.item) }
     ensures range { IsInt out.new }
 {
-    if !value_of_name(meaning, sample, out) {
+    if !put_name(meaning, sample, out) {
         return false;
     }
     let number = *out;
@@ -256,7 +291,7 @@ fn part_value(
     ensures range { IsInt out.new }
 {
     let own = meaning.typ().width();
-    if !value_of_name(meaning, sample, out) {
+    if !put_name(meaning, sample, out) {
         return false;
     }
     let number = *out;

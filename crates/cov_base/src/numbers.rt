@@ -5,6 +5,7 @@ ghost use Rattle.cov_ground.specs.Limits.{most_bits};
 ghost use Rattle.cov_base.specs.Sets.{size, greatest};
 
 use crate::Int;
+use bit_width::Width;
 use cov_ground::limits::MOST_BITS;
 
 /// How many numbers stand from the low to the high end: none where the ends are the wrong way round, and at most
@@ -33,23 +34,19 @@ pub fn power_of_two(bits: u8) -> u128
 
 /// So many ones: the greatest number of so many bits.
 #[inline(always)]
-pub fn ones(bits: u8) -> u64
-    requires narrowest { 1 ≤ bits }
-    requires widest { bits ≤ most_bits }
-    ensures { result ≡ 2 ^ bits - 1 }
+pub fn ones(width: Width) -> u64
+    ensures { result ≡ 2 ^ width - 1 }
 {
-    u64::MAX >> (MOST_BITS - bits)
+    u64::MAX >> (MOST_BITS - width.get())
 }
 
 /// The least number of a type of so many bits, in two's complement where it is signed (IEEE 1800-2017, 6.11).
 #[inline]
-pub fn lowest_of(width: u8, signed: bool) -> Int
-    requires narrowest { 1 ≤ width }
-    requires widest { width ≤ most_bits }
+pub fn lowest_of(width: Width, signed: bool) -> Int
     ensures { result ≡ lowest width signed }
 {
     if signed {
-        Int::of(-(1 << (width - 1)))
+        Int::of(-(1 << (width.get() - 1)))
     } else {
         Int::of(0)
     }
@@ -57,11 +54,10 @@ pub fn lowest_of(width: u8, signed: bool) -> Int
 
 /// The greatest number of a type of so many bits, in two's complement where it is signed (IEEE 1800-2017, 6.11).
 #[inline]
-pub fn highest_of(width: u8, signed: bool) -> Int
-    requires narrowest { 1 ≤ width }
-    requires widest { width ≤ most_bits }
+pub fn highest_of(width: Width, signed: bool) -> Int
     ensures { result ≡ highest width signed }
 {
+    let width = width.get();
     if signed {
         Int::of((1 << (width - 1)) - 1)
     } else {
@@ -72,13 +68,11 @@ pub fn highest_of(width: u8, signed: bool) -> Int
 /// The number that bits stand for: they are read without a sign, or in two's complement where it is signed (IEEE
 /// 1800-2017, 6.11.3).
 #[inline(always)]
-pub fn read_bits(width: u8, signed: bool, bits: u64) -> Int
-    requires narrowest { 1 ≤ width }
-    requires widest { width ≤ most_bits }
+pub fn read_bits(width: Width, signed: bool, bits: u64) -> Int
     ensures { result ≡ number_of width signed bits }
 {
     let number = i128::from(bits);
-    let half = 1u64 << (width - 1);
+    let half = 1u64 << (width.get() - 1);
     if signed && half <= bits {
         Int::of(number - 2 * i128::from(half))
     } else {

@@ -1,4 +1,6 @@
 pub mod Compiling
+pub mod Faults
+pub mod Refusals
 pub mod Texts
 pub use Rattle.cov_design.specs.Elaboration
 pub use Rattle.cov_grammar.specs.Fault

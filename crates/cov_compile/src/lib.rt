@@ -7,7 +7,9 @@ mod compiled;
 mod compiling;
 mod fault;
 pub mod laws;
+mod refusals;
 
 pub use compiled::Compiled;
 pub use compiling::compile;
 pub use fault::CompileFault;
+pub use refusals::{Refusal, refusal_of};

@@ -3,7 +3,8 @@ ghost use Rattle.std.specs.Prelude.{◌<◌, ◌↔◌, IsTrue, IfOk, length, sl
 ghost use Rattle.cov_counting.specs.Crosses.{NumberHitAt, MemberHitAt, AllHitAt, CrossHitAt};
 ghost use Rattle.cov_counting.specs.Steps.{AreItems, SomeProductHit};
 
-use crate::points::{holds, is_hit};
+use crate::points::is_hit;
+use crate::rules::holds;
 use cov_base::Int;
 use cov_ground::Memory;
 use cov_tree::List;

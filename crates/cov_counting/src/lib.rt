@@ -7,8 +7,12 @@
 mod crosses;
 pub mod laws;
 mod points;
+mod rules;
+mod tables;
 mod tally;
 mod values;
 
+pub use rules::{holds, in_patterns, is_listed};
+pub use tables::{instance_rows, signal_rows};
 pub use tally::tally_by_definition;
 pub use values::{arg_value, samples, signal_value};

@@ -1,12 +1,11 @@
 //! When a bin of a point is hit, by definition: the windows that end at a sample are searched one by one.
 ghost use Rattle.std.specs.Prelude.{◌≡◌, ◌++◌, ◌∷◌, [], ◌<◌, ◌≤◌, ◌↔◌, IsTrue, IfOk, length, All};
 ghost use Rattle.trans_seq.specs.Windows.{InSome, EndsKept};
-ghost use Rattle.const_eval.specs.Values.{is_true as is_true_of};
 ghost use Rattle.design_data.specs.Bins.{removing_seqs, seqs_of as seqs_of_rule};
-ghost use Rattle.design_data.specs.Laws.{in_patterns as in_patterns_of, lists as lists_of, is_listed as is_listed_in};
-ghost use Rattle.cov_counting.specs.Hits.{holds as holds_at, trace as trace_of, EndsNone, IsDefaultSequence, Meets, HitAt};
+ghost use Rattle.cov_counting.specs.Hits.{trace as trace_of, EndsNone, IsDefaultSequence, Meets, HitAt};
 ghost use Rattle.cov_counting.specs.Steps.{Keeps};
 
+use crate::rules::{holds, in_patterns, is_listed};
 use const_eval::{Bound, eval};
 use cov_base::Int;
 use cov_ground::Memory;
@@ -14,27 +13,6 @@ use cov_tree::List;
 use design_data::{BinInfo, BinKind, BinRule, ItemInfo};
 use std::alloc::Global;
 use trans_seq::{Seq, is_inside, window_in};
-use wildcard_bins::Pattern;
-
-/// Whether the value is known and not 0.
-fn is_true(value: Option<Int>) -> bool
-    ensures { result ≡ is_true_of value }
-{
-    match value {
-        Some(number) => number.get() != 0,
-        None => false,
-    }
-}
-
-/// Whether the guard is true at a sample, or none is written.
-pub(crate) fn holds(guard: &Option<Bound>, env: &[Option<Int>]) -> bool
-    ensures { result ≡ holds_at guard.now env.now }
-{
-    match guard {
-        None => true,
-        Some(guard) => is_true(eval(guard, env, None)),
-    }
-}
 
 /// The values of a point at the samples at which its guard is true.
 fn trace(
@@ -52,44 +30,6 @@ fn trace(
         }
     }
     Ok(values)
-}
-
-/// Whether a pattern stands for the value.
-fn in_patterns(patterns: &[Pattern], value: Option<Int>) -> bool
-    ensures { result ≡ in_patterns_of patterns.now value }
-{
-    let Some(number) = value else {
-        return false;
-    };
-    for pattern in patterns {
-        if pattern.matches(number) {
-            return true;
-        }
-    }
-    false
-}
-
-/// Whether a bin of this rule lists the value.
-fn lists(rule: &BinRule, value: Option<Int>) -> bool
-    ensures { result ≡ lists_of value rule.now }
-{
-    match rule {
-        BinRule::Values(set) => is_inside(set, value),
-        BinRule::Patterns(patterns) => in_patterns(patterns.as_slice(), value),
-        _ => false,
-    }
-}
-
-/// Whether one of the bins lists the value.
-fn is_listed(bins: &[BinInfo], value: &Option<Int>) -> bool
-    ensures { result ≡ is_listed_in bins.now value.now }
-{
-    for bin in bins {
-        if lists(&bin.rule, *value) {
-            return true;
-        }
-    }
-    false
 }
 
 /// Whether the window is a list of one of the sequences.

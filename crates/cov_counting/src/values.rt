@@ -5,6 +5,7 @@ ghost use Rattle.bin_spec.specs.Types.{number_of};
 ghost use Rattle.record_codec.specs.Samples.{latest as latest_of, signal_value as value_of_signal, arg_value as value_of_arg, args_of, signal_at, arg_at, env_of, envs_after, samples_of};
 ghost use Rattle.cov_counting.specs.Steps.{envs_at, values_to};
 
+use bit_width::Width;
 use cov_base::{Int, read_bits};
 use cov_ground::Memory;
 use cov_ground::limits::{MOST_ARGUMENTS, MOST_BITS, MOST_SIGNALS};
@@ -32,7 +33,7 @@ fn number(width: u8, signed: bool, bits: u64) -> Option<Int>
     if width == 0 {
         return plain(bits.saturating_sub(1));
     }
-    Some(read_bits(width, true, bits))
+    Some(read_bits(Width::of(width), true, bits))
 }
 
 /// What the last Set of the signal gave.

@@ -1,18 +1,16 @@
 //! How much a design has so far.
-ghost use Rattle.std.specs.Prelude.{◌≡◌, ◌+◌, ◌-◌, ◌^◌, ◌≤◌, min, IfOk};
+ghost use Rattle.std.specs.Prelude.{◌≡◌, ◌+◌, ◌≤◌, IfOk};
 ghost use Rattle.std.specs.List.{list_all};
 ghost use Rattle.cov_ground.specs.Limits.{most_design_bins, most_design_ranges};
-ghost use Rattle.design_data.specs.Limits.{ranges_of as ranges_of_rule};
-ghost use Rattle.design_data.specs.Tested.{ranges_of_seqs as ranges_of_all, ranges_of_items as ranges_of_each};
 ghost use Rattle.elab_base.specs.Gives.{Gives, Makes};
 ghost use Rattle.cov_design.specs.Counting.{is_short as is_set_short, are_sets_short as are_all_short, ranges_fit, bin_counted, bins_counted};
 
 use cov_base::ValueSet;
 use cov_ground::limits::{MOST_DESIGN_BINS, MOST_DESIGN_RANGES, MOST_RANGES};
-use design_data::BinRule;
+use design_data::{BinRule, ranges_of};
 use elab_base::{ElabFault, ElabKind};
 use elab_values::Made;
-use trans_seq::{Item, Seq};
+use trans_seq::Seq;
 
 /// How many items and bins a design has so far, and how many intervals its bins have.
 #[derive(Clone, Copy, PartialEq, Eq)]
@@ -51,43 +49,6 @@ fn are_sets_short(rule: &BinRule) -> bool
         BinRule::Trans(seqs) => are_seqs_short(seqs.as_slice()),
         BinRule::DefaultValues(set) => is_short(set),
         _ => true,
-    }
-}
-
-// ---- the intervals of a bin, `u64::MAX` at most
-
-fn ranges_of_items(items: &[Item]) -> u64
-    ensures { result ≡ min (ranges_of_each items.now) (2 ^ 64 - 1) }
-{
-    let mut sum = 0u64;
-    for item in items {
-        sum = sum.saturating_add(item.set.intervals().len() as u64);
-    }
-    sum
-}
-
-fn ranges_of_seqs(seqs: &[Seq]) -> u64
-    ensures { result ≡ min (ranges_of_all seqs.now) (2 ^ 64 - 1) }
-{
-    let mut sum = 0u64;
-    for seq in seqs {
-        sum = sum.saturating_add(ranges_of_items(seq.items.as_slice()));
-    }
-    sum
-}
-
-fn ranges_of(rule: &BinRule) -> u64
-    ensures { result ≡ min (ranges_of_rule rule.now) (2 ^ 64 - 1) }
-{
-    match rule {
-        BinRule::Values(set) => set.intervals().len() as u64,
-        BinRule::Patterns(_) => 0,
-        BinRule::Trans(seqs) => ranges_of_seqs(seqs.as_slice()),
-        BinRule::Default => 0,
-        BinRule::DefaultValues(set) => set.intervals().len() as u64,
-        BinRule::DefaultSequence => 0,
-        BinRule::Picked(_) => 0,
-        BinRule::Product(_) => 0,
     }
 }
 

@@ -1,3 +1,4 @@
+pub mod Amounting
 pub mod Bools
 pub mod Filters
 pub mod Means

@@ -14,8 +14,11 @@ amount_in a Entries = a.entries
 amount_in a History = a.history
 
 -- these are the amounts of a history
-abbrev pub AreAmounts : (opening : Design) → List Entry → Amounts → Type 0
-AreAmounts opening h a = (which : Which) → amount_in a which ≡ amount opening h which
+pub record AreAmounts (opening : Design) (h : List Entry) (a : Amounts) : Type 0 where
+  pub tests : a.tests ≡ amount opening h Tests
+  pub bytes : a.bytes ≡ amount opening h Bytes
+  pub entries : a.entries ≡ amount opening h Entries
+  pub history : a.history ≡ amount opening h History
 
 abbrev pub first_passed : Amounts → Option Which
 first_passed a = find (λ which. nat_lt (most which) (amount_in a which)) (Tests ∷ Bytes ∷ Entries ∷ History ∷ [])

@@ -7,9 +7,10 @@ use Rattle.std.proofs.lemmas.List.Sums.{prefix_len-le-length, prefix_len_passes,
 use Rattle.cov_lexer.specs.declared.bytes.Base.{Base}
 use Rattle.cov_lexer.specs.declared.bytes.Base.TheVariants as bases
 use Rattle.cov_tree.specs.declared.literal.Literal.{Literal}
+use Rattle.cov_lexer.specs.declared.token.TokenKind.TheVariants.{Based, Decimal as Number}
 use Rattle.cov_lexer.specs.Bytes.{is_digit, is_number, is_space, is_apostrophe, is_sign, is_base, is_base_digit, is_base_more}
-use Rattle.cov_lexer.specs.Forms.{Part, One, Maybe, Many, Passes, HasForm, decimal, based, sized, digits as digits_in}
-use Rattle.cov_lexer.specs.Literals.{base_of, value_of, decimal_literal, meaning, spaces, marks, IsSize, IsBased, IsDecimal, IsLiteral, IsNumber, run_to, are_digits, lettered, based_literal, literal_of}
+use Rattle.cov_lexer.specs.Forms.{Part, One, Maybe, Many, Passes, HasForm, decimal, based, sized, digits as digits_in, Item, Spells}
+use Rattle.cov_lexer.specs.Literals.{base_of, value_of, decimal_literal, meaning, spaces, marks, IsSize, IsBased, IsDecimal, HasParts, IsLiteral, IsNumber, run_to, are_digits, lettered, based_literal, literal_of}
 use Rattle.cov_lexer.specs.Reading.{Runs}
 use Rattle.cov_lexer.proofs.Fitting.{inside, run_fits}
 use Rattle.cov_lexer.proofs.Found.{base_is, base_passes, digit_passes, sign_passes, no_digit_space, no_base_sign, number_no_space, number_no_apostrophe, digit_no_apostrophe}
@@ -296,9 +297,9 @@ piece_fits ps text i j l f =
     subst (λ q. HasForm (slice_range text i j) ps 0 q) (sym (part_length text i j a u))
     (part_fits ps text i j 0 (j - i) u k (subst (λ q. HasForm text ps q (i + (j - i))) e (subst (λ q. HasForm text ps i q) g f)))
 
-based_is : (text size : List ℕ) (base : Base) (a : ℕ) → IsSize text size a → HasForm text (based base) a (length text) → IsLiteral text
+based_is : (text size : List ℕ) (base : Base) (a : ℕ) → IsSize text size a → HasForm text (based base) a (length text) → HasParts text
 based_is text size base a s f = elim f.1 [
-  | inl g ↦ inr (
+  | inl g ↦ (
     size,
     false,
     base,
@@ -314,7 +315,7 @@ based_is text size base a s f = elim f.1 [
       are = refl;
     },
   )
-  | inr h ↦ (let g = h.1 in inr (
+  | inr h ↦ (let g = h.1 in (
     size,
     true,
     base,
@@ -332,17 +333,24 @@ based_is text size base a s f = elim f.1 [
   ))
 ]
 
-sized_is : (text : List ℕ) (base : Base) → HasForm text (sized base) 0 (length text) → IsLiteral text
+sized_is : (text : List ℕ) (base : Base) → HasForm text (sized base) 0 (length text) → HasParts text
 sized_is text base f =
     let n = f.1 in
     let m = n.4 in
     based_is text (take n.0 text) base m.0 (inr (n.0, (f.0, (n.0, n.1, n.2, n.3, refl)), (m.0, m.1, m.2, m.3, refl), refl)) m.4
 
+-- a token of either kind is such a literal
+pub decimal_found : (whole : List ℕ) (i j : ℕ) → Spells whole i (Item Number) j → IsDecimal (slice_range whole i j)
+decimal_found whole i j d = piece_fits decimal whole i j d.0.0 d
+
+pub based_found : (whole : List ℕ) (i j : ℕ) → Spells whole i (Item Based) j → HasParts (slice_range whole i j)
+based_found whole i j b = elim b.1 [
+  | inl f ↦ based_is (slice_range whole i j) [] b.0 0 (inl (refl, refl)) (piece_fits (based b.0) whole i j f.0.0 f)
+  | inr f ↦ sized_is (slice_range whole i j) b.0 (piece_fits (sized b.0) whole i j f.0.0 f)
+]
+
 pub found_is : (whole text : List ℕ) (i j : ℕ) → IsNumber whole i j → text ≡ slice_range whole i j → IsLiteral text
 found_is whole text i j s e = subst (λ q. IsLiteral q) (sym e) (elim s [
-  | inl d ↦ inl (piece_fits decimal whole i j d.0.0 d)
-  | inr b ↦ elim b.1 [
-    | inl f ↦ based_is (slice_range whole i j) [] b.0 0 (inl (refl, refl)) (piece_fits (based b.0) whole i j f.0.0 f)
-    | inr f ↦ sized_is (slice_range whole i j) b.0 (piece_fits (sized b.0) whole i j f.0.0 f)
-  ]
+  | inl d ↦ inl (decimal_found whole i j d)
+  | inr b ↦ inr (based_found whole i j b)
 ])

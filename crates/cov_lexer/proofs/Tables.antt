@@ -262,7 +262,7 @@ abbrev pub AreKnown : List Spelling → List Spelling → Type 0
 AreKnown all [] = Unit {0}
 AreKnown all (s ∷ ss) = (kind_among s.text all ≡ Some s.kind) × AreKnown all ss
 
-operators_known : AreKnown operators operators
+pub operators_known : AreKnown operators operators
 unfolding operators
 operators_known = (refl, (refl, (refl, (refl, (refl, (refl, (refl, (refl, (refl, (refl, (refl, (refl, (refl, (refl, (refl, (refl, (refl, (refl, (refl, (refl, (refl, (refl, (refl, (refl, (refl, (refl, (refl, (refl, (refl, (refl, (refl, (refl, (refl, (refl, (refl, (refl, (refl, (refl, (refl, (refl, (refl, (refl, (refl, (refl, (refl, (refl, (refl, (refl, (refl, (refl, (refl, (refl, (refl, tt)))))))))))))))))))))))))))))))))))))))))))))))))))))
 
@@ -274,7 +274,7 @@ first_known text i s all (x ∷ ss) k h = elim (cases_Bool (stands text i x.text
 ]
 
 -- what stands is spelled so
-stands_spelled : (text : List ℕ) (i : ℕ) (bytes : List ℕ) → stands text i bytes ≡ true → slice_range text i (i + length bytes) ≡ bytes
+pub stands_spelled : (text : List ℕ) (i : ℕ) (bytes : List ℕ) → stands text i bytes ≡ true → slice_range text i (i + length bytes) ≡ bytes
 unfolding stands
 stands_spelled text i bytes h =
     let e : i + length bytes - i ≡ length bytes = omega arith in

@@ -125,8 +125,12 @@ pub record IsBased (text : List ℕ) (size : List ℕ) (signed : Bool) (base : B
 abbrev pub IsDecimal : List ℕ → Type 0
 IsDecimal text = HasForm text decimal 0 (length text)
 
+-- the text is a based literal of some parts
+abbrev pub HasParts : List ℕ → Type 0
+HasParts text = (size : List ℕ) × (signed : Bool) × (base : Base) × (digits : List ℕ) × IsBased text size signed base digits
+
 abbrev pub IsLiteral : List ℕ → Type 0
-IsLiteral text = IsDecimal text ⊎ ((size : _) × (signed : _) × (base : _) × (digits : _) × IsBased text size signed base digits)
+IsLiteral text = IsDecimal text ⊎ HasParts text
 
 -- the lexer finds a literal from i up to j
 abbrev pub IsNumber : List ℕ → ℕ → ℕ → Type 0

@@ -3,12 +3,16 @@ ghost use Rattle.std.specs.Prelude.{◌≡◌, ◌^◌, ◌-◌};
 ghost use Rattle.cov_lexer.specs.Bytes.{is_letter, is_digit, is_word, is_number, is_blank, is_inside, is_sign, is_unknown, is_base_digit, is_base_more, has};
 ghost use Rattle.cov_lexer.specs.Literals.{base_of, digit_bits, radix};
 
-/// The base of a number.
+/// The base of a number (IEEE 1800-2017, 5.7.1).
 #[derive(Clone, Copy, PartialEq, Eq)]
-pub(crate) enum Base {
+pub enum Base {
+    /// `b`, with digits of one bit.
     Binary,
+    /// `o`, with digits of three bits.
     Octal,
+    /// `d`, and that of a number without a base.
     Decimal,
+    /// `h`, with digits of four bits.
     Hexadecimal,
 }
 

@@ -13,6 +13,7 @@ mod runs;
 mod spellings;
 mod token;
 
+pub use bytes::Base;
 pub use kind::Kind;
 pub use lexing::lex;
 pub use literals::literal;

@@ -1,5 +1,5 @@
 -- Lists with separators, and parts that begin with a word of their own.
-use Rattle.std.proofs.Common.{◌≡◌, ◌+◌, ◌-◌, ◌<◌, List, [], ◌∷◌, ◌++◌, Some, None, Result, Ok, Err, true, length, refl, sym, subst, arith, append-nil}
+use Rattle.std.proofs.Common.{◌≡◌, ◌-◌, ◌<◌, List, [], ◌∷◌, ◌++◌, Some, None, Result, Ok, Err, true, length, refl, sym, subst, arith, append-nil}
 use Rattle.cov_lexer.specs.declared.kind.Kind.{Kind}
 use Rattle.cov_grammar.specs.declared.marked.Marked.{Marked}
 use Rattle.cov_grammar.specs.declared.place.Place.{Place}
@@ -10,7 +10,7 @@ use Rattle.cov_grammar.specs.Rule.{Rule, In, one, both, fold, many, map_to, mayb
 use Rattle.cov_grammar.specs.Parses.{Reads, Fails, Parses}
 use Rattle.cov_grammar.specs.Expressions.{snoc}
 use Rattle.cov_grammar.proofs.Sets.{disjoint, when, when-nothing}
-use Rattle.cov_grammar.proofs.Lawful.{Lawful, facts_of, reads_only, lawful_one, lawful_map, lawful_both}
+use Rattle.cov_grammar.proofs.Lawful.{Lawful, lawful_one, lawful_map, lawful_both}
 use Rattle.cov_grammar.proofs.Compose.{map_reads, map_fails}
 use Rattle.cov_grammar.proofs.Steps.{Leads, leads_self, step, without, maybe_step, fold_starts, fold_fails, item_read, item_fails, no_item, one_next, item_falls}
 
@@ -87,25 +87,3 @@ module _ {T : Type 0} {ts : List Marked} {B : Room → Rule T} (ks : List Kind) 
   part {d = d} {p = p} r = maybe_step headed refl lb (leads_self (λ r. maybe (both (λ _ b. b) (one ts ks) (B r))) d p)
       (step _ (lawful_one ts ks) lb refl (leads_self (λ r. both (λ _ b. b) (one ts ks) (B r)) d p) r)
       (let e = (one_next ts ks r).0 in omega arith)
-
--- what was read is read again
-module _ {T : Type 0} {ts : List Marked} {F : Room → Rule T} (lf : Lawful ts F) where
-  end_of : {d : Room} {p : Place} {t : T} {q : Place} → Reads F d p t q → (F d).begins p q.at
-  end_of {d = d} {p = p} {t = t} {q = q} r = (facts_of lf d).whole p t q r.derives
-
-  pub read_again : {d : Room} {p : Place} {t u : T} {q m : Place} → Reads F d p t q → Reads F d p u m → u ≡ t
-  read_again {d = d} {u = u} {q = q} {m = m} r s =
-      let a = s.reach d q.at (end_of r) in
-      let b = r.reach d m.at (end_of s) in
-      reads_only lf r d u m s.derives (omega arith)
-
-  pub fails_no_more : {d : Room} {p : Place} {t : T} {q : Place} (s : Stop) → Reads F d p t q → Fails F d p s → s ≡ Memory
-  fails_no_more Memory r f = refl
-  fails_no_more {d = d} {t = t} {q = q} (Syntax k) r f =
-      let a = f.cause.reach d q.at (end_of r) in
-      let b = r.reach d k f.cause.begins in
-      absurd (f.cause.none d t q r.derives (omega arith))
-  fails_no_more {d = d} {q = q} (TooDeep k) r f =
-      let a = f.cause.reach q.at (end_of r) in
-      let b = r.reach f.cause.more (k + 1) f.cause.deeper in
-      absurd (omega arith)

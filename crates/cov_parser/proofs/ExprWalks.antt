@@ -17,7 +17,7 @@ use Rattle.cov_grammar.specs.Rule.{In, one, word, counted, offset, both, either,
 use Rattle.cov_grammar.specs.Parses.{Reads, Fails}
 use Rattle.cov_grammar.specs.Operators.{unary_kinds, level_kinds}
 use Rattle.cov_grammar.specs.Expressions.{index_kinds, number_rule, index_in, named_in, paren_in, list_in, concat_in, primary_in, signed_in, unary_in, binary_in, branches_in, expr_in, inner_at, part_expr, whole_expr, pair, snoc, spelled, literal_or, selected, before_one, joined, test_or_choice}
-use Rattle.cov_grammar.proofs.Sets.{disjoint}
+use Rattle.cov_grammar.proofs.Sets.{disjoint, In_apart}
 use Rattle.cov_grammar.proofs.Sound.{Under, Sound}
 use Rattle.cov_grammar.proofs.Lawful.{Lawful, Lawfuls, lawful_one, lawful_word, lawful_here, lawful_counted, lawful_map, lawful_maybe, lawful_both, lawful_either, lawful_fold}
 use Rattle.cov_grammar.proofs.Compose.{counting_anew, map_reads, map_fails, maybe_fails, afresh_reads, afresh_fails}
@@ -272,6 +272,10 @@ module _ (text : List ℕ) (ts : List Marked) (s : Standing) where
       Reads (λ r. primary_in text ts s (inner text ts s r)) d p (number (literal_or (literal_of (spelled text k))) k.at) m
   unfolding primary_in number_rule
   number_read {d = d} {p = p} r h = (left (number_lawful text ts s) not_number_lawful refl refl (leads_self (λ r. primary_in text ts s (inner text ts s r)) d p) h).reads (map_reads _ (lawful_word ts Numeral) r)
+
+  pub number_operand : {d : Room} {p : Place} {k : Marked} {m : Place} → Reads (λ _. word ts Numeral) d p k m → In ts p.at (Numeral ∷ []) →
+      Reads (λ r. unary_in text ts s (inner text ts s r)) d p (number (literal_or (literal_of (spelled text k))) k.at) m
+  number_operand {p = p} r h = (unsigned (λ u. In_apart ts p.at (Numeral ∷ []) unary_kinds refl h u)).reads (number_read r h)
 
   no_number : {d : Room} {p : Place} → (In ts p.at (Numeral ∷ []) → ⊥) →
       Leads (λ r. either (named_in text ts s (inner text ts s r)) (either (paren_in text ts (inner text ts s r)) (concat_in text ts (inner text ts s r)))) d p (λ r. primary_in text ts s (inner text ts s r)) d p (λ t. t)

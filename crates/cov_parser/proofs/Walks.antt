@@ -9,7 +9,7 @@ use Rattle.cov_grammar.specs.declared.marked.Marked.{Marked}
 use Rattle.cov_grammar.specs.declared.place.Place.{Place}
 use Rattle.cov_grammar.specs.declared.place.Room.{Room}
 use Rattle.cov_grammar.specs.declared.place.Stop.{Stop}
-use Rattle.cov_grammar.specs.declared.place.Stop.TheVariants.{Memory, TooDeep}
+use Rattle.cov_grammar.specs.declared.place.Stop.TheVariants.{TooDeep}
 use Rattle.cov_grammar.specs.Rule.{Rule, after, one, word}
 use Rattle.cov_grammar.specs.Parses.{Reads, Fails}
 use Rattle.cov_grammar.specs.Expressions.{spelled}
@@ -31,10 +31,6 @@ ident_reads text ts r = map_reads (spelled text) (lawful_word ts Ident) r
 pub ident_fails : (text : List ℕ) (ts : List Marked) {d : Room} {p : Place} {s : Stop} → Fails (λ _. word ts Ident) d p s → Fails (λ _. ident text ts) d p s
 unfolding ident
 ident_fails text ts r = map_fails (spelled text) (lawful_word ts Ident) r
-
--- want of memory
-pub no_more : {T : Type 0} {F : Room → Rule T} {d : Room} {p : Place} (s : Stop) → s ≡ Memory → Fails F d p s
-no_more {F = F} {d = d} {p = p} s e = subst (λ s. Fails F d p s) (sym e) (record { cause = tt })
 
 -- no level is left
 pub too_deep : {T : Type 0} {F : Room → Rule T} {d : Room} {p : Place} {k : ℕ} (s : Stop) → s ≡ TooDeep k → Fails F d p (TooDeep k) → Fails F d p s

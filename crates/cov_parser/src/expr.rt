@@ -1,6 +1,7 @@
 //! Expressions (IEEE 1800-2017, clause 11). A contract says of each reader which rule of the grammar it reads.
 ghost use Rattle.std.specs.Prelude.{◌≡◌, IfOk};
-ghost use Rattle.cov_grammar.specs.Parses.{Parses};
+ghost use Rattle.cov_grammar.specs.declared.place.Place.{Place};
+ghost use Rattle.cov_grammar.specs.Parses.{Reads, Parses};
 ghost use Rattle.cov_grammar.specs.Operators.{unary_of};
 ghost use Rattle.cov_grammar.specs.Expressions.{part_expr, whole_expr, index_kinds, spelled, literal_or, selected, joined};
 ghost use Rattle.cov_tree.specs.Exprs.{number, concatenation, choice, unary};
@@ -77,6 +78,7 @@ impl Reader<'_> {
 
     /// Operands joined by the operators of so many levels, the strongest first.
     #[cycle(expr)]
+    #[inline(always)]
     fn binary(
         self,
         place: Place,
@@ -86,7 +88,29 @@ impl Reader<'_> {
     ) -> Result<(Held<Expr>, Place), Stop>
         ensures { Parses (over self.entry binary_at standing level) room place result }
     {
-        let (mut left, mut at) = self.unary(place, room, standing)?;
+        let (first, at) = self.operand(place, room, standing)?;
+        let Some(_) = next_level(self.tokens, at.at, 0, level) else {
+            return Ok((first, at));
+        };
+        self.climbed(first, at, room, standing, level)
+    }
+
+    /// The operators of so many levels at this place, with their operands, behind a first one that has been read.
+    #[cycle(expr)]
+    fn climbed(
+        self,
+        first: Held<Expr>,
+        place: Place,
+        room: Room,
+        standing: Standing,
+        level: usize,
+    ) -> Result<(Held<Expr>, Place), Stop>
+        ensures { (start : Place) →
+            Reads (over self.entry unary_at standing) room start first place →
+            Parses (over self.entry binary_at standing level) room start result }
+    {
+        let mut left = first;
+        let mut at = place;
         let mut done = 0;
         while let Some(below) = next_level(self.tokens, at.at, done, level) {
             let kinds = operators(below);
@@ -100,9 +124,25 @@ impl Reader<'_> {
         Ok((left, at))
     }
 
-    /// Operators before an operand, and the operand.
+    /// An operand with the operators before it. A number is looked for first, as it needs no further call.
     #[cycle(expr)]
     #[inline(always)]
+    fn operand(
+        self,
+        place: Place,
+        room: Room,
+        standing: Standing,
+    ) -> Result<(Held<Expr>, Place), Stop>
+        ensures { Parses (over self.entry unary_at standing) room place result }
+    {
+        if let Some((token, after)) = self.take(place, &[Kind::Numeral]) {
+            return Ok((Held::of(self.number(token)), after));
+        }
+        self.unary(place, room, standing)
+    }
+
+    /// Operators before an operand, and the operand.
+    #[cycle(expr)]
     fn unary(
         self,
         place: Place,

@@ -96,7 +96,8 @@ impl Reader<'_> {
 
     /// `endgroup`, with `: name` behind it or nothing, where `name` is that of the group.
     fn group_end(self, name: Marked, place: Place) -> Result<(Option<Marked>, Place), Stop>
-        ensures { ParsesAlways (over self.entry group_end (spelled self.entry.text.now name)) place result }
+        ensures { ParsesAlways (over self.entry group_end (spelled self.entry.text.now name)) place
+            result }
     {
         let (_, at) = self.word(place, Kind::EndgroupWord)?;
         let Some((_, next)) = self.take(at, &[Kind::Colon]) else {

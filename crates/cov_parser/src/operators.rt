@@ -116,8 +116,10 @@ fn level_of(kind: Kind) -> Option<usize>
 pub(crate) fn next_level(tokens: &[Marked], at: usize, start: usize, end: usize) -> Option<usize>
     ensures inside { IfSome result (λ level. start ≤ level) }
     ensures below { IfSome result (λ level. level < end) }
-    ensures before { IfSome result (λ level. (l : ℕ) → start ≤ l → l < level → In tokens.now at (level_kinds l) → ⊥) }
-    ensures none { IfNone result ((l : ℕ) → start ≤ l → l < end → In tokens.now at (level_kinds l) → ⊥) }
+    ensures before { IfSome result (λ level. (l : ℕ) → start ≤ l → l < level →
+        In tokens.now at (level_kinds l) → ⊥) }
+    ensures none { IfNone result ((l : ℕ) → start ≤ l → l < end →
+        In tokens.now at (level_kinds l) → ⊥) }
 {
     let Some(kind) = operator_at(tokens, at) else {
         return None;

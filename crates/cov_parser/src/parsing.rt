@@ -35,7 +35,8 @@ pub fn parse(alloc: Global, text: &[u8], tokens: &[Token]) -> Result<DesignText,
     ensures only { IfOk result (λ design. (decls : _) →
         Derives text.now (marked text.now tokens.now) decls → decls ≡ design.decls) }
     ensures sound { IfOk result (λ _. (fault : _) → IsParseFault text.now tokens.now fault → ⊥) }
-    ensures cause { IfErr result (λ fault. fault ≢ Memory → IsParseFault text.now tokens.now fault) }
+    ensures cause { IfErr result (λ fault. fault ≢ Memory →
+        IsParseFault text.now tokens.now fault) }
     ensures only_cause { IfErr result (λ fault. fault ≢ Memory →
         (other : _) → IsParseFault text.now tokens.now other → other ≡ fault) }
     ensures none { IfErr result (λ fault. fault ≢ Memory →

@@ -1,9 +1,7 @@
 //! Sequences of transitions (IEEE 1800-2017, 19.5.2).
-ghost use Rattle.std.specs.Prelude.{◌≡◌, [], ◌∷◌, refl, IfOk, IfErr};
+ghost use Rattle.std.specs.Prelude.{◌≡◌, [], ◌∷◌, refl, IfOk};
 ghost use Rattle.cov_lexer.specs.declared.kind.Kind.TheVariants.{Comma, FatArrow};
-ghost use Rattle.cov_grammar.specs.declared.place.Stop.TheVariants.{Memory};
-ghost use Rattle.cov_grammar.specs.Parses.{Reads, Parses};
-ghost use Rattle.cov_grammar.specs.Expressions.{expr};
+ghost use Rattle.cov_grammar.specs.Parses.{Parses};
 ghost use Rattle.cov_grammar.specs.Bins.{step, seq, seqs, high_or, times_or_once, times_of};
 ghost use Rattle.cov_grammar.proofs.BinsLaws.{seq_lawful, step_lawful};
 ghost use Rattle.cov_parser.specs.Reading.{over};
@@ -13,7 +11,8 @@ use crate::held::Held;
 use crate::lists::Item;
 use crate::reader::Reader;
 use cov_grammar::{Kind, Place, Room, Standing, Stop};
-use cov_tree::{Expr, List, Step, Times};
+use cov_tree::{Expr, List, Memory, Shared, Step, Times};
+use std::alloc::Global;
 
 /// Sequences of transitions, with commas between them.
 #[derive(Drop)]
@@ -124,29 +123,8 @@ impl Reader<'_> {
         let (low, at) = self.whole_expr(ends, room, Standing::Plain)?;
         let (second, at) = self.expr_behind(Kind::Colon, at, room)?;
         let (_, after) = self.word(at, Kind::CloseSquare)?;
-        let high = self.high_end(ends, room, second)?;
-        Ok((Held::of(Some(times_of(way.kind, low, high))), after))
-    }
-
-    /// The greatest number of a repetition: its second end, or else the expression at this place, which is its first end.
-    fn high_end(
-        self,
-        place: Place,
-        room: Room,
-        second: Held<Option<Expr>>,
-    ) -> Result<Held<Expr>, Stop>
-        ensures same { IfOk result (λ high. (low : _) (q : _) →
-            Reads (over self.entry expr) room place low q → high ≡ high_or low second) }
-        ensures only_memory { IfErr result (λ stop. (low : _) (q : _) →
-            Reads (over self.entry expr) room place low q → stop ≡ Memory) }
-    {
-        if let Some(high) = second.put() {
-            return Ok(Held::of(high));
-        }
-        match self.whole_expr(place, room, Standing::Plain) {
-            Ok((low, _)) => Ok(low),
-            Err(stop) => Err(stop),
-        }
+        let times = times_of(self.alloc, way.kind, low, second)?;
+        Ok((Held::of(Some(times)), after))
     }
 }
 
@@ -159,13 +137,23 @@ fn times_or_once(repeated: Held<Option<Times>>) -> Times
     }
 }
 
-fn times_of(way: Kind, low: Held<Expr>, high: Held<Expr>) -> Times
-    ensures { result ≡ times_of way low high }
+/// A repetition of these ends; a single one is both, and stands in the tree once.
+fn times_of(
+    alloc: Global,
+    way: Kind,
+    low: Held<Expr>,
+    second: Held<Option<Expr>>,
+) -> Result<Times, Memory>
+    ensures { IfOk result (λ times. times ≡ times_of way low (high_or low second)) }
 {
-    let (low, high) = (low.put(), high.put());
-    match way {
+    let low = Shared::of(alloc, low.put())?;
+    let high = match second.put() {
+        Some(high) => Shared::of(alloc, high)?,
+        None => low.share()?,
+    };
+    Ok(match way {
         Kind::Star => Times::Consec { low, high },
         Kind::ThinArrow => Times::Goto { low, high },
         _ => Times::NonConsec { low, high },
-    }
+    })
 }

@@ -1,6 +1,7 @@
 -- What laws say of requests, replies and their bytes.
 use Rattle.std.specs.Prelude.{◌≡◌, ℕ, ◌≤◌, List, ◌++◌, length, Result, Err, Bool, true, false, ◌==◌}
 pub use Rattle.record_codec.specs.Reading.{AreBytes}
+use Rattle.record_codec.specs.Limits.{longest_id}
 use Rattle.ucis_model.specs.declared.answers.Answer.TheVariants as answer
 use Rattle.cov_proto.specs.declared.requests.Request.{Request}
 use Rattle.cov_proto.specs.declared.requests.Request.TheVariants as request
@@ -80,6 +81,6 @@ is_open (body.Store (answer.Chunk len bytes)) = true
 is_open (body.BadDesign at kind) = true
 is_open other = false
 
--- the bytes of the longest field, a text
+-- the bytes of the longest field, a test's id or the name of who ran it
 abbrev pub longest_field : ℕ
-longest_field = 255
+longest_field = longest_id

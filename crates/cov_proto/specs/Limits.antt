@@ -1,6 +1,7 @@
 -- Which requests and replies have a spelling, and what their types say of numbers.
 use Rattle.std.specs.Prelude.{◌≡◌, ℕ, ◌<◌, ◌≤◌, ◌^◌, List, length}
 use Rattle.std.specs.List.{AllByRecursion}
+use Rattle.record_codec.specs.Limits.{longest_id}
 use Rattle.tally.specs.declared.ranked.Ranked.{Ranked}
 use Rattle.ucis_model.specs.declared.answers.CountRow.{CountRow}
 use Rattle.ucis_model.specs.declared.answers.CoverRow.{CoverRow}
@@ -24,7 +25,7 @@ IsPath path = AreFrom 32 path
 -- a text behind its length, of this length at least
 pub record IsText (least low : ℕ) (bytes : List ℕ) : Type 0 where
   pub some : least ≤ length bytes
-  pub short : length bytes < 256
+  pub short : length bytes ≤ longest_id
   pub fit : AreFrom low bytes
 
 abbrev pub IsId : List ℕ → Type 0

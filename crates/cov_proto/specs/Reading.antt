@@ -9,6 +9,7 @@ use Rattle.std.specs.List.{position}
 use Rattle.std.specs.Int.{Width, w8, byte_len, from_be_bytes}
 use Rattle.design_data.specs.declared.infos.BinKind.{BinKind}
 use Rattle.design_data.specs.declared.infos.BinKind.TheVariants.{CvgBin, IllegalBin, IgnoreBin, DefaultBin}
+use Rattle.record_codec.specs.Limits.{longest_id}
 use Rattle.ucis_model.specs.declared.answers.Which.{Which}
 use Rattle.ucis_model.specs.declared.answers.Which.TheVariants as which
 
@@ -54,7 +55,7 @@ chars_at low count bytes = if nat_lt (length bytes) count then Err (length bytes
 -- The length, from least on, is a field, and the text another.
 unfoldable pub text_at : ℕ → ℕ → Reader (List ℕ)
 text_at least low bytes = do
-  n ← number_within w8 least 255 bytes
+  n ← number_within w8 least longest_id bytes
   chars_at low n.0 n.1
 
 unfoldable pub flag_at : Reader Bool

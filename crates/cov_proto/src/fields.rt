@@ -2,6 +2,7 @@
 ghost use Rattle.std.specs.Prelude.{◌≡◌, ◌≤◌, length};
 ghost use Rattle.std.specs.List.{position};
 ghost use Rattle.std.specs.Int.{w8, w32, w64};
+ghost use Rattle.record_codec.specs.Limits.{longest_id};
 ghost use Rattle.cov_proto.specs.Reading.{number_at, number_within, digest_at, is_bad, chars_at, text_at, path, nothing, only};
 ghost use Rattle.cov_proto.specs.Given.{Gives};
 
@@ -131,7 +132,7 @@ pub(crate) fn text_at(least: u8, low: u8, bytes: &[u8]) -> Result<(&[u8], &[u8])
 // The length of a text, from the least on.
 #[tactic(auto, unfolding(crate::specs::Reading::number_within))]
 fn length_at(least: u8, bytes: &[u8]) -> Result<(u8, &[u8]), BadAt>
-    ensures { Gives (λ x. (x.0, x.1.now)) result (number_within w8 least 255 bytes.now) }
+    ensures { Gives (λ x. (x.0, x.1.now)) result (number_within w8 least longest_id bytes.now) }
 {
     let (count, rest) = u8_at(bytes)?;
     if count < least {

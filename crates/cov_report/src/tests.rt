@@ -1,6 +1,7 @@
 //! The tests of a store, a line for each.
 ghost use Rattle.std.specs.Prelude.{◌≡◌, ◌<◌, ◌+◌, ◌++◌, take, length, map, IfOk, OnOk, MatchOption};
 ghost use Rattle.std.specs.List.{flat_map};
+ghost use Rattle.cov_ground.specs.Limits.{most_test_rows};
 ghost use Rattle.cov_history.specs.History.{tests_of};
 ghost use Rattle.cov_history.specs.Answers.{test_row};
 ghost use Rattle.merge_store.specs.Stores.{entries_of};
@@ -8,6 +9,7 @@ ghost use Rattle.cov_report.specs.Lines.{merge_line, test_line, status_word};
 
 use appending::{append, append_number};
 use cov_base::Memory;
+use cov_ground::limits::MOST_TEST_ROWS;
 use cov_tree::Name;
 use merge_store::Store;
 use std::alloc::Global;
@@ -66,7 +68,7 @@ fn push_page(tests: &mut Vec<HistoryNode>, store: &Store, first: u32) -> Result<
     requires { tests.old.items ≡ map test_row (take first (tests_of (entries_of store.now))) }
     ensures { let all = tests_of (entries_of store.now) in IfOk result (λ next. MatchOption next
         (tests.new.items ≡ map test_row all)
-        (λ place. (place ≡ first + 1024) × (place < length all) × (tests.new.items ≡ map test_row (take place all)))) }
+        (λ place. (place ≡ first + most_test_rows) × (place < length all) × (tests.new.items ≡ map test_row (take place all)))) }
 {
     let Ok((total, page)) = store.tests(first) else {
         return Err(Memory);
@@ -76,10 +78,10 @@ fn push_page(tests: &mut Vec<HistoryNode>, store: &Store, first: u32) -> Result<
     if total <= first {
         return Ok(None);
     }
-    if total - first <= 1024 {
+    if total - first <= MOST_TEST_ROWS as u32 {
         return Ok(None);
     }
-    Ok(Some(first + 1024))
+    Ok(Some(first + MOST_TEST_ROWS as u32))
 }
 
 /// All tests in order of admission.

@@ -3,7 +3,8 @@ ghost use Rattle.std.specs.Prelude.{◌≡◌, ◌+◌, ◌-◌, ◌^◌, ◌≤
 ghost use mathlib.Core.List.{IsPrefix};
 ghost use Rattle.cov_history.specs.History.{is_legal};
 ghost use Rattle.turn_lock.specs.History.{longer};
-ghost use Rattle.turn_lock.specs.Seats.{most_seats, IsSame, number_of, free, left, opened, seen, own};
+ghost use Rattle.turn_lock.specs.Limits.{most_seats};
+ghost use Rattle.turn_lock.specs.Seats.{IsSame, number_of, free, left, opened, seen, own};
 ghost use Rattle.cov_server.specs.Shares.{opening_of, HasSeat};
 
 use cov_base::Memory;

@@ -1,5 +1,5 @@
 //! Declarations of bins (IEEE 1800-2017, 19.5). Each `at` is a byte offset in the design text.
-use crate::{Expr, List, Name};
+use crate::{Expr, List, Name, Shared};
 
 /// An end of a range.
 #[derive(Drop)]
@@ -19,17 +19,27 @@ pub enum Elem {
     Span { low: End, high: End, at: u32 },
 }
 
-/// How often the values of a step follow one another (IEEE 1800-2017, 19.5.2). A single count stands as both ends.
+/// How often the values of a step follow one another (IEEE 1800-2017, 19.5.2). A single count is both ends, and stands in the
+/// tree once.
 #[derive(Drop)]
 pub enum Times {
     /// Once.
     Once,
     /// `[*low:high]`, one after another.
-    Consec { low: Expr, high: Expr },
+    Consec {
+        low: Shared<Expr>,
+        high: Shared<Expr>,
+    },
     /// `[->low:high]`, with other samples before each.
-    Goto { low: Expr, high: Expr },
+    Goto {
+        low: Shared<Expr>,
+        high: Shared<Expr>,
+    },
     /// `[=low:high]`, with other samples before each, and behind the last.
-    NonConsec { low: Expr, high: Expr },
+    NonConsec {
+        low: Shared<Expr>,
+        high: Shared<Expr>,
+    },
 }
 
 /// A step of a transition, at its first token.

@@ -5,6 +5,8 @@ use Rattle.indexmap.proofs.map.IndexMap.TheSendSync as map
 use Rattle.cov_tree.proofs.name.Name.TheSendSync as name
 use Rattle.tally.proofs.tally.Tally.TheSendSync as tally
 use Rattle.sampler.proofs.encoded.EncodedRecord.TheSendSync as content
+use Rattle.sampler.proofs.plan.Plan.TheSendSync as plan
+use Rattle.sampler.specs.contracts.planned.Planned as planned
 use Rattle.merge_store.proofs.branches.Branches.TheSendSync as branches
 use Rattle.merge_store.proofs.runs.Runs.TheSendSync as runs
 use Rattle.merge_store.specs.contracts.held.HeldEvent as event
@@ -22,5 +24,8 @@ held_send = search (sendable, crosses, event_field_send) depth 30
 pub kept_send : IsSend kept.the_row
 kept_send = search (sendable, crosses, content.the_send, content.the_sync, tally.the_send, tally.the_sync) depth 30
 
+pub planned_send : IsSend planned.the_row
+planned_send = search (sendable, crosses, design_send, design_sync, plan.the_send, plan.the_sync) depth 30
+
 pub store_send : IsSend store.the_row
-store_send = search (sendable, crosses, map.the_send, name.the_send, name.the_sync, design_send, design_sync, branches.the_send, runs.the_send, held_send, kept_send) depth 40 fits 4000
+store_send = search (sendable, crosses, map.the_send, name.the_send, name.the_sync, design_send, design_sync, planned_send, branches.the_send, runs.the_send, held_send, kept_send) depth 40 fits 4000

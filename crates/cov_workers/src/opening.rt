@@ -1,7 +1,8 @@
 //! A store behind a lock.
 ghost use Rattle.std.specs.Prelude.{◌≡◌, ◌-◌, ◌^◌, ◌≤◌, [], IfOk};
 ghost use Rattle.std.specs.Arc.{arc_value};
-ghost use Rattle.turn_lock.specs.Seats.{most_seats, number_of, free, left, opened, seen, own};
+ghost use Rattle.turn_lock.specs.Limits.{most_seats};
+ghost use Rattle.turn_lock.specs.Seats.{number_of, free, left, opened, seen, own};
 ghost use Rattle.merge_store.specs.Sound.{IsSound};
 ghost use Rattle.merge_store.specs.Stores.{opening_of as store_opening};
 ghost use Rattle.cov_server.specs.Shares.{opening_of, HasSeat};

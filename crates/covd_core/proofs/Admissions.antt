@@ -7,7 +7,8 @@ use Rattle.record_codec.specs.declared.record.Record.{Record}
 use Rattle.record_codec.specs.declared.record.Fields.{Fields}
 use Rattle.record_codec.specs.Spelling.{fields_of}
 use Rattle.record_maker.specs.Generator.{version_of, start_of}
-use Rattle.sampler.specs.Shape.{Fits, signals_of, instances_of}
+use Rattle.cov_counting.specs.Tables.{signals_of, instances_of}
+use Rattle.sampler.specs.Shape.{Fits}
 use Rattle.ucis_model.specs.declared.answers.Answer.{Answer}
 use Rattle.ucis_model.specs.declared.answers.Answer.TheVariants as answers
 use Rattle.cov_history.specs.declared.entry.Entry.{Entry}

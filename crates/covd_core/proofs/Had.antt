@@ -2,12 +2,8 @@
 use Rattle.std.proofs.Common.{◌≡◌, ◌≤◌, ℕ, List, length, sym, subst}
 use Rattle.std.specs.Prelude.{Err}
 use Rattle.cov_base.specs.Loads.{HasFile}
-use Rattle.cov_lexer.specs.declared.token.LexFault.TheVariants as lexing
-use Rattle.cov_parser.specs.declared.fault.ParseFault.TheVariants as parsing
-use Rattle.elab_base.specs.declared.fault.ElabFault.TheVariants as elaborating
 use Rattle.cov_compile.specs.declared.fault.CompileFault.{CompileFault}
-use Rattle.cov_compile.specs.declared.fault.CompileFault.TheVariants.{Lex, Parse, Elab}
-use Rattle.cov_compile.specs.Compiling.{IsDesignFault, is_memory, Compiles}
+use Rattle.cov_compile.specs.Compiling.{IsDesignFault, Compiles}
 use Rattle.cov_compile.proofs.Texts.{design_or_fault}
 use Rattle.cov_ground.specs.Limits.{longest_design}
 use Rattle.covd_core.specs.declared.status.Status.{Status}
@@ -15,25 +11,10 @@ use Rattle.covd_core.specs.declared.status.Status.TheVariants as status
 use Rattle.covd_core.specs.Lines.{IsDesignFaultText}
 use Rattle.covd_core.specs.Command.{Files, HasNoDesign, NoDesign}
 
--- want of memory has no line
-has_line : (fault : CompileFault) (line : List ℕ) → IsDesignFaultText fault line → is_memory fault → ⊥
-has_line (Lex lexing.Memory) line says m = says
-has_line (Lex (lexing.BadByte at)) line says m = m
-has_line (Lex (lexing.OpenComment at)) line says m = m
-has_line (Lex (lexing.OpenString at)) line says m = m
-has_line (Lex (lexing.LiteralTooWide at)) line says m = m
-has_line (Lex (lexing.NameTooLong at)) line says m = m
-has_line (Parse parsing.Memory) line says m = says
-has_line (Parse (parsing.Syntax at)) line says m = m
-has_line (Parse (parsing.NotSupported at)) line says m = m
-has_line (Parse (parsing.TooDeep at)) line says m = m
-has_line (Elab elaborating.Memory) line says m = says
-has_line (Elab (elaborating.Fault kind at)) line says m = m
-
 module _ (files : Files) (before now : ℕ) (name text : List ℕ) (file : HasFile files name text) (short : length text ≤ longest_design) (line : List ℕ) where
   has_none : (fault : CompileFault) → Compiles text (Err fault) → IsDesignFaultText fault line → HasNoDesign files name line
   has_none fault refused says =
-      let cause : IsDesignFault text fault = refused (has_line fault line says) in
+      let cause : IsDesignFault text fault = refused says.0 in
       record { text = text; file = file; short = short; none = λ parts h. design_or_fault text parts fault h cause; fault = fault; cause = cause; says = says }
 
   pub no_design : (fault : CompileFault) (s : Status) → Compiles text (Err fault) → (s ≡ status.DesignRefused) × IsDesignFaultText fault line → NoDesign files before now name s line

@@ -5,11 +5,7 @@ use Rattle.record_codec.specs.declared.fault.RecordFault.TheVariants.{Short, Bad
 use Rattle.record_codec.specs.declared.record.Record.{Record}
 use Rattle.record_codec.specs.Spelling.{Encodes}
 use Rattle.record_codec.specs.Reading.{HasFault}
-use Rattle.cov_lexer.specs.declared.token.LexFault.TheVariants as lexing
-use Rattle.cov_parser.specs.declared.fault.ParseFault.TheVariants as parsing
 use Rattle.cov_compile.specs.declared.fault.CompileFault.{CompileFault}
-use Rattle.cov_compile.specs.declared.fault.CompileFault.TheVariants.{Lex, Parse, Elab}
-use Rattle.elab_base.specs.declared.fault.ElabFault.TheVariants as elaborating
 use Rattle.design_data.specs.declared.design.Design.{Design}
 use Rattle.sampler.specs.Shape.{IsWrongAt}
 use Rattle.sampler.proofs.Tables.{place_one}
@@ -36,18 +32,7 @@ fault_text_one n (Trailing at) text other h k = h ∙ sym k
 fault_text_one n Memory text other h k = absurd h
 
 pub design_text_one : (fault : CompileFault) (text other : List ℕ) → IsDesignFaultText fault text → IsDesignFaultText fault other → text ≡ other
-design_text_one (Lex (lexing.BadByte at)) text other h k = h ∙ sym k
-design_text_one (Lex (lexing.OpenComment at)) text other h k = h ∙ sym k
-design_text_one (Lex (lexing.OpenString at)) text other h k = h ∙ sym k
-design_text_one (Lex (lexing.LiteralTooWide at)) text other h k = h ∙ sym k
-design_text_one (Lex (lexing.NameTooLong at)) text other h k = h ∙ sym k
-design_text_one (Lex lexing.Memory) text other h k = absurd h
-design_text_one (Parse (parsing.Syntax at)) text other h k = h ∙ sym k
-design_text_one (Parse (parsing.NotSupported at)) text other h k = h ∙ sym k
-design_text_one (Parse (parsing.TooDeep at)) text other h k = h ∙ sym k
-design_text_one (Parse parsing.Memory) text other h k = absurd h
-design_text_one (Elab (elaborating.Fault kind at)) text other h k = h ∙ sym k
-design_text_one (Elab elaborating.Memory) text other h k = absurd h
+design_text_one fault text other h k = h.1 ∙ sym k.1
 
 pub dump_text_one : (fault : DumpFault) (text other : List ℕ) → IsDumpFaultText fault text → IsDumpFaultText fault other → text ≡ other
 dump_text_one (dumping.Syntax at) text other h k = h ∙ sym k

@@ -8,6 +8,7 @@ use Rattle.cov_ground.specs.Limits.{longest_design}
 use Rattle.cov_compile.specs.Compiling.{Declares}
 use Rattle.cov_design.specs.Elaboration.{Elaborates, parts_of}
 use Rattle.design_data.specs.declared.design.Design.{Design}
+use Rattle.record_codec.specs.Limits.{longest_id}
 use Rattle.record_codec.specs.declared.record.Fields.{Fields}
 use Rattle.vcd_reader.specs.declared.fault.DumpFault.{DumpFault}
 use Rattle.vcd_reader.specs.Reading.{reading, longest_dump}
@@ -20,9 +21,9 @@ use Rattle.vcd_reader.specs.Refusals.{◌>>=◌, Fails}
 abbrev pub is_id_byte : ℕ → Bool
 is_id_byte byte = nat_le 33 byte && nat_le byte 126
 
--- 1 to 255 such bytes
+-- such bytes, one at least
 abbrev pub is_test_id : List ℕ → Bool
-is_test_id id = nat_lt 0 (length id) && nat_lt (length id) 256 && list_all is_id_byte id
+is_test_id id = nat_lt 0 (length id) && nat_le (length id) longest_id && list_all is_id_byte id
 
 abbrev pub IsTestId : List ℕ → Type 0
 IsTestId id = is_test_id id ≡ true

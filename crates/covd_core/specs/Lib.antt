@@ -15,6 +15,7 @@ pub mod Walks
 pub mod Steps
 pub use Rattle.cov_base.specs.Loads
 pub use Rattle.cov_compile.specs.Compiling
+pub use Rattle.cov_counting.specs.Tables
 pub use Rattle.cov_counting.specs.Tallies
 pub use Rattle.cov_design.specs.Elaboration
 pub use Rattle.cov_spec.specs.Causes

@@ -1,12 +1,11 @@
 -- The lines that are printed. Each ends with a newline, and numbers are decimal.
 use Rattle.std.specs.Prelude.{◌≡◌, ℕ, List, [], ◌∷◌, ◌++◌, codes, decimal, length, slice_get, Option, Some, None}
 use Rattle.std.specs.List.{flat_map, range_with_len}
-use Rattle.cov_lexer.specs.declared.token.LexFault.TheVariants as lexing
-use Rattle.cov_parser.specs.declared.fault.ParseFault.TheVariants as parsing
 use Rattle.record_codec.specs.declared.fault.RecordFault.{RecordFault}
 use Rattle.record_codec.specs.declared.fault.RecordFault.TheVariants.{Short, BadMagic, BadVersion, BadField, TooManyEvents, Trailing, Memory}
 use Rattle.cov_compile.specs.declared.fault.CompileFault.{CompileFault}
-use Rattle.cov_compile.specs.declared.fault.CompileFault.TheVariants.{Lex, Parse, Elab}
+use Rattle.cov_compile.specs.Compiling.{is_memory}
+use Rattle.cov_compile.specs.Faults.{fault_word, fault_place}
 use Rattle.design_data.specs.declared.design.Design.{Design}
 use Rattle.design_data.specs.declared.infos.BinKind.{BinKind}
 use Rattle.design_data.specs.declared.infos.BinKind.TheVariants.{CvgBin, IllegalBin, IgnoreBin, DefaultBin}
@@ -15,9 +14,6 @@ use Rattle.ucis_model.specs.declared.node.NodeKind.{NodeKind}
 use Rattle.ucis_model.specs.declared.node.NodeKind.TheVariants as node_kinds
 use Rattle.ucis_model.specs.Nodes.{nodes_of}
 use Rattle.ucis_model.specs.Paths.{node_at, path_of}
-use Rattle.elab_base.specs.declared.fault.ElabFault.TheVariants as elaborating
-use Rattle.elab_base.specs.declared.fault.ElabKind.{ElabKind}
-use Rattle.elab_base.specs.declared.fault.ElabKind.TheVariants as kinds
 use Rattle.vcd_reader.specs.declared.fault.DumpFault.{DumpFault}
 use Rattle.vcd_reader.specs.declared.fault.DumpFault.TheVariants as dumping
 
@@ -86,55 +82,9 @@ bad_words_text = codes "bad words" ++ newline
 abbrev pub design_refused_text : List ℕ → ℕ → List ℕ
 design_refused_text kind at = codes "design refused " ++ (kind ++ (codes " at " ++ (decimal at ++ newline)))
 
--- the word of a kind of faults on the walk through a design
-abbrev pub fault_word : ElabKind → List ℕ
-fault_word kinds.DuplicateName = codes "DuplicateName"
-fault_word kinds.UnknownType = codes "UnknownType"
-fault_word kinds.UnknownName = codes "UnknownName"
-fault_word kinds.TooWide = codes "TooWide"
-fault_word kinds.BadSelect = codes "BadSelect"
-fault_word kinds.BadConcat = codes "BadConcat"
-fault_word kinds.UnknownLiteral = codes "UnknownLiteral"
-fault_word kinds.BadWildcard = codes "BadWildcard"
-fault_word kinds.NotConstant = codes "NotConstant"
-fault_word kinds.BadEnum = codes "BadEnum"
-fault_word kinds.ArgCount = codes "ArgCount"
-fault_word kinds.TooManyArgs = codes "TooManyArgs"
-fault_word kinds.RefNotVariable = codes "RefNotVariable"
-fault_word kinds.NotThisPoint = codes "NotThisPoint"
-fault_word kinds.IgnoreDefault = codes "IgnoreDefault"
-fault_word kinds.ZeroBins = codes "ZeroBins"
-fault_word kinds.BadRepeat = codes "BadRepeat"
-fault_word kinds.Unbounded = codes "Unbounded"
-fault_word kinds.TooManyValues = codes "TooManyValues"
-fault_word kinds.TooManyRanges = codes "TooManyRanges"
-fault_word kinds.TooLong = codes "TooLong"
-fault_word kinds.TooManyBins = codes "TooManyBins"
-fault_word kinds.UnknownPoint = codes "UnknownPoint"
-fault_word kinds.NotCrossed = codes "NotCrossed"
-fault_word kinds.UnknownBin = codes "UnknownBin"
-fault_word kinds.TooManyPoints = codes "TooManyPoints"
-fault_word kinds.TooManyProducts = codes "TooManyProducts"
-fault_word kinds.UnknownOption = codes "UnknownOption"
-fault_word kinds.WrongLevel = codes "WrongLevel"
-fault_word kinds.OutOfRange = codes "OutOfRange"
-fault_word kinds.SetTwice = codes "SetTwice"
-fault_word kinds.DesignLimit = codes "DesignLimit"
-
 -- The line of a fault of a design text. Want of memory has no line.
 abbrev pub IsDesignFaultText : CompileFault → List ℕ → Type 0
-IsDesignFaultText (Lex (lexing.BadByte at)) text = text ≡ design_refused_text (codes "BadByte") at
-IsDesignFaultText (Lex (lexing.OpenComment at)) text = text ≡ design_refused_text (codes "OpenComment") at
-IsDesignFaultText (Lex (lexing.OpenString at)) text = text ≡ design_refused_text (codes "OpenString") at
-IsDesignFaultText (Lex (lexing.LiteralTooWide at)) text = text ≡ design_refused_text (codes "LiteralTooWide") at
-IsDesignFaultText (Lex (lexing.NameTooLong at)) text = text ≡ design_refused_text (codes "NameTooLong") at
-IsDesignFaultText (Lex lexing.Memory) text = ⊥
-IsDesignFaultText (Parse (parsing.Syntax at)) text = text ≡ design_refused_text (codes "Syntax") at
-IsDesignFaultText (Parse (parsing.NotSupported at)) text = text ≡ design_refused_text (codes "NotSupported") at
-IsDesignFaultText (Parse (parsing.TooDeep at)) text = text ≡ design_refused_text (codes "TooDeep") at
-IsDesignFaultText (Parse parsing.Memory) text = ⊥
-IsDesignFaultText (Elab (elaborating.Fault kind at)) text = text ≡ design_refused_text (fault_word kind) at
-IsDesignFaultText (Elab elaborating.Memory) text = ⊥
+IsDesignFaultText fault text = (is_memory fault → ⊥) × (text ≡ design_refused_text (fault_word fault) (fault_place fault))
 
 -- the k-th record is refused: the kind of the refusal and its number
 abbrev pub record_refused_text : (k : ℕ) → (kind : List ℕ) → (number : ℕ) → List ℕ

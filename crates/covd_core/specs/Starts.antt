@@ -7,6 +7,7 @@ use Rattle.cov_base.specs.Loads.{HasFile}
 use Rattle.cov_compile.specs.Compiling.{Compiles}
 use Rattle.cov_compile.specs.Texts.{Declared}
 use Rattle.cov_ground.specs.Limits.{longest_design}
+use Rattle.cov_serve.specs.Seats.{most_callers}
 use Rattle.cov_serve.specs.declared.words.ServeWords.{ServeWords}
 use Rattle.cov_serve.specs.Words.{served_by}
 use Rattle.covd_core.specs.declared.status.Status.{Status}
@@ -52,9 +53,9 @@ pub record Readies (words : List (List ℕ)) (files : Files) (w : ServeWords) (c
   pub names : Names words w name
   pub had : HasOpening files name c
 
--- the address is one of so many words, and there are 1 to 256 seats
+-- the address is one of so many words, and there is a seat, and as many as those of a server at most
 abbrev pub IsServable : (count : ℕ) → ServeWords → Type 0
-IsServable count w = (w.listen < count) × (1 ≤ w.seats) × (w.seats ≤ 256)
+IsServable count w = (w.listen < count) × (1 ≤ w.seats) × (w.seats ≤ most_callers)
 
 abbrev pub ready_words : Begun → Option ServeWords
 ready_words (begun.Ready w c) = Some w

@@ -27,9 +27,8 @@ mod texts;
 mod unadmitted;
 mod writing;
 
-pub use cov_compile::{CompileFault, Compiled, compile};
+pub use cov_compile::{CompileFault, Compiled, Refusal, compile, refusal_of};
 pub use cov_serve::{ServeWords, serve_words};
-pub use loading::{Refusal, refusal_of};
 pub use record::{DumpRefusal, LONGEST_DUMP, dump_fault, dump_refusal_of};
 pub use record_maker::{MakeFault, make_record};
 pub use running::run;

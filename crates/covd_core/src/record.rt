@@ -26,7 +26,7 @@ use cov_lexer::lex;
 use cov_parser::parse;
 use cov_tree::{DesignText, Name};
 use design_data::Design;
-use record_codec::{Record, encode};
+use record_codec::{LONGEST_ID, Record, encode};
 use std::alloc::Global;
 use vcd_reader::{DumpFault, read_dump, record_of};
 
@@ -63,7 +63,7 @@ fn is_test_id(id: &[u8]) -> bool
     if id.is_empty() {
         return false;
     }
-    if id.len() > 255 {
+    if id.len() > LONGEST_ID as usize {
         return false;
     }
     are_id_bytes(id)

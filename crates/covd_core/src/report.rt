@@ -16,21 +16,21 @@ use cov_base::{Memory, Shelf};
 use cov_report::report_lines;
 use design_data::Design;
 use merge_store::Store;
-use sampler::Plan;
+use sampler::{Plan, Planned};
 use std::alloc::Global;
 use std::sync::Arc;
 use std::thread::Threads;
 
-/// A design, and a store over it without entries.
-fn opened(alloc: Global, design: Design) -> Result<(Arc<Design>, Store), Memory>
-    ensures design { IfOk result (λ parts. arc_value parts.0 ≡ design) }
+/// A design with its plan, and a store over it without entries.
+fn opened(alloc: Global, design: Design) -> Result<(Planned, Store), Memory>
+    ensures design { IfOk result (λ parts. parts.0 ≡ design) }
     ensures plain { IfOk result (λ parts. IsPlain design parts.1) }
     ensures fresh { IfOk result (λ parts. entries_of parts.1 ≡ []) }
 {
     let design = Arc::new(alloc, design)?;
-    let again = design.clone()?;
-    let store = Store::new(alloc, again)?;
-    Ok((design, store))
+    let store = Store::new(alloc, design)?;
+    let planned = store.planned().share()?;
+    Ok((planned, store))
 }
 
 /// The answer of a store that is filled.
@@ -81,9 +81,16 @@ fn filled<R: Threads + Sync, F: Shelf>(
     ensures answer { IfOk result (λ a. Fills (F.files shelf.old) (F.faults shelf.old) (F.faults shelf.new)
         design 1 [] (origins_of origins.entry) a.status a.text.items) }
 {
-    let (design, mut store) = opened(alloc, design)?;
-    let plan = Plan::of(alloc, &design)?;
-    filled_into(rt, alloc, &design, &plan, &mut store, origins, shelf)
+    let (planned, mut store) = opened(alloc, design)?;
+    filled_into(
+        rt,
+        alloc,
+        planned.design(),
+        planned.plan(),
+        &mut store,
+        origins,
+        shelf,
+    )
 }
 
 /// Loads, compiles, takes the records that come from there in and prints the report.

@@ -5,7 +5,6 @@
 #![tactic(auto)]
 
 mod building;
-mod guard;
 mod numbers;
 mod once;
 mod plan;

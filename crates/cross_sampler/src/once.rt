@@ -4,8 +4,8 @@ ghost use Rattle.std.specs.List.{All};
 ghost use Rattle.cross_sampler.specs.Once.{Once, HasRoom, guard_at, bit};
 ghost use Rattle.cross_sampler.specs.Plans.{IsGuardEnd};
 
-use crate::guard::holds;
 use cov_base::Int;
+use cov_counting::holds;
 use design_data::BinInfo;
 
 /// 1 where the guard of the bin at this index is true, else 0. Bins from `guards` on have none.

@@ -9,13 +9,13 @@ ghost use Rattle.cross_sampler.specs.Plans.{IsDeclaredEnd, IsGuardEnd, bins_with
 ghost use Rattle.cross_sampler.specs.Standing.{visited, hit_bins, Raises, TakesSample};
 
 use crate::building::push_bins;
-use crate::guard::holds;
 use crate::numbers::{one_number, product_numbers};
 use crate::once::add_once;
 use crate::plan::{CrossPlan, Table};
 use crate::products::put_product;
 use crate::state::CrossState;
 use cov_base::{Int, Memory};
+use cov_counting::holds;
 use design_data::{BinInfo, ItemInfo};
 use value_index::Rows;
 

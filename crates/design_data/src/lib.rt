@@ -16,3 +16,4 @@ mod testing;
 pub use crosses::{has, products, sizes};
 pub use design::Design;
 pub use infos::{BinInfo, BinKind, BinRule, GroupInfo, InstInfo, ItemInfo, ItemShape, Signal};
+pub use numbers::ranges_of;

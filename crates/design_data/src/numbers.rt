@@ -38,7 +38,8 @@ fn ranges_of_seqs(seqs: &[Seq]) -> u64
     sum
 }
 
-fn ranges_of(rule: &BinRule) -> u64
+/// How many intervals the sets of a bin have, `u64::MAX` at most.
+pub fn ranges_of(rule: &BinRule) -> u64
     ensures { result ≡ min (ranges_of_rule rule.now) (2 ^ 64 - 1) }
 {
     match rule {

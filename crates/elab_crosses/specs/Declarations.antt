@@ -2,14 +2,10 @@
 use Rattle.std.specs.Prelude.{ℕ, List, [], ◌∷◌, ◌++◌, length, nat_lt, Option, Some, Result, Ok}
 use Rattle.cov_ground.specs.Limits.{most_bins}
 use Rattle.name_map.specs.Names.{with_name}
-use Rattle.cov_tree.specs.declared.bins.Word.{Word}
-use Rattle.cov_tree.specs.declared.bins.Word.TheVariants as words
 use Rattle.cov_tree.specs.declared.groups.CrossBins.{CrossBins}
 use Rattle.const_eval.specs.Terms.{Term}
 use Rattle.const_eval.specs.Scopes.{Levels}
 use Rattle.cross_select.specs.declared.select.Select.{Select}
-use Rattle.design_data.specs.declared.infos.BinKind.{BinKind}
-use Rattle.design_data.specs.declared.infos.BinKind.TheVariants.{CvgBin, IllegalBin, IgnoreBin}
 use Rattle.design_data.specs.declared.infos.BinRule.TheVariants.{Picked}
 use Rattle.elab_base.specs.declared.fault.ElabKind.TheVariants as kind
 use Rattle.elab_base.specs.declared.names.What.TheVariants as what
@@ -18,11 +14,7 @@ use Rattle.elab_base.specs.Steps.{unused, guard_in}
 use Rattle.elab_values.specs.declared.made.Made.{Made}
 use Rattle.elab_crosses.specs.declared.declared.Walked.{Walked}
 use Rattle.elab_crosses.specs.Selections.{Crossed, selection_of}
-
-abbrev pub kind_of : Word → BinKind
-kind_of words.Bins = CvgBin
-kind_of words.Illegal = IllegalBin
-kind_of words.Ignore = IgnoreBin
+use Rattle.elab_values.specs.Words.{kind_of}
 
 -- a declared bin, whose declaration stands at a place among those of the cross
 abbrev pub picked_bin : CrossBins → ℕ → Select → Option Term → Made

@@ -4,17 +4,17 @@ ghost use Rattle.cov_ground.specs.Limits.{most_bins, most_points};
 ghost use Rattle.elab_base.specs.declared.fault.ElabKind.TheVariants as kinds;
 ghost use Rattle.elab_base.specs.Gives.{Gives, Makes, needs};
 ghost use Rattle.elab_crosses.specs.Selections.{crossed};
-ghost use Rattle.elab_crosses.specs.Declarations.{kind_of as kind_meant, with_bin, bin_declared, bins_walked};
+ghost use Rattle.elab_crosses.specs.Declarations.{with_bin, bin_declared, bins_walked};
 
 use crate::selections::{Crossed, selection};
 use const_eval::{Bound, Scope};
 use cov_ground::Memory;
 use cov_ground::limits::MOST_BINS;
-use cov_tree::{CrossBins, List, Word};
+use cov_tree::{CrossBins, List};
 use cross_select::Select;
-use design_data::{BinInfo, BinKind, BinRule};
+use design_data::{BinInfo, BinRule};
 use elab_base::{ElabFault, ElabKind, What, add_name, check_unused, guard_in};
-use elab_values::Made;
+use elab_values::{Made, kind_of};
 use name_map::NameMap;
 use std::alloc::Global;
 
@@ -23,16 +23,6 @@ use std::alloc::Global;
 pub struct Walked {
     pub names: NameMap<What>,
     pub bins: List<Made>,
-}
-
-fn kind_of(word: &Word) -> BinKind
-    ensures { result ≡ kind_meant word.now }
-{
-    match word {
-        Word::Bins => BinKind::CvgBin,
-        Word::Illegal => BinKind::IllegalBin,
-        Word::Ignore => BinKind::IgnoreBin,
-    }
 }
 
 /// Refuses a bin more than a cross may have.
@@ -62,7 +52,7 @@ fn keep_bin(
     walked.bins.push(Made {
         bin: BinInfo {
             name: decl.name.share()?,
-            kind: kind_of(&decl.word),
+            kind: kind_of(decl.word),
             rule: BinRule::Picked(select),
             guard,
         },

@@ -39,8 +39,8 @@ fn value(alloc: Global, scope: &Scope, next: i128, expr: &Option<Expr>) -> Resul
 fn number_of(typ: Typ, value: i128) -> Option<Int>
     ensures { result ≡ (if is_number typ value then Some value else None) }
 {
-    let low = lowest_of(typ.width().get(), typ.is_signed()).get();
-    let high = highest_of(typ.width().get(), typ.is_signed()).get();
+    let low = lowest_of(typ.width(), typ.is_signed()).get();
+    let high = highest_of(typ.width(), typ.is_signed()).get();
     if low <= value && value <= high {
         Some(Int::of(value))
     } else {

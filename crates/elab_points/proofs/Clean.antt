@@ -38,7 +38,8 @@ use Rattle.elab_points.specs.declared.made.Plan.{Plan}
 use Rattle.elab_points.specs.declared.made.Plan.TheVariants as plans
 use Rattle.elab_points.specs.declared.made.Wanted.{Wanted}
 use Rattle.elab_points.specs.Automatic.{is_coverage, auto_head, auto_bin, constant_bin, automatic_by, automatic, declares_coverage, automatic_added, automatic_binned, with_automatic}
-use Rattle.elab_points.specs.Declarations.{kind_of, default_kind, is_ignore, is_illegal, with_set, elements_in, entered, head_of, bins_added, values_binned, listed_binned, elements_binned, values_declared, one_added, rest_added, rule_added, default_sized, default_declared, declared_by, bins_declared, no_bins, bins_walked}
+use Rattle.elab_values.specs.Words.{kind_of}
+use Rattle.elab_points.specs.Declarations.{default_kind, is_ignore, is_illegal, with_set, elements_in, entered, head_of, bins_added, values_binned, listed_binned, elements_binned, values_declared, one_added, rest_added, rule_added, default_sized, default_declared, declared_by, bins_declared, no_bins, bins_walked}
 use Rattle.elab_points.specs.Filter.{keep_of, filter_in, kept_numbers}
 use Rattle.elab_points.specs.Made.{wanted_in, planned, named_bin, single, part_bins, parts_kept, bins_made}
 use Rattle.elab_points.specs.Rest.{rest_bin, all_bins}

@@ -43,7 +43,8 @@ use Rattle.elab_points.specs.Wildcards.{is_kept, patterns_in, has_number, patter
 use Rattle.elab_points.proofs.Literals.{some_first}
 use Rattle.elab_transitions.specs.declared.plans.Before.{Before}
 use Rattle.elab_transitions.specs.declared.bins.TransBins.{TransBins}
-use Rattle.elab_transitions.specs.Bins.{is_array, list_bin, made_bin, default_bin_of, trans_bins_of, removed_by}
+use Rattle.elab_values.specs.Words.{is_array}
+use Rattle.elab_transitions.specs.Bins.{list_bin, made_bin, default_bin_of, trans_bins_of, removed_by}
 use Rattle.elab_transitions.specs.Bins as trans
 use Rattle.elab_transitions.specs.Removal.{removing_of, is_seq_left, is_rule_left, is_trans_left}
 use Rattle.elab_transitions.proofs.Declared.{made_of}
@@ -56,7 +57,8 @@ use Rattle.elab_points.specs.declared.made.Plan.{Plan}
 use Rattle.elab_points.specs.declared.made.Wanted.{Wanted}
 use Rattle.elab_points.specs.declared.made.Plan.TheVariants as plans
 use Rattle.elab_points.specs.Automatic.{auto_head, auto_bin, constant_bin, automatic_by, automatic, declares_coverage, automatic_added, automatic_binned, with_automatic}
-use Rattle.elab_points.specs.Declarations.{kind_of, default_kind, elements_in, entered, head_of, bins_added, values_binned, listed_binned, elements_binned, values_declared, one_added, rest_added, rule_added, default_sized, default_declared, declared_by, bins_declared, no_bins, bins_walked}
+use Rattle.elab_values.specs.Words.{kind_of}
+use Rattle.elab_points.specs.Declarations.{default_kind, elements_in, entered, head_of, bins_added, values_binned, listed_binned, elements_binned, values_declared, one_added, rest_added, rule_added, default_sized, default_declared, declared_by, bins_declared, no_bins, bins_walked}
 use Rattle.elab_points.specs.Filter.{keep_of, filter_in, kept_numbers}
 use Rattle.elab_points.specs.Left.{rule_left, kind_left, bin_left, has_some, some_of, left_of, bins_left, left_by}
 use Rattle.elab_points.specs.Made.{wanted_in, planned, named_bin, single, part_bins, parts_kept, bins_made}

@@ -48,7 +48,8 @@ use Rattle.elab_points.specs.declared.made.Head.{Head}
 use Rattle.elab_points.specs.declared.made.Plan.{Plan}
 use Rattle.elab_points.specs.declared.made.Wanted.{Wanted}
 use Rattle.elab_points.specs.declared.made.Wanted.TheVariants as wants
-use Rattle.elab_points.specs.Declarations.{kind_of, default_kind, is_ignore, is_illegal, with_set, entered, elements_in, head_of, bins_added, values_binned, listed_binned, elements_binned, values_declared, one_added, rest_added, rule_added, default_sized, default_declared, declared_by, bins_declared, no_bins, bins_walked}
+use Rattle.elab_values.specs.Words.{kind_of}
+use Rattle.elab_points.specs.Declarations.{default_kind, is_ignore, is_illegal, with_set, entered, elements_in, head_of, bins_added, values_binned, listed_binned, elements_binned, values_declared, one_added, rest_added, rule_added, default_sized, default_declared, declared_by, bins_declared, no_bins, bins_walked}
 use Rattle.elab_points.specs.Filter.{passes, keep_of, filter_in, kept_numbers}
 use Rattle.elab_points.specs.Left.{set_left, rule_left, kind_left, bin_left, has_some, some_of, bins_left, left_by, point_left, walked_left, bins_of_point}
 use Rattle.elab_points.specs.Transitions.{before, seqs_kept, trans_listed, trans_added, trans_declared, default_sequence_declared, in_array, transitions_left}

@@ -35,11 +35,7 @@ use Rattle.elab_points.specs.Wildcards.{is_kept, patterns_in, pattern_rule, numb
 use Rattle.elab_points.specs.Filter.{keep_of, filter_in, kept_numbers}
 use Rattle.elab_points.specs.Transitions.{trans_declared, made_added, default_sequence_declared}
 use Rattle.elab_points.specs.Made.{wanted_in, planned, plan_bins, named_bin, bins_made}
-
-abbrev pub kind_of : Word → BinKind
-kind_of words.Bins = CvgBin
-kind_of words.Illegal = IllegalBin
-kind_of words.Ignore = IgnoreBin
+use Rattle.elab_values.specs.Words.{kind_of}
 
 abbrev pub is_ignore : BinKind → Bool
 is_ignore CvgBin = false

@@ -16,7 +16,8 @@ use Rattle.elab_values.specs.declared.domain.Domain.{Domain}
 use Rattle.elab_values.specs.declared.made.Made.{Made}
 use Rattle.elab_transitions.specs.declared.plans.Before.{Before}
 use Rattle.elab_transitions.specs.declared.bins.TransBins.{TransBins}
-use Rattle.elab_transitions.specs.Bins.{is_array, trans_bins_of, default_bin_of}
+use Rattle.elab_values.specs.Words.{is_array}
+use Rattle.elab_transitions.specs.Bins.{trans_bins_of, default_bin_of}
 use Rattle.elab_transitions.specs.Removal.{is_trans_left}
 use Rattle.elab_points.specs.declared.declared.Entry.TheVariants.{Bin}
 use Rattle.elab_points.specs.declared.declared.Walked.{Walked}

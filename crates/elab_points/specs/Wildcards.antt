@@ -6,8 +6,6 @@ use Rattle.cov_ground.specs.Limits.{most_values}
 use Rattle.cov_base.specs.Sets.{span, written, is_in}
 use Rattle.cov_tree.specs.declared.bins.Right.{Right}
 use Rattle.cov_tree.specs.declared.bins.Right.TheVariants as rights
-use Rattle.cov_tree.specs.declared.bins.Size.{Size}
-use Rattle.cov_tree.specs.declared.bins.Size.TheVariants as sizes
 use Rattle.cov_tree.specs.declared.bins.BinsDecl.{BinsDecl}
 use Rattle.const_eval.specs.Terms.{Term}
 use Rattle.wildcard_bins.specs.declared.pattern.Pattern.{Pattern}
@@ -28,13 +26,9 @@ use Rattle.elab_points.specs.declared.made.Manner.{Manner}
 use Rattle.elab_points.specs.declared.made.Wanted.{Wanted}
 use Rattle.elab_points.specs.declared.made.Wanted.TheVariants as wants
 use Rattle.elab_points.specs.Automatic.{is_coverage}
+use Rattle.elab_values.specs.Words.{is_array}
 
 -- ---- points
-
-abbrev pub is_open : Size → Bool
-is_open sizes.Scalar = false
-is_open sizes.Open = true
-is_open (sizes.Fixed bins) = false
 
 -- The other bins of a point have to be sets of numbers beside this declaration: it has ignored or illegal values, even
 -- none, or is an array of `default`.
@@ -42,7 +36,7 @@ abbrev pub wants_sets : BinsDecl → Right → Bool
 wants_sets b (rights.Ranges elems keep) = not (is_coverage b.word)
 wants_sets b (rights.Whole name keep) = not (is_coverage b.word)
 wants_sets b (rights.Trans seqs) = false
-wants_sets b rights.Default = is_open b.size
+wants_sets b rights.Default = is_array b.size
 wants_sets b rights.DefaultSequence = false
 
 -- Whether the scalar wildcard bins of a point keep their patterns: the point isn't enumerated, no cross has `intersect` on

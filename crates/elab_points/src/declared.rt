@@ -9,7 +9,7 @@ ghost use Rattle.design_data.specs.declared.infos.BinRule.TheVariants.{Default};
 ghost use Rattle.elab_points.specs.declared.declared.Entry.TheVariants.{Bin};
 ghost use Rattle.elab_points.specs.Made.{IsWanted, IsPlan, plan_bins};
 ghost use Rattle.elab_points.specs.Wildcards.{patterns_in as patterns_meant, pattern_rule as rule_meant};
-ghost use Rattle.elab_points.specs.Declarations.{kind_of as kind_meant, default_kind as default_meant, is_ignore, is_illegal, names_point, is_default, may_default, entered, whole_elements, elements_in, with_set, head_of, bins_added, values_binned, listed_binned, elements_binned, values_declared, one_added, rest_added, rule_added, default_sized, default_declared, declared_by, bins_declared, bins_walked};
+ghost use Rattle.elab_points.specs.Declarations.{default_kind as default_meant, is_ignore, is_illegal, names_point, is_default, may_default, entered, whole_elements, elements_in, with_set, head_of, bins_added, values_binned, listed_binned, elements_binned, values_declared, one_added, rest_added, rule_added, default_sized, default_declared, declared_by, bins_declared, bins_walked};
 
 use crate::filter::{filter_of, keep_numbers};
 use crate::made::{Head, Manner, Plan, Wanted, bin_of, bins_of, check_room, make_plan, size_of};
@@ -20,7 +20,7 @@ use cov_base::{Int, Memory, ValueSet};
 use cov_tree::{BinsDecl, List, Name, Right, Size, Word};
 use design_data::{BinKind, BinRule};
 use elab_base::{ElabFault, ElabKind, What, add_name, check_unused, guard_in};
-use elab_values::{Domain, Listed, Made, elements_of};
+use elab_values::{Domain, Listed, Made, elements_of, kind_of};
 use name_map::NameMap;
 use std::alloc::Global;
 use trans_seq::Seq;
@@ -58,16 +58,6 @@ pub struct Walked {
     pub illegal_seqs: List<Seq>,
     /// How many cells the ignored and illegal sequences have.
     pub removing: u64,
-}
-
-fn kind_of(word: &Word) -> BinKind
-    ensures { result ≡ kind_meant word.now }
-{
-    match word {
-        Word::Bins => BinKind::CvgBin,
-        Word::Illegal => BinKind::IllegalBin,
-        Word::Ignore => BinKind::IgnoreBin,
-    }
 }
 
 fn default_kind(word: &Word) -> BinKind
@@ -364,7 +354,7 @@ fn bin_elements(
     let keep = filter_of(alloc, scope, domain.typ, &decl.right)?;
     let wanted = size_of(alloc, scope, &decl.size, decl.at)?;
     let guard = guard_in(alloc, scope, &decl.guard)?;
-    let head = head(alloc, decl, kind_of(&decl.word), guard, walked)?;
+    let head = head(alloc, decl, kind_of(decl.word), guard, walked)?;
     bin_listed(
         alloc, domain, manner, &keep, wanted, elements, &head, walked,
     )?;

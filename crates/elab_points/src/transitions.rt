@@ -10,8 +10,8 @@ use const_eval::Scope;
 use cov_base::Memory;
 use cov_tree::{BinsDecl, List, Name, Step, Word};
 use elab_base::ElabFault;
-use elab_transitions::{Before, Removers, TransBins, default_bin, is_array, trans_bins};
-use elab_values::{Domain, Made};
+use elab_transitions::{Before, Removers, TransBins, default_bin, trans_bins};
+use elab_values::{Domain, Made, is_array};
 use std::alloc::Global;
 use trans_seq::Seq;
 

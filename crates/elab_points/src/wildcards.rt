@@ -4,33 +4,23 @@ ghost use Rattle.std.specs.List.{list_all, list_any};
 ghost use Rattle.cov_base.specs.Sets.{is_in, span, written};
 ghost use Rattle.design_data.specs.Bins.{is_coverage as is_coverage_kind};
 ghost use Rattle.elab_base.specs.Gives.{Gives, GivesAs};
-ghost use Rattle.elab_points.specs.Wildcards.{is_open as is_open_size, wants_sets as wants_all_sets, keeps_patterns as keeps_all_patterns, manner_of as manner_meant, is_one as is_one_bin, is_literal as is_literal_element, is_kept as is_bin_kept, patterns_in as patterns_meant, has_number as has_some_number, pattern_rule as rule_meant, element_count as count_meant, values_count as count_all, few_values, numbers_in as numbers_meant};
+ghost use Rattle.elab_points.specs.Wildcards.{wants_sets as wants_all_sets, keeps_patterns as keeps_all_patterns, manner_of as manner_meant, is_one as is_one_bin, is_literal as is_literal_element, is_kept as is_bin_kept, patterns_in as patterns_meant, has_number as has_some_number, pattern_rule as rule_meant, element_count as count_meant, values_count as count_all, few_values, numbers_in as numbers_meant};
 
 use crate::auto::is_coverage;
 use crate::made::{Manner, Wanted};
 use const_eval::Bound;
 use cov_base::{Int, Memory, ValueSet};
 use cov_ground::limits::MOST_VALUES;
-use cov_tree::{BinsDecl, List, Right, Size};
+use cov_tree::{BinsDecl, List, Right};
 use design_data::{BinKind, BinRule};
 use elab_base::{ElabFault, ElabKind};
-use elab_values::{Domain, Listed, Settings, numbers_listed};
+use elab_values::{Domain, Listed, Settings, is_array, numbers_listed};
 use std::alloc::Global;
 use value_bins::Elems;
 use wildcard_bins::Pattern;
 use wildcard_counts::count_in;
 
 // ---- points
-
-fn is_open(size: &Size) -> bool
-    ensures { result ≡ is_open_size size.now }
-{
-    match size {
-        Size::Scalar => false,
-        Size::Open => true,
-        Size::Fixed(_) => false,
-    }
-}
 
 /// Whether the other bins of a point have to be sets of numbers beside this declaration: it has ignored or illegal
 /// values, or is an array of `default`.
@@ -41,7 +31,7 @@ fn wants_sets(decl: &BinsDecl) -> bool
         Right::Ranges { .. } => !is_coverage(&decl.word),
         Right::Whole { .. } => !is_coverage(&decl.word),
         Right::Trans(_) => false,
-        Right::Default => is_open(&decl.size),
+        Right::Default => is_array(&decl.size),
         Right::DefaultSequence => false,
     }
 }

@@ -1,22 +1,27 @@
 -- The bins left of an array.
-use Rattle.std.proofs.Common.{◌≡◌, ◌∙◌, ℕ, ℤ, List, [], ◌∷◌, map, Bool, true, false, Option, refl, sym, ap, subst, inl, inr}
-use Rattle.std.specs.Prelude.{◌||◌, not, Contains}
-use Rattle.std.specs.List.{filter, list_any}
+use Rattle.std.proofs.Common.{◌≡◌, ◌∙◌, ℕ, ℤ, List, [], ◌∷◌, map, get_or, Bool, true, false, Option, Some, None, refl, sym, ap, subst, inl, inr, arith}
+use Rattle.std.specs.Prelude.{◌≢◌, ◌||◌, not, Contains}
+use Rattle.std.specs.List.{AllPairs, list_any}
 use Rattle.std.proofs.lemmas.Bool.{true≢false, false≢true}
+use Rattle.std.proofs.lemmas.List.Elements.{Contains-get_or}
+use Rattle.std.proofs.lemmas.List.Kept.{AllPairs-cons, AllPairs-filter}
 use Rattle.cov_tree.specs.declared.bins.BinsDecl.{BinsDecl}
 use Rattle.const_eval.specs.Terms.{Term}
 use Rattle.trans_seq.specs.declared.seq.Seq.{Seq}
-use Rattle.trans_seq.specs.Lists.{has_endless, listed_by_all}
-use Rattle.trans_seq.specs.Windows.{SomeHasWord}
+use Rattle.trans_seq.specs.Lists.{has_endless, is_among, lists_by_all, listed_by_all}
 use Rattle.trans_seq.specs.Words.{word_of}
 use Rattle.trans_seq.proofs.Members.{none_in, first_in, later_in, cases_in, in_filter, from_filter, in_map}
+use Rattle.trans_seq.proofs.News.{among_first, among_later}
+use Rattle.trans_seq.proofs.Counted.{AllDiffer, news_differ}
 use Rattle.trans_seq.proofs.MergeLemmas.{all-windows}
 use Rattle.elab_values.specs.declared.made.Made.{Made}
 use Rattle.elab_transitions.specs.Lists.{seq_of_list}
-use Rattle.elab_transitions.specs.Bins.{kind_of, plan_of, list_bin, bins_made}
+use Rattle.elab_values.specs.Words.{kind_of}
+use Rattle.elab_transitions.specs.Bins.{plan_of, list_bin, bins_made}
 use Rattle.elab_transitions.specs.Tests.{in_some}
 use Rattle.elab_transitions.specs.Removal.{removing_of, is_removed, is_seq_left, is_trans_left}
-use Rattle.elab_transitions.specs.Laws.{IsKept, AreOfLists, ArrayIsItsLists, bins_left}
+use Rattle.elab_transitions.specs.Laws.{IsKept, ArrayIsItsLists, bins_left}
+use Rattle.design_data.specs.Bins.{seqs_of as seqs_of_rule}
 use Rattle.elab_transitions.proofs.Words.{some_there, some_back}
 use Rattle.elab_transitions.proofs.OneList.{word_of_list}
 
@@ -80,5 +85,49 @@ module _ (b : BinsDecl) (declared : ℕ) (guard : Option Term) (seqs ignored ill
       let out = is_false (in_some (removing_of (kind_of b.word) ignored illegal) list) (λ e. k.not_removed (some_there (removing_of (kind_of b.word) ignored illegal) list e)) in
       in_filter p (map (list_bin b declared guard) (listed_by_all seqs)) (list_bin b declared guard list) (in_map (list_bin b declared guard) (listed_by_all seqs) list here) (list_left b declared guard ignored illegal list ∙ ap not out)
 
+-- ---- each once
+
+among_in : (lists : List (List ℤ)) (list : List ℤ) → Contains lists list → is_among lists list ≡ true
+among_in [] list h = absurd (none_in list h)
+among_in (x ∷ xs) list h = elim (cases_in x xs list h) [
+  | inl same ↦ subst (λ l. is_among (x ∷ xs) l ≡ true) same (among_first x xs)
+  | inr later ↦ among_later x xs list (among_in xs list later)
+]
+
+-- what differs is made into what differs
+once_made : {Y : Type 0} (f : List ℤ → Y) → ((u w : List ℤ) → f u ≡ f w → u ≡ w) → (lists : List (List ℤ)) → AllDiffer lists → AllPairs (λ a b. a ≢ b) (map f lists)
+once_made f one [] differ = λ i j d lt within. absurd (omega (arith, within))
+once_made f one (x ∷ xs) differ =
+    AllPairs-cons (λ a b. a ≢ b) (f x) (map f xs)
+    (λ k d within same.
+    let m = from_map f xs (get_or (map f xs) k d) (Contains-get_or (map f xs) k d within) in
+    true≢false (sym (among_in xs x (subst (λ l. Contains xs l) (sym (one x m.0 (same ∙ m.2))) m.1)) ∙ differ.0))
+    (once_made f one xs differ.1)
+
+-- the list of the first sequence of a bin
+first_word : List Seq → Option (List ℤ)
+first_word [] = None
+first_word (seq ∷ seqs) = word_of seq.items
+
+list_in : Made → Option (List ℤ)
+list_in made = first_word (seqs_of_rule made.bin.rule)
+
+some_same : (u w : List ℤ) → Some u ≡ Some w → u ≡ w
+some_same u w e = cc
+
+bin_one : (b : BinsDecl) (declared : ℕ) (guard : Option Term) (u w : List ℤ) → list_bin b declared guard u ≡ list_bin b declared guard w → u ≡ w
+unfolding first_word list_in
+bin_one b declared guard u w e = some_same u w (sym (word_of_list u) ∙ ap list_in e ∙ word_of_list w)
+
+once : (b : BinsDecl) (declared : ℕ) (guard : Option Term) (seqs ignored illegal : List Seq) → AllPairs (λ a b. a ≢ b) (bins_left ignored illegal true (bins_made b declared (plan_of true seqs) guard seqs))
+unfolding bins_made
+once b declared guard seqs ignored illegal =
+    AllPairs-filter (λ a b. a ≢ b) (λ made. is_trans_left ignored illegal true made.bin) (map (list_bin b declared guard) (listed_by_all seqs))
+    (once_made (list_bin b declared guard) (bin_one b declared guard) (listed_by_all seqs) (news_differ [] (lists_by_all seqs)))
+
 pub array_is : ArrayIsItsLists
-array_is b declared guard seqs ignored illegal bounded = record { each = each b declared guard seqs ignored illegal bounded; all = all b declared guard seqs ignored illegal bounded }
+array_is b declared guard seqs ignored illegal bounded = record {
+  each = each b declared guard seqs ignored illegal bounded;
+  all = all b declared guard seqs ignored illegal bounded;
+  once = once b declared guard seqs ignored illegal;
+}

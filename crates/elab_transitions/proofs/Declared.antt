@@ -19,7 +19,8 @@ use Rattle.elab_transitions.specs.declared.plans.Before.{Before}
 use Rattle.elab_transitions.specs.declared.plans.Plan.{Plan}
 use Rattle.elab_transitions.specs.declared.bins.TransBins.{TransBins}
 use Rattle.elab_transitions.specs.Steps as steps
-use Rattle.elab_transitions.specs.Bins.{is_array, any_goes_on, is_bounded, is_short, removing_after, removing_in, removed_by, plan_of, plan_in, bins_in, fitted, bins_made, trans_made, seqs_binned, steps_binned, trans_bins_of}
+use Rattle.elab_values.specs.Words.{is_array}
+use Rattle.elab_transitions.specs.Bins.{any_goes_on, is_bounded, is_short, removing_after, removing_in, removed_by, plan_of, plan_in, bins_in, fitted, bins_made, trans_made, seqs_binned, steps_binned, trans_bins_of}
 use Rattle.elab_transitions.proofs.Written.{IsOften, AllOften, sequences_often, seqs_repeat, seqs_bounded}
 
 bounded_by : (array any : Bool) → array ≡ true → not (array && any) ≡ true → any ≡ false

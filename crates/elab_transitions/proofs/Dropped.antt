@@ -17,7 +17,8 @@ use Rattle.design_data.specs.Laws.{AddsNoWindow}
 use Rattle.design_data.specs.Left.{is_same_seq, has_lists}
 use Rattle.elab_values.specs.declared.made.Made.{Made}
 use Rattle.elab_transitions.specs.Lists.{seq_of_list}
-use Rattle.elab_transitions.specs.Bins.{kind_of, is_array, plan_of, list_bin, bins_made}
+use Rattle.elab_values.specs.Words.{is_array, kind_of}
+use Rattle.elab_transitions.specs.Bins.{plan_of, list_bin, bins_made}
 use Rattle.elab_transitions.specs.Tests.{in_some}
 use Rattle.elab_transitions.specs.Removal.{removing_of, is_seq_left, is_trans_left}
 use Rattle.elab_transitions.specs.Laws.{DroppedAddsNothing}

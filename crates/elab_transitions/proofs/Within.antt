@@ -23,7 +23,8 @@ use Rattle.design_data.specs.Bins.{seqs_of}
 use Rattle.design_data.specs.Left.{is_same_seq, has_lists, has_numbers, has_seq_left}
 use Rattle.elab_values.specs.declared.made.Made.{Made}
 use Rattle.elab_transitions.specs.Lists.{item_once, seq_of_list}
-use Rattle.elab_transitions.specs.Bins.{kind_of, is_array, is_short, is_within, is_removing, removing_after, removing_in, removed_by, plan_of, plan_in, bins_in, fitted, list_bin, bins_made, trans_made, seqs_binned, trans_bins_of}
+use Rattle.elab_values.specs.Words.{is_array, kind_of}
+use Rattle.elab_transitions.specs.Bins.{is_short, is_within, is_removing, removing_after, removing_in, removed_by, plan_of, plan_in, bins_in, fitted, list_bin, bins_made, trans_made, seqs_binned, trans_bins_of}
 use Rattle.elab_transitions.specs.Tests.{in_some}
 use Rattle.elab_transitions.specs.Removal.{removing_of, is_seq_left, is_trans_left}
 use Rattle.elab_transitions.specs.Laws.{IsWithin, MadeIsWithin, LeftHasSeq}

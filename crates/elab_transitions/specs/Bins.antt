@@ -1,12 +1,10 @@
 -- The transition bins of one declaration: one of all its sequences, or one of each of their lists
 -- (IEEE 1800-2017, 19.5.2).
-use Rattle.std.specs.Prelude.{ℕ, ◌+◌, nat_le, ℤ, List, [], ◌∷◌, ◌++◌, length, map, Bool, true, false, not, ◌&&◌, Option, Some, Result, Ok, Err, if◌then◌else◌}
+use Rattle.std.specs.Prelude.{ℕ, ◌+◌, nat_le, ℤ, List, [], ◌∷◌, length, map, Bool, true, false, not, ◌&&◌, Option, Some, Result, Ok, if◌then◌else◌}
 use Rattle.std.specs.List.{list_all, list_any}
 use Rattle.cov_ground.specs.Limits.{most_bins, most_cells}
 use Rattle.cov_tree.specs.declared.bins.BinsDecl.{BinsDecl}
 use Rattle.cov_tree.specs.declared.bins.Step.{Step}
-use Rattle.cov_tree.specs.declared.bins.Size.{Size}
-use Rattle.cov_tree.specs.declared.bins.Size.TheVariants as sizes
 use Rattle.cov_tree.specs.declared.bins.Word.{Word}
 use Rattle.cov_tree.specs.declared.bins.Word.TheVariants as words
 use Rattle.const_eval.specs.Terms.{Term}
@@ -15,7 +13,7 @@ use Rattle.trans_seq.specs.declared.seq.Seq.{Seq}
 use Rattle.trans_seq.specs.Cells.{cells_of_items, cells_of_seqs}
 use Rattle.trans_seq.specs.Lists.{goes_on, listed_by_all}
 use Rattle.design_data.specs.declared.infos.BinKind.{BinKind}
-use Rattle.design_data.specs.declared.infos.BinKind.TheVariants.{CvgBin, IllegalBin, IgnoreBin, DefaultBin}
+use Rattle.design_data.specs.declared.infos.BinKind.TheVariants.{IllegalBin, IgnoreBin, DefaultBin}
 use Rattle.design_data.specs.declared.infos.BinRule.{BinRule}
 use Rattle.design_data.specs.declared.infos.BinRule.TheVariants.{Trans, DefaultSequence}
 use Rattle.elab_base.specs.declared.fault.ElabKind.TheVariants as kind
@@ -30,13 +28,9 @@ use Rattle.elab_transitions.specs.declared.bins.TransBins.{TransBins}
 use Rattle.elab_transitions.specs.declared.steps.ListedStep.{ListedStep}
 use Rattle.elab_transitions.specs.Steps.{sequences_of, seqs_of}
 use Rattle.elab_transitions.specs.Lists.{list_name, seq_of_list}
+use Rattle.elab_values.specs.Words.{is_array, kind_of}
 
 -- ---- words and sizes
-
-abbrev pub kind_of : Word → BinKind
-kind_of words.Bins = CvgBin
-kind_of words.Illegal = IllegalBin
-kind_of words.Ignore = IgnoreBin
 
 -- of `default sequence`, which isn't to stand under `ignore_bins`
 abbrev pub default_kind : Word → BinKind
@@ -49,12 +43,6 @@ abbrev pub is_removing : Word → Bool
 is_removing words.Bins = false
 is_removing words.Illegal = true
 is_removing words.Ignore = true
-
--- whether `[]` stands; a number in the brackets isn't to stand before sequences
-abbrev pub is_array : Size → Bool
-is_array sizes.Scalar = false
-is_array sizes.Open = true
-is_array (sizes.Fixed bins) = false
 
 -- ---- limits
 

@@ -1,6 +1,6 @@
 -- Laws: what the bins of a declaration of transitions and their removal mean (IEEE 1800-2017, 19.5.2, 19.5.5, 19.5.6).
-use Rattle.std.specs.Prelude.{◌≡◌, ◌↔◌, ℕ, ◌+◌, ◌≤◌, ℤ, List, [], ◌∷◌, length, Bool, true, false, Option, Ok, IsTrue, All, Any, Contains}
-use Rattle.std.specs.List.{AllByRecursion, filter, list_any}
+use Rattle.std.specs.Prelude.{◌≡◌, ◌≢◌, ◌↔◌, ℕ, ◌+◌, ◌≤◌, ℤ, List, [], ◌∷◌, length, Bool, true, false, Option, Ok, IsTrue, All, Any, Contains}
+use Rattle.std.specs.List.{AllByRecursion, AllPairs, filter, list_any}
 use Rattle.cov_ground.specs.Limits.{most_bins, most_cells}
 use Rattle.cov_tree.specs.declared.bins.BinsDecl.{BinsDecl}
 use Rattle.cov_tree.specs.declared.bins.Step.{Step}
@@ -17,7 +17,8 @@ use Rattle.elab_values.specs.declared.domain.Domain.{Domain}
 use Rattle.elab_values.specs.declared.made.Made.{Made}
 use Rattle.elab_transitions.specs.declared.plans.Before.{Before}
 use Rattle.elab_transitions.specs.declared.bins.TransBins.{TransBins}
-use Rattle.elab_transitions.specs.Bins.{kind_of, is_array, plan_of, list_bin, bins_made, trans_bins_of}
+use Rattle.elab_values.specs.Words.{is_array, kind_of}
+use Rattle.elab_transitions.specs.Bins.{plan_of, list_bin, bins_made, trans_bins_of}
 use Rattle.elab_transitions.specs.Tests.{in_some}
 use Rattle.elab_transitions.specs.Removal.{removing_of, is_seq_left, is_trans_left}
 
@@ -35,10 +36,11 @@ pub record IsKept (seqs removing : List Seq) (list : List ℤ) : Type 0 where
   pub not_removed : SomeHasWord removing list → ⊥
 
 -- The bins left of an array are those of the lists of known values that its sequences have and no removing sequence
--- has. Lists of which one is left stand at one place alone, since a list has one bin.
+-- has, each once.
 pub record AreOfLists (seqs removing : List Seq) (bin_of : List ℤ → Made) (left : List Made) : Type 0 where
   pub each : (made : Made) → Contains left made → (list : List ℤ) × IsKept seqs removing list × (made ≡ bin_of list)
   pub all : (list : List ℤ) → IsKept seqs removing list → Contains left (bin_of list)
+  pub once : AllPairs (λ a b. a ≢ b) left
 
 abbrev pub ArrayIsItsLists : Type 0
 ArrayIsItsLists = (b : BinsDecl) (declared : ℕ) (guard : Option Term) (seqs ignored illegal : List Seq) → list_any has_endless seqs ≡ false

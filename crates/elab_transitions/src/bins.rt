@@ -1,10 +1,10 @@
 //! The bins of one declaration.
 ghost use Rattle.std.specs.Prelude.{◌≡◌, IfOk, map};
 ghost use Rattle.elab_base.specs.Gives.{Gives};
-ghost use Rattle.elab_transitions.specs.Bins.{kind_of as kind_meant, default_kind as default_meant, made_bin, list_bin as bin_of_list, bins_made as bins_of_plan, removed_by, trans_made, seqs_binned, steps_binned, trans_bins_of, default_bin_of};
+ghost use Rattle.elab_transitions.specs.Bins.{default_kind as default_meant, made_bin, list_bin as bin_of_list, bins_made as bins_of_plan, removed_by, trans_made, seqs_binned, steps_binned, trans_bins_of, default_bin_of};
 
 use crate::lists::shown_list;
-use crate::plans::{Before, Plan, check_room, fit, is_array, is_bounded, is_removing};
+use crate::plans::{Before, Plan, check_room, fit, is_bounded, is_removing};
 use crate::seqs::seqs_in;
 use crate::shown::{Values, no_values};
 use crate::steps::{ListedStep, listed_sequences};
@@ -13,9 +13,9 @@ use cov_base::{Int, Memory};
 use cov_tree::{BinsDecl, List, Name, Step, Word};
 use design_data::{BinInfo, BinKind, BinRule};
 use elab_base::{ElabFault, ElabKind, copy_guard, guard_in};
-use elab_values::{Domain, Made};
+use elab_values::{Domain, Made, is_array, kind_of};
 use std::alloc::Global;
-use trans_seq::Seq;
+use trans_seq::{Seq, append_copies};
 
 /// The transition bins of a declaration.
 #[derive(Drop)]
@@ -26,16 +26,6 @@ pub struct TransBins {
     pub removed: List<Seq>,
     /// How many cells the point's ignored and illegal sequences have with these.
     pub removing: u64,
-}
-
-fn kind_of(word: Word) -> BinKind
-    ensures { result ≡ kind_meant word }
-{
-    match word {
-        Word::Bins => BinKind::CvgBin,
-        Word::Illegal => BinKind::IllegalBin,
-        Word::Ignore => BinKind::IgnoreBin,
-    }
 }
 
 fn default_kind(word: Word) -> BinKind
@@ -143,11 +133,9 @@ fn bins_made(
 fn copied(alloc: Global, seqs: &[Seq]) -> Result<List<Seq>, Memory>
     ensures { IfOk result (λ copies. copies ≡ seqs.now) }
 {
-    let mut copies = List::new(alloc);
-    for seq in seqs {
-        copies.push(seq.copy(alloc)?)?;
-    }
-    Ok(copies)
+    let mut copies = Vec::new(alloc);
+    append_copies(alloc, seqs, &mut copies)?;
+    Ok(List::of(copies))
 }
 
 fn removed_seqs(alloc: Global, word: Word, seqs: &[Seq]) -> Result<List<Seq>, Memory>

@@ -1,5 +1,5 @@
 //! What removal leaves of transition bins.
-ghost use Rattle.std.specs.Prelude.{◌≡◌, [], ◌++◌, IsTrue, IfOk, OnOk, true};
+ghost use Rattle.std.specs.Prelude.{◌≡◌, [], IsTrue, IfOk, true};
 ghost use Rattle.std.specs.List.{list_any};
 ghost use Rattle.trans_seq.specs.Words.{one_of as number_of_set, value_once as value_of_item, word_of as word_of_items};
 ghost use Rattle.design_data.specs.Left.{is_same_seq as are_same_seqs, has_numbers as has_ranges, has_lists as has_all_numbers};
@@ -12,7 +12,7 @@ use design_data::{BinInfo, BinKind, BinRule};
 use std::alloc::Global;
 use std::marker::Model;
 use trans_auto::Removing;
-use trans_seq::{Item, Repeat, Seq};
+use trans_seq::{Item, Repeat, Seq, append_copies};
 
 /// The ignored and the illegal sequences of a point, as they are declared. Contracts see these two lists.
 #[derive(Drop)]
@@ -104,15 +104,6 @@ fn only_list(alloc: Global, items: &[Item]) -> Result<Option<List<Int>>, Memory>
     Ok(Some(List::of(list)))
 }
 
-fn copied(alloc: Global, seqs: &[Seq], copies: &mut Vec<Seq>) -> Result<(), Memory>
-    ensures { OnOk result (copies.new.items ≡ copies.old.items ++ seqs.now) }
-{
-    for seq in seqs {
-        copies.push(seq.copy(alloc)?)?;
-    }
-    Ok(())
-}
-
 /// Sequences that take lists away. Those of a point have 120 cells at most together, so that none are refused.
 fn removing(alloc: Global, seqs: &[Seq]) -> Result<Removing, Memory>
     ensures { IfOk result (λ removing. removing ≡ seqs.now) }
@@ -143,8 +134,8 @@ impl Removers {
         ensures { IfOk result (λ removers. removers ≡ (ignored, illegal)) }
     {
         let mut seqs = Vec::new(alloc);
-        copied(alloc, ignored.as_slice(), &mut seqs)?;
-        copied(alloc, illegal.as_slice(), &mut seqs)?;
+        append_copies(alloc, ignored.as_slice(), &mut seqs)?;
+        append_copies(alloc, illegal.as_slice(), &mut seqs)?;
         let all = removing(alloc, seqs.as_slice())?;
         let forbidden = removing(alloc, illegal.as_slice())?;
         Ok(Removers {

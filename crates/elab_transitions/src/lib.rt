@@ -15,4 +15,4 @@ mod steps;
 
 pub use bins::{TransBins, default_bin, trans_bins};
 pub use left::Removers;
-pub use plans::{Before, is_array};
+pub use plans::Before;

@@ -5,13 +5,14 @@ ghost use Rattle.cov_ground.specs.Limits.{most_bins};
 ghost use Rattle.trans_seq.specs.Lists.{goes_on as repeat_goes_on, listed_by_all};
 ghost use Rattle.elab_base.specs.declared.fault.ElabKind.TheVariants as kinds;
 ghost use Rattle.elab_base.specs.Gives.{Gives, Fails, needs};
-ghost use Rattle.elab_transitions.specs.Bins.{is_removing as is_removing_word, is_array as is_array_size, any_goes_on as some_goes_on, is_bounded as is_bounded_by, is_within as is_within_limit, is_short as is_short_by, removing_after as removing_then, removing_in, bins_in, plan_in, fitted};
+ghost use Rattle.elab_transitions.specs.Bins.{is_removing as is_removing_word, any_goes_on as some_goes_on, is_bounded as is_bounded_by, is_within as is_within_limit, is_short as is_short_by, removing_after as removing_then, removing_in, bins_in, plan_in, fitted};
 
 use crate::steps::ListedStep;
 use cov_base::Int;
 use cov_ground::limits::{MOST_BINS, MOST_CELLS};
-use cov_tree::{BinsDecl, List, Size, Word};
+use cov_tree::{BinsDecl, List, Word};
 use elab_base::{ElabFault, ElabKind};
+use elab_values::is_array;
 use std::alloc::Global;
 use trans_seq::{ExpandFault, Repeat, Seq, cells, cells_of_seqs, expand_all};
 
@@ -42,17 +43,6 @@ pub(crate) fn is_removing(word: Word) -> bool
         Word::Bins => false,
         Word::Illegal => true,
         Word::Ignore => true,
-    }
-}
-
-/// Whether `[]` stands, so that each list of a declaration of transitions has a bin.
-pub fn is_array(size: &Size) -> bool
-    ensures { result ≡ is_array_size size.now }
-{
-    match size {
-        Size::Scalar => false,
-        Size::Open => true,
-        Size::Fixed(_) => false,
     }
 }
 

@@ -59,15 +59,15 @@ fn repeat(alloc: Global, scope: &Scope, times: &Times, at: u32) -> Result<Repeat
     match times {
         Times::Once => Ok(Repeat::Once),
         Times::Consec { low, high } => {
-            let (low, high) = ends(alloc, scope, low, high, at)?;
+            let (low, high) = ends(alloc, scope, low.get(), high.get(), at)?;
             Ok(Repeat::Consec { low, high })
         }
         Times::Goto { low, high } => {
-            let (low, high) = ends(alloc, scope, low, high, at)?;
+            let (low, high) = ends(alloc, scope, low.get(), high.get(), at)?;
             Ok(Repeat::Goto { low, high })
         }
         Times::NonConsec { low, high } => {
-            let (low, high) = ends(alloc, scope, low, high, at)?;
+            let (low, high) = ends(alloc, scope, low.get(), high.get(), at)?;
             Ok(Repeat::NonConsec { low, high })
         }
     }

@@ -34,8 +34,8 @@ pub struct Domain {
 pub fn domain_of(alloc: Global, typ: Typ) -> Result<Domain, Memory>
     ensures { IfOk result (λ domain. domain ≡ domain_of_typ typ) }
 {
-    let low = lowest_of(typ.width().get(), typ.is_signed());
-    let high = highest_of(typ.width().get(), typ.is_signed());
+    let low = lowest_of(typ.width(), typ.is_signed());
+    let high = highest_of(typ.width(), typ.is_signed());
     let numbers = ValueSet::from_ranges(alloc, &[(low, high)])?;
     Ok(Domain {
         typ,

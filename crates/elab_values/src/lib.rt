@@ -8,8 +8,10 @@ mod domain;
 mod elements;
 mod made;
 mod ranges;
+mod words;
 
 pub use domain::{Constant, Domain, domain_of, domain_of_constants};
 pub use elements::{Listed, element_pattern, elements_of};
 pub use made::{ItemDecls, Made, PointBins, Settings};
 pub use ranges::{numbers, numbers_listed};
+pub use words::{is_array, kind_of};

@@ -13,3 +13,4 @@ pub mod Meanings
 pub mod Faults
 pub mod Starts
 pub mod Squares
+pub mod Spelled

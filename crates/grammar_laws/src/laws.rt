@@ -1,14 +1,18 @@
 //! What holds of first tokens that begin a design. Each function does nothing: it stands for the law that it ensures.
-ghost use Rattle.std.specs.Prelude.{◌≡◌, ℕ, ◌+◌, ◌<◌, ◌≤◌, List, true, length, take, slice_get, Some, IsSome, ◌⊎◌};
+ghost use Rattle.std.specs.Prelude.{◌≡◌, ℕ, ◌+◌, ◌<◌, ◌≤◌, List, Bool, true, length, take, slice_get, Some, IsSome, ◌⊎◌};
 ghost use Rattle.cov_tree.specs.declared.expr.Expr.{Expr};
 ghost use Rattle.cov_tree.specs.declared.bins.Step.{Step};
 ghost use Rattle.cov_tree.specs.declared.bins.BinsDecl.{BinsDecl};
 ghost use Rattle.cov_tree.specs.declared.groups.Formal.{Formal};
 ghost use Rattle.cov_tree.specs.declared.groups.Member.{Member};
 ghost use Rattle.cov_lexer.specs.declared.token.Token.{Token};
-ghost use Rattle.cov_lexer.specs.declared.token.TokenKind.TheVariants.{Decimal, Based};
+ghost use Rattle.cov_lexer.specs.declared.token.TokenKind.TheVariants.{Keyword, Decimal, Based, Operator, NotSupported};
 ghost use Rattle.cov_lexer.specs.Lexes.{Lexes};
-ghost use Rattle.cov_lexer.specs.Literals.{literal_of};
+ghost use Rattle.cov_lexer.specs.declared.bytes.Base.{Base};
+ghost use Rattle.cov_lexer.specs.declared.bytes.Base.TheVariants.{Decimal as Ten};
+ghost use Rattle.cov_lexer.specs.Literals.{literal_of, decimal_literal, value_of, meaning, HasParts, IsBased};
+ghost use Rattle.cov_lexer.specs.Spellings.{words, operators, kind_among};
+ghost use Rattle.cov_lexer.specs.Operators.{sort_of};
 ghost use Rattle.cov_lexer.specs.declared.kind.Kind.{Kind};
 ghost use Rattle.cov_lexer.specs.declared.kind.Kind.TheVariants.{OpenIndex, OpenSquare};
 ghost use Rattle.cov_grammar.specs.declared.marked.Marked.{Marked};
@@ -126,6 +130,41 @@ pub fn literals_have_meanings()
         (place : ℕ) (token : Token) →
         slice_get tokens place ≡ Some token → (token.kind ≡ Decimal) ⊎ (token.kind ≡ Based) →
         literal_of (word_of text token) ≡ Some (literal_or (literal_of (word_of text token))) }
+{}
+
+/// Each literal among the tokens of a text means what its parts do. A decimal one is its number. A based one has a size or
+/// none, a sign or none, a base and digits, by the forms of the lexer, and its meaning is a function of these four.
+pub fn literals_mean_their_parts()
+    ensures decimal { (text : List ℕ) (tokens : List Token) → Lexes text tokens →
+        (place : ℕ) (token : Token) →
+        slice_get tokens place ≡ Some token → token.kind ≡ Decimal →
+        literal_of (word_of text token) ≡ decimal_literal (value_of Ten (word_of text token)) }
+    ensures parts { (text : List ℕ) (tokens : List Token) → Lexes text tokens →
+        (place : ℕ) (token : Token) →
+        slice_get tokens place ≡ Some token → token.kind ≡ Based → HasParts (word_of text token) }
+    ensures based { (text : List ℕ) (token : Token) →
+        (size : List ℕ) (signed : Bool) (base : Base) (digits : List ℕ) →
+        IsBased (word_of text token) size signed base digits →
+        literal_of (word_of text token) ≡ meaning size signed base digits }
+{}
+
+/// Each keyword and each operator among the tokens of a text has an entry in the table of spellings, with the kind that the
+/// token keeps: what the table says of a text without an entry is never asked. The sort of an operator's kind is the token's.
+pub fn words_have_entries()
+    ensures keyword { (text : List ℕ) (tokens : List Token) → Lexes text tokens →
+        (place : ℕ) (token : Token) →
+        slice_get tokens place ≡ Some token → token.kind ≡ Keyword →
+        kind_among (word_of text token) words ≡ Some token.spelled }
+    ensures operator { (text : List ℕ) (tokens : List Token) → Lexes text tokens →
+        (place : ℕ) (token : Token) →
+        slice_get tokens place ≡ Some token →
+        (token.kind ≡ Operator) ⊎ (token.kind ≡ NotSupported) →
+        kind_among (word_of text token) operators ≡ Some token.spelled }
+    ensures sort { (text : List ℕ) (tokens : List Token) → Lexes text tokens →
+        (place : ℕ) (token : Token) →
+        slice_get tokens place ≡ Some token →
+        (token.kind ≡ Operator) ⊎ (token.kind ≡ NotSupported) →
+        sort_of token.spelled ≡ token.kind }
 {}
 
 /// The rules whose trees say where they begin (`here`) have a token there: the byte behind the last token, where `offset`

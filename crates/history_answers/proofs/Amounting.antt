@@ -1,25 +1,23 @@
 -- Amounts before and after a change.
 use Rattle.std.proofs.Common.{◌≡◌, ◌∙◌, ℕ, ◌+◌, ◌<◌, ◌≤◌, Bool, true, false, not, cond, ◌&&◌, ◌||◌, List, [], ◌∷◌, ◌++◌, length, refl, sym, ap, subst, arith, Option, Some, None, is_none}
-use Rattle.std.specs.Prelude.{sum_by, count_by, filter, find, nat_lt, ◌^◌}
+use Rattle.std.specs.Prelude.{sum_by, count_by, filter, ◌^◌}
 use Rattle.std.proofs.lemmas.List.{length_push}
-use Rattle.std.proofs.lemmas.List.Sums.{sum_by-cons, sum_by_push}
+use Rattle.std.proofs.lemmas.List.Sums.{sum_by_push}
 use Rattle.design_data.specs.declared.design.Design.{Design}
-use Rattle.record_codec.specs.declared.record.Record.{Record}
-use Rattle.record_codec.specs.Spelling.{spelling}
 use Rattle.ucis_model.specs.declared.answers.Answer.{Answer}
-use Rattle.ucis_model.specs.declared.answers.Answer.TheVariants as answers
 use Rattle.ucis_model.specs.declared.answers.Which.{Which}
 use Rattle.ucis_model.specs.declared.answers.Which.TheVariants.{Tests, Bytes, Entries, History}
 use Rattle.cov_history.specs.declared.entry.Revision.{Revision}
-use Rattle.cov_history.specs.declared.entry.Event.TheVariants.{Admit, Exclude, Revise}
+use Rattle.cov_history.specs.declared.entry.Event.TheVariants.{Exclude, Revise}
 use Rattle.cov_history.specs.declared.entry.Entry.{Entry}
 use Rattle.cov_history.specs.History.{design_of, tests_of, bytes_in, contents, out_of, is_found, is_stop, has_stop, bins_hit, amount, most, passed, suits, may_follow, is_legal}
 use Rattle.cov_history.specs.Answers.{by, unless_full, change}
 use Rattle.cov_history.proofs.Bools.{and_left}
 use Rattle.cov_history.proofs.Snoc.{test_count_snoc, bytes_snoc, entries_snoc, history_snoc, stop_snoc}
 use Rattle.cov_history.proofs.Legal.{kept_along, legal_within, within_of}
+use Rattle.cov_history.proofs.Amounting.{passed_is, full_is}
 use Rattle.cov_history.specs.declared.amounts.Amounts.{Amounts}
-use Rattle.cov_history.specs.Amounts.{AreAmounts, first_passed}
+use Rattle.cov_history.specs.Amounts.{AreAmounts, amount_in, first_passed}
 use Rattle.history_answers.specs.Amounts.{told_by}
 
 -- ---- legal histories are short
@@ -64,41 +62,46 @@ legal_short opening h l =
 
 pub amounts_are : (opening : Design) (h : List Entry) (a : Amounts) → a.tests ≡ length (tests_of h) → a.bytes ≡ sum_by (λ (e : Entry). bytes_in e.event) h → a.entries ≡ sum_by (bins_hit (design_of opening h)) (contents h)
     → a.history ≡ count_by (λ (e : Entry). not (is_stop e.event)) h + length (out_of h) → AreAmounts opening h a
-amounts_are opening h a t b e o Tests = t
-amounts_are opening h a t b e o Bytes = b
-amounts_are opening h a t b e o Entries = e
-amounts_are opening h a t b e o History = o
+amounts_are opening h a t b e o = record { tests = t; bytes = b; entries = e; history = o }
+
+pub amount_is : (opening : Design) (h : List Entry) (a : Amounts) → AreAmounts opening h a → (which : Which) → amount_in a which ≡ amount opening h which
+amount_is opening h a are Tests = are.tests
+amount_is opening h a are Bytes = are.bytes
+amount_is opening h a are Entries = are.entries
+amount_is opening h a are History = are.history
 
 -- ---- one more change
 
-pub admitted_amounts : (opening : Design) (h : List Entry) (caller : ℕ) (r : Record) (before after : Amounts) → AreAmounts opening h before → after.tests ≡ before.tests + 1 → after.bytes ≡ before.bytes + length (spelling r)
-    → after.entries ≡ before.entries + bins_hit (design_of opening h) r → after.history ≡ before.history + 1 → AreAmounts opening (h ++ by caller (Admit r) ∷ []) after
-admitted_amounts opening h caller r before after are t b e o Tests = let s = test_count_snoc opening h (by caller (Admit r)) in let a = are Tests in omega (arith, t, a, s)
-admitted_amounts opening h caller r before after are t b e o Bytes = let s = bytes_snoc opening h (by caller (Admit r)) in let a = are Bytes in omega (arith, b, a, s)
-admitted_amounts opening h caller r before after are t b e o Entries =
-    let s = entries_snoc opening h (by caller (Admit r)) in
-    let one = sum_by-cons (bins_hit (design_of opening h)) r [] in
-    let a = are Entries in
-    omega (arith, e, a, s, one)
-admitted_amounts opening h caller r before after are t b e o History = let s = history_snoc opening h (by caller (Admit r)) in let a = are History in omega (arith, o, a, s)
-
 pub excluded_amounts : (opening : Design) (h : List Entry) (caller : ℕ) (path : List ℕ) (before after : Amounts) → AreAmounts opening h before → after.tests ≡ before.tests → after.bytes ≡ before.bytes
     → after.entries ≡ before.entries → after.history ≡ before.history + 2 → AreAmounts opening (h ++ by caller (Exclude path) ∷ []) after
-excluded_amounts opening h caller path before after are t b e o Tests = let s = test_count_snoc opening h (by caller (Exclude path)) in let a = are Tests in omega (arith, t, a, s)
-excluded_amounts opening h caller path before after are t b e o Bytes = let s = bytes_snoc opening h (by caller (Exclude path)) in let a = are Bytes in omega (arith, b, a, s)
-excluded_amounts opening h caller path before after are t b e o Entries = let s = entries_snoc opening h (by caller (Exclude path)) in let a = are Entries in omega (arith, e, a, s)
-excluded_amounts opening h caller path before after are t b e o History =
-    let s = history_snoc opening h (by caller (Exclude path)) in
-    let a = are History in
+excluded_amounts opening h caller path before after are t b e o =
+    let x = by caller (Exclude path) in
+    let n = test_count_snoc opening h x in
+    let m = bytes_snoc opening h x in
+    let s = entries_snoc opening h x in
+    let l = history_snoc opening h x in
     let p = length_push (out_of h) path in
-    omega (arith, o, a, s, p)
+    record {
+      tests = omega (arith, t, are.tests, n);
+      bytes = omega (arith, b, are.bytes, m);
+      entries = omega (arith, e, are.entries, s);
+      history = omega (arith, o, are.history, l, p);
+    }
 
 pub revised_amounts : (opening : Design) (h : List Entry) (caller : ℕ) (revision : Revision) (before after : Amounts) → AreAmounts opening h before → after.tests ≡ before.tests → after.bytes ≡ before.bytes + length revision.text
     → after.entries ≡ sum_by (bins_hit revision.design) (contents h) → after.history ≡ (count_by (λ e. not (is_stop e.event)) h + 1) + length (filter (is_found revision.design) (out_of h)) → AreAmounts opening (h ++ by caller (Revise revision) ∷ []) after
-revised_amounts opening h caller revision before after are t b e o Tests = let s = test_count_snoc opening h (by caller (Revise revision)) in let a = are Tests in omega (arith, t, a, s)
-revised_amounts opening h caller revision before after are t b e o Bytes = let s = bytes_snoc opening h (by caller (Revise revision)) in let a = are Bytes in omega (arith, b, a, s)
-revised_amounts opening h caller revision before after are t b e o Entries = let s = entries_snoc opening h (by caller (Revise revision)) in omega (arith, e, s)
-revised_amounts opening h caller revision before after are t b e o History = let s = history_snoc opening h (by caller (Revise revision)) in omega (arith, o, s)
+revised_amounts opening h caller revision before after are t b e o =
+    let x = by caller (Revise revision) in
+    let n = test_count_snoc opening h x in
+    let m = bytes_snoc opening h x in
+    let s = entries_snoc opening h x in
+    let l = history_snoc opening h x in
+    record {
+      tests = omega (arith, t, are.tests, n);
+      bytes = omega (arith, b, are.bytes, m);
+      entries = omega (arith, e, s);
+      history = omega (arith, o, l);
+    }
 
 -- ---- the answer
 
@@ -107,7 +110,7 @@ change_is opening h e before after made answer b a is = is ∙ same (first_passe
   where
     same : (o : Option Which) → told_by before after o made ≡ unless_full opening h (h ++ e ∷ []) o made
     same None = refl
-    same (Some which) = λ i. answers.Full which (b which i) (a which i)
+    same (Some which) = sym (full_is opening h (h ++ e ∷ []) before after b a which)
 
     first : first_passed after ≡ passed opening (h ++ e ∷ [])
-    first = λ i. find (λ which. nat_lt (most which) (a which i)) (Tests ∷ Bytes ∷ Entries ∷ History ∷ [])
+    first = sym (passed_is opening (h ++ e ∷ []) after a)

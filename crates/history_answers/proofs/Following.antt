@@ -1,17 +1,16 @@
 -- Admissions one after the other.
 use Rattle.std.proofs.Common.{◌≡◌, ◌∙◌, ℕ, ◌+◌, Bool, true, false, not, ◌&&◌, ◌||◌, List, [], ◌∷◌, ◌++◌, length, arith, refl, sym, ap, Option, Some, None, is_some, is_none, true≢false}
-use Rattle.std.specs.Prelude.{find, bytes_eq, nat_lt}
+use Rattle.std.specs.Prelude.{find, bytes_eq}
 use Rattle.std.specs.List.{list_any}
 use Rattle.design_data.specs.declared.design.Design.{Design}
 use Rattle.record_codec.specs.declared.record.Record.{Record}
 use Rattle.ucis_model.specs.declared.answers.Which.{Which}
-use Rattle.ucis_model.specs.declared.answers.Which.TheVariants.{Tests, Bytes, Entries, History}
 use Rattle.cov_history.specs.declared.entry.Event.{Event}
 use Rattle.cov_history.specs.declared.entry.Event.TheVariants.{Admit, Exclude, Include, Revise, Stop}
 use Rattle.cov_history.specs.declared.entry.Entry.{Entry}
-use Rattle.cov_history.specs.History.{Test, tests_in, tests_from, kept, has_stop, suits, most, passed, may_follow, is_legal}
+use Rattle.cov_history.specs.History.{Test, tests_in, tests_from, kept, has_stop, suits, passed, may_follow}
 use Rattle.cov_history.specs.Answers.{by}
-use Rattle.cov_history.proofs.Snoc.{legal_snoc}
+use Rattle.cov_history.proofs.Amounting.{passed_is}
 use Rattle.cov_history.specs.declared.amounts.Amounts.{Amounts}
 use Rattle.cov_history.specs.Amounts.{AreAmounts, first_passed}
 use Rattle.history_answers.specs.Kept.{admits}
@@ -40,10 +39,6 @@ pub empty : {X : Type 0} (p : X → Bool) (xs : List X) → length xs ≡ 0 → 
 empty p [] e = refl
 empty p (x ∷ xs) e = absurd (omega (arith, e))
 
--- the first limit that is passed, by the amounts
-pub passed_is : (opening : Design) (h : List Entry) (a : Amounts) → AreAmounts opening h a → first_passed a ≡ passed opening h
-passed_is opening h a are = λ i. find (λ which. nat_lt (most which) (are which i)) (Tests ∷ Bytes ∷ Entries ∷ History ∷ [])
-
 last_of : (a b c : Bool) → (a && b) ≡ true → (a && (b && c)) ≡ c
 last_of true true c e = refl
 last_of true false c e = absurd (true≢false (sym e))
@@ -53,7 +48,7 @@ last_of false b c e = absurd (true≢false (sym e))
 pub may_if : (opening : Design) (h : List Entry) (caller : ℕ) (r : Record) (after : Amounts) → (not (has_stop h) && suits opening h (Admit r)) ≡ true → AreAmounts opening (h ++ by caller (Admit r) ∷ []) after
     → may_follow opening h (by caller (Admit r)) ≡ is_none (first_passed after)
 may_if opening h caller r after free are =
-    last_of (not (has_stop h)) (suits opening h (Admit r)) (is_none (passed opening (h ++ by caller (Admit r) ∷ []))) free ∙ ap is_none (sym (passed_is opening (h ++ by caller (Admit r) ∷ []) after are))
+    last_of (not (has_stop h)) (suits opening h (Admit r)) (is_none (passed opening (h ++ by caller (Admit r) ∷ []))) free ∙ ap is_none (passed_is opening (h ++ by caller (Admit r) ∷ []) after are)
 
 pub none_of : (o : Option Which) → is_some o ≡ true → is_none o ≡ false
 none_of None e = sym e

@@ -1,5 +1,5 @@
 -- A store with one more test.
-use Rattle.std.proofs.Common.{◌≡◌, ℕ, ◌+◌, ◌<◌, ◌≤◌, true, false, List, [], ◌∷◌, ◌++◌, length, map, take, refl, sym, ap, subst, ◌∙◌, arith, Option, Some, None, nat_lt, lt-ltb, le-ltb, inl, inr}
+use Rattle.std.proofs.Common.{◌≡◌, ℕ, ◌+◌, ◌<◌, ◌≤◌, true, false, List, [], ◌∷◌, ◌++◌, length, map, take, refl, sym, ap, subst, ◌∙◌, arith, Option, Some, None, lt-ltb, le-ltb, inl, inr}
 use Rattle.std.specs.Prelude.{slice_index}
 use Rattle.std.proofs.lemmas.Bool.{cases_lt}
 use Rattle.std.proofs.Math.ListN.{get_or-eq_default}
@@ -7,22 +7,22 @@ use Rattle.std.proofs.lemmas.List.{map-append, length-map}
 use Rattle.tally.specs.Rows.{rows_from, count_in, Adds, HasRoom}
 use Rattle.design_data.specs.declared.design.Design.{Design}
 use Rattle.record_codec.specs.declared.record.Record.{Record}
-use Rattle.record_codec.specs.Spelling.{spelling}
 use Rattle.ucis_model.specs.declared.node.Node.{Node}
 use Rattle.ucis_model.specs.declared.answers.Which.{Which}
-use Rattle.ucis_model.specs.declared.answers.Which.TheVariants.{Tests, Bytes, Entries, History}
+use Rattle.ucis_model.specs.declared.answers.Which.TheVariants.{Tests}
 use Rattle.ucis_model.specs.declared.answers.Answer.TheVariants as answer
 use Rattle.ucis_model.specs.Nodes.{nodes_of}
 use Rattle.cov_history.specs.declared.entry.Event.TheVariants.{Admit}
 use Rattle.cov_history.specs.declared.entry.Entry.{Entry}
 use Rattle.cov_history.specs.Tallies.{tally}
-use Rattle.cov_history.specs.History.{Test, design_of, tests_of, contents, hits, count_of, is_revise, bins_hit, amount, most, is_over, passed, suits, kept}
+use Rattle.cov_history.specs.History.{Test, design_of, tests_of, contents, hits, count_of, is_revise, amount, most, passed, suits, kept}
 use Rattle.cov_history.specs.Answers.{admit_at, by, stands_since, change}
-use Rattle.cov_history.proofs.Snoc.{design_snoc, tests_snoc, out_snoc, test_count_snoc, bytes_snoc, entries_snoc, history_snoc, counts_snoc}
+use Rattle.cov_history.proofs.Snoc.{design_snoc, tests_snoc, out_snoc, counts_snoc}
 use Rattle.cov_history.proofs.Legal.{within_of}
 use Rattle.cov_history.proofs.Made.{design_since}
-use Rattle.merge_store.specs.declared.amounts.Amounts.{Amounts}
-use Rattle.merge_store.specs.Amounts.{AreAmounts, amount_in, first_passed}
+use Rattle.cov_history.proofs.Amounting.{passed_is, full_is}
+use Rattle.cov_history.specs.declared.amounts.Amounts.{Amounts}
+use Rattle.cov_history.specs.Amounts.{AreAmounts, amount_in, first_passed}
 use Rattle.merge_store.specs.Keeps.{HasOut, Keeps, rows_of}
 use Rattle.merge_store.specs.May.{MayAdmit}
 use Rattle.merge_store.proofs.Steps.{legal_more, going_more, last_same}
@@ -30,35 +30,6 @@ use Rattle.merge_store.proofs.Tallied.{counted, sum_few, hits_few, no_hits}
 
 abbrev pub test_at : ℕ → Record → Test
 test_at point r = record { point = point; content = r }
-
-pub passed_is : (opening : Design) (h : List Entry) (a : Amounts) → AreAmounts opening h a → passed opening h ≡ first_passed a
-passed_is opening h a are =
-    let t : is_over opening h Tests ≡ nat_lt 4096 a.tests = ap (nat_lt 4096) (sym are.tests) in
-    let b : is_over opening h Bytes ≡ nat_lt 268435456 a.bytes = ap (nat_lt 268435456) (sym are.bytes) in
-    let e : is_over opening h Entries ≡ nat_lt 16777216 a.entries = ap (nat_lt 16777216) (sym are.entries) in
-    let y : is_over opening h History ≡ nat_lt 1048576 a.history = ap (nat_lt 1048576) (sym are.history) in
-    rw (t, b, e, y) refl
-
-pub full_is : (opening : Design) (before after : List Entry) (now later : Amounts) → AreAmounts opening before now → AreAmounts opening after later → (w : Which) → answer.Full w (amount opening before w) (amount opening after w) ≡ answer.Full w (amount_in now w) (amount_in later w)
-full_is opening before after now later a b Tests = λ i. answer.Full Tests (sym a.tests i) (sym b.tests i)
-full_is opening before after now later a b Bytes = λ i. answer.Full Bytes (sym a.bytes i) (sym b.bytes i)
-full_is opening before after now later a b Entries = λ i. answer.Full Entries (sym a.entries i) (sym b.entries i)
-full_is opening before after now later a b History = λ i. answer.Full History (sym a.history i) (sym b.history i)
-
--- the amounts with one more test
-pub amounts_more : (opening : Design) (h : List Entry) (caller : ℕ) (r : Record) (now after : Amounts) → AreAmounts opening h now → after.tests ≡ now.tests + 1 → after.bytes ≡ now.bytes + length (spelling r) → after.entries ≡ now.entries + bins_hit (design_of opening h) r → after.history ≡ now.history + 1 → AreAmounts opening (h ++ by caller (Admit r) ∷ []) after
-amounts_more opening h caller r now after a t b e y =
-    let x = by caller (Admit r) in
-    let n = test_count_snoc opening h x in
-    let m = bytes_snoc opening h x in
-    let s = entries_snoc opening h x in
-    let o = history_snoc opening h x in
-    record {
-      tests = omega (arith, t, a.tests, n);
-      bytes = omega (arith, b, a.bytes, m);
-      entries = omega (arith, e, a.entries, s);
-      history = omega (arith, y, a.history, o);
-    }
 
 module _ {opening design : Design} {nodes : List Node} {h : List Entry} {tests : List (List ℕ × Test)} {tallies : List (List (ℕ × ℕ))} {counts : List ℕ} {out : List (Option (List ℕ))} {outs bytes entries revised : ℕ} (k : Keeps opening design nodes h tests tallies counts out outs bytes entries revised) where
   -- ---- what is answered to a new id

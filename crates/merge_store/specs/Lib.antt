@@ -1,7 +1,6 @@
 pub mod Branches
 pub mod Groups
 pub mod Runs
-pub mod Amounts
 pub mod Keeps
 pub mod Words
 pub mod Stores

@@ -4,17 +4,17 @@ ghost use Rattle.cov_history.specs.declared.entry.Event.TheVariants as event;
 ghost use Rattle.cov_history.specs.declared.asks.Ask.TheVariants as ask;
 ghost use Rattle.cov_history.specs.History.{design_of};
 ghost use Rattle.cov_history.specs.Answers.{admit_at, by, Suits};
-ghost use Rattle.merge_store.specs.Amounts.{AreAmounts};
+ghost use Rattle.cov_history.specs.Amounts.{AreAmounts};
 ghost use Rattle.merge_store.specs.May.{MayAdmit, IsJudged};
 ghost use Rattle.merge_store.specs.Told.{Makes, IsPoint, admitted};
 ghost use Rattle.merge_store.specs.Stores.{opening_of, entries_of};
 
-use crate::amounts::{Amounts, amount, passed};
 use crate::held::{Held, HeldEvent, Kept};
 use crate::kept::{add_counts, add_test};
 use crate::marks::mark_rows;
 use crate::room::put;
 use crate::{AdmitFault, Admitted, Store};
+use cov_history::{Amounts, amount, passed};
 use sampler::Prepared;
 
 /// What becomes of a record, apart from want of memory.

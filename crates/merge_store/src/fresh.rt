@@ -10,6 +10,7 @@ use cov_base::Memory;
 use cov_tree::Name;
 use design_data::Design;
 use indexmap::IndexMap;
+use sampler::Planned;
 use std::alloc::Global;
 use std::sync::Arc;
 
@@ -39,7 +40,7 @@ impl Store {
         let counts = no_counts(alloc, design.bin_count())?;
         let out = nothing_out(alloc, branches.len())?;
         let runs = marks_of(alloc, &branches, counts.as_slice(), out.as_slice())?;
-        let again = design.clone()?;
+        let again = Planned::of(alloc, &design)?;
         Ok(Store {
             alloc,
             opening: design,

@@ -5,6 +5,7 @@ ghost use Rattle.std.specs.Cmp.Lexicographic.{pointwise};
 ghost use Rattle.indexmap.specs.IndexMap.{get_by, spare};
 ghost use Rattle.tally.specs.Rows.{count_in, Adds, HasRoom};
 ghost use Rattle.tally.specs.declared.tally.Tally.{Tally};
+ghost use Rattle.cov_ground.specs.Limits.{most_tests};
 ghost use Rattle.cov_history.specs.History.{Test, kept, design_of, tests_of};
 ghost use Rattle.merge_store.specs.Keeps.{rows_of};
 ghost use Rattle.merge_store.specs.Words.{test_of};
@@ -57,7 +58,7 @@ impl Store {
     /// How many tests there are.
     pub(crate) fn test_count(&self) -> usize
         ensures tests { result ≡ length (tests_of (entries_of self.now)) }
-        ensures few { result ≤ 4096 }
+        ensures few { result ≤ most_tests }
     {
         self.tests.len()
     }

@@ -5,7 +5,6 @@
 #![tactic(auto)]
 
 mod admit;
-mod amounts;
 mod basis;
 mod book;
 mod branches;

@@ -15,6 +15,7 @@ use crate::branches::Facts;
 use cov_base::Memory;
 use cov_tree::Name;
 use design_data::{BinKind, Design};
+use sampler::Planned;
 use std::sync::Arc;
 use ucis_model::{CountRow, Node, NodeKind};
 
@@ -42,6 +43,13 @@ impl Store {
     /// The design of now.
     pub fn design(&self) -> &Arc<Design>
         ensures { arc_value result.now ≡ design_of (opening_of self.now) (entries_of self.now) }
+    {
+        self.design.design()
+    }
+
+    /// The same, with what is worked out of it once.
+    pub fn planned(&self) -> &Planned
+        ensures { result.now ≡ design_of (opening_of self.now) (entries_of self.now) }
     {
         &self.design
     }

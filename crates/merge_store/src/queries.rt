@@ -305,7 +305,7 @@ impl Store {
             return Answer::Ahead { have };
         }
         Answer::Welcome {
-            bins: self.design.bin_count(),
+            bins: self.design().bin_count(),
         }
     }
 }

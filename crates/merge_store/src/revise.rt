@@ -6,7 +6,7 @@ ghost use Rattle.cov_history.specs.History.{is_test_or_revise, is_found, out_of}
 ghost use Rattle.cov_history.specs.Answers.{revise_at, by, stands_since};
 ghost use Rattle.cov_history.specs.Sums.{all_hits};
 ghost use Rattle.store_core.specs.Asks.{IsReadied, revision_of};
-ghost use Rattle.merge_store.specs.Amounts.{AreAmounts};
+ghost use Rattle.cov_history.specs.Amounts.{AreAmounts};
 ghost use Rattle.merge_store.specs.Keeps.{IsLast};
 ghost use Rattle.merge_store.specs.Lasts.{is_test};
 ghost use Rattle.merge_store.specs.Remakes.{IsRemade, MayRevise, IsRefused};
@@ -14,11 +14,11 @@ ghost use Rattle.merge_store.specs.Runs.{HasMarks};
 ghost use Rattle.merge_store.specs.Told.{Makes, revised};
 ghost use Rattle.merge_store.specs.Stores.{opening_of, entries_of};
 
-use crate::amounts::{Amounts, amount, passed};
 use crate::held::{Held, HeldEvent};
 use crate::remaking::{Remade, set_tallies};
 use crate::room::put;
 use crate::{ReviseFault, Store};
+use cov_history::{Amounts, amount, passed};
 use store_core::Rebinned;
 
 /// A revision that nothing stands against but want of memory.

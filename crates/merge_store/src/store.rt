@@ -14,6 +14,7 @@ use crate::runs::Runs;
 use cov_tree::Name;
 use design_data::Design;
 use indexmap::IndexMap;
+use sampler::Planned;
 use std::alloc::Global;
 use std::sync::Arc;
 
@@ -22,7 +23,8 @@ use std::sync::Arc;
 pub struct Store {
     pub(crate) alloc: Global,
     pub(crate) opening: Arc<Design>,
-    pub(crate) design: Arc<Design>,
+    /// The design of now, with what is worked out of it once.
+    pub(crate) design: Planned,
     pub(crate) branches: Branches,
     /// What is marked of each bin of the branches.
     pub(crate) runs: Runs,
@@ -38,7 +40,7 @@ pub struct Store {
     pub(crate) rows: u64,
     /// The point after the last revision, and 0 where there is none.
     pub(crate) revised: u64,
-    ghost keeps: { Keeps (arc_value opening) (arc_value design) branches
+    ghost keeps: { Keeps (arc_value opening) design branches
         (map entry_of entries.items) (map (λ e. (e.0.items, test_of e.1)) tests.entries)
         (map (λ e. arc_value e.1.tally) tests.entries) counts.items
         (map (λ p. option_map arc_value p) out.items) outs bytes rows revised } by { Prim.hlevel (props, IsWithinLimits-prop, IsDesign-prop) },

@@ -253,9 +253,9 @@ impl Shown {
         self.elems(&step.elems);
         match &step.times {
             Times::Once => {}
-            Times::Consec { low, high } => self.times(b"*", low, high),
-            Times::Goto { low, high } => self.times(b"->", low, high),
-            Times::NonConsec { low, high } => self.times(b"=", low, high),
+            Times::Consec { low, high } => self.times(b"*", low.get(), high.get()),
+            Times::Goto { low, high } => self.times(b"->", low.get(), high.get()),
+            Times::NonConsec { low, high } => self.times(b"=", low.get(), high.get()),
         }
         self.put(b">");
         self.put_at(step.at);

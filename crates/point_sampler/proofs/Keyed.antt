@@ -64,12 +64,15 @@ module _ (base : ℤ) where
 
 -- ---- what is listed
 
-pub listed_more : (old set new : List (ℤ × ℤ)) (rule : BinRule) (v : ℤ) → new ≡ old ++ set → rule ≡ Values set → is_in (written new) v ≡ (is_in (written old) v || lists (Some v) rule)
-listed_more old set new rule v e is =
+-- the numbers of further ranges
+pub ranges_more : (old set new : List (ℤ × ℤ)) (v : ℤ) → new ≡ old ++ set → is_in (written new) v ≡ (is_in (written old) v || is_in (written set) v)
+ranges_more old set new v e =
     is_in-written new v ∙ ap (λ (ranges : List (ℤ × ℤ)). covers ranges v) e ∙ list_any-append (is_within v) old set
     ∙ ap (λ (b : Bool). b || covers set v) (sym (is_in-written old v))
     ∙ ap (λ (b : Bool). is_in (written old) v || b) (sym (is_in-written set v))
-    ∙ ap (λ (r : BinRule). is_in (written old) v || lists (Some v) r) (sym is)
+
+pub listed_more : (old set new : List (ℤ × ℤ)) (rule : BinRule) (v : ℤ) → new ≡ old ++ set → rule ≡ Values set → is_in (written new) v ≡ (is_in (written old) v || lists (Some v) rule)
+listed_more old set new rule v e is = ranges_more old set new v e ∙ ap (λ (r : BinRule). is_in (written old) v || lists (Some v) r) (sym is)
 
 pub none_listed : (ranges : List (ℤ × ℤ)) (v : ℤ) → ranges ≡ [] → is_in (written ranges) v ≡ false
 none_listed ranges v e = ap (λ (rs : List (ℤ × ℤ)). is_in (written rs) v) e ∙ is_in-written [] v

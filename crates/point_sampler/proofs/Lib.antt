@@ -8,4 +8,5 @@ mod Still
 mod Keyed
 mod Asking
 mod Resting
+mod Passing
 mod Bounds

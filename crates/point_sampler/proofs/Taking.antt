@@ -1,6 +1,6 @@
 -- The places of bins that are met, counted one by one.
 use Rattle.std.proofs.Common.{◌≡◌, ◌≢◌, ◌⊎◌, ℕ, zero, suc, ◌+◌, ◌<◌, ◌≤◌, List, [], ◌∷◌, ◌++◌, length, get_or, take, Bool, true, false, cond, Some, None, All, refl, ap, sym, subst, ◌∙◌, inl, inr, arith, length-append}
-use Rattle.std.specs.Prelude.{filter, Contains, AllPairs, slice_get, slice_index, slice_set}
+use Rattle.std.specs.Prelude.{filter, Contains, AllPairs, slice_get, slice_index, slice_set, Option, IfSome}
 use Rattle.std.proofs.lemmas.Bool.{false≢true, true≢false, cases_lt}
 use Rattle.std.proofs.lemmas.List.{get_or-set_same, get_or-set_other}
 use Rattle.std.proofs.lemmas.List.Elements.{Contains-append_left, Contains-push, Contains-push_cases, Contains-get_or}
@@ -13,7 +13,8 @@ use Rattle.design_data.specs.Bins.{is_coverage}
 use Rattle.record_codec.specs.Samples.{Env}
 use Rattle.cov_counting.specs.Hits.{holds}
 use Rattle.point_sampler.specs.declared.plan.Entry.{Entry}
-use Rattle.point_sampler.specs.Plans.{covering, IsEntry, IsPlain, AreEntries, AreEntriesOf}
+use Rattle.const_eval.specs.Terms.{Term}
+use Rattle.point_sampler.specs.Plans.{covering, IsGuardAt, IsEntry, IsPlain, AreEntries, AreEntriesOf}
 use Rattle.point_sampler.specs.Met.{raised, IsOn, PlaceTaken, IsNoted, AllTaken}
 
 pub same_bin : (bins : List BinInfo) (place : ℕ) (a b : BinInfo) → slice_get bins place ≡ Some a → slice_get bins place ≡ Some b → a ≡ b
@@ -68,6 +69,11 @@ slice_get_last [] y = refl
 slice_get_last (x ∷ xs) y = slice_get_last xs y
 
 -- one bin more
+-- the place of a guard is that of a bin
+pub before_within : (bins : List BinInfo) (before : Option ℕ) (guard : Option Term) → IsGuardAt bins before guard → IfSome before (λ earlier. earlier < length bins)
+before_within bins None guard h = tt
+before_within bins (Some place) guard h = slice_get_within bins place h.0 h.1
+
 pub entries_more : (bins : List BinInfo) (place : ℕ) (bin : BinInfo) (entries : List Entry) (entry : Entry) → slice_get bins place ≡ Some bin → IsEntry bins place bin entry → AreEntriesOf bins place entries
     → AreEntriesOf bins (place + 1) (entries ++ entry ∷ [])
 entries_more bins place bin entries entry is here h = record {

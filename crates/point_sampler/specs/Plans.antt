@@ -1,8 +1,8 @@
 -- What the plan of a point prepares.
-use Rattle.std.specs.Prelude.{◌≡◌, ◌⊎◌, ⊤, ℤ, pos, ◌+ℤ◌, ◌<ℤ◌, ◌≤ℤ◌, ℕ, ◌+◌, ◌^◌, ◌<◌, ◌≤◌, nat_eq, bit_and, bit_xor, List, [], ◌∷◌, ◌++◌, length, filter, take, slice_get, slice_index_or, All, Option, Some, None, IfSome, Bool, true, false, not, if◌then◌else◌}
+use Rattle.std.specs.Prelude.{◌≡◌, ◌⊎◌, ⊤, ℤ, pos, ◌+ℤ◌, ◌-ℤ◌, ◌≤ℤ◌, ℕ, min, ◌+◌, ◌-◌, ◌^◌, ◌<◌, ◌≤◌, nat_eq, bit_and, bit_xor, List, [], ◌∷◌, ◌++◌, length, filter, take, slice_get, slice_index_or, All, Option, Some, None, IfSome, Bool, true, false, not, if◌then◌else◌}
 use Rattle.std.specs.List.{AllByRecursion}
 use Rattle.cov_ground.specs.Limits.{most_bins, most_cells}
-use Rattle.cov_base.specs.Sets.{is_within}
+use Rattle.cov_base.specs.Sets.{is_within, least, natural}
 use Rattle.bin_spec.specs.Types.{lowest, highest}
 use Rattle.wildcard_bins.specs.Patterns.{bits_of}
 use Rattle.const_eval.specs.Typs.{Typ}
@@ -136,13 +136,14 @@ abbrev pub machines_from : ℕ → List BinInfo → List Machine
 machines_from place [] = []
 machines_from place (bin ∷ bins) = machine_of place bin.kind bin.rule ++ machines_from (place + 1) bins
 
--- the value is Unknown or beyond the bounds that there are
-abbrev pub IsBeyond : Entrance → Value → Type 0
-IsBeyond entrance None = ⊤
-IsBeyond entrance (Some v) = (v <ℤ entrance.low) ⊎ (entrance.high <ℤ v)
+-- how far a number stands above the least one of an `Int`, or the last number of 64 bits
+abbrev pub key : ℤ → ℕ
+key v = min (natural (v -ℤ least)) (2 ^ 64 - 1)
 
+-- the value is beyond the bounds of the entrance
 abbrev pub IsOut : Entrance → Value → Type 0
-IsOut entrance v = (entrance.bounded ≡ true) × IsBeyond entrance v
+IsOut entrance None = entrance.bounded ≡ true
+IsOut entrance (Some v) = (key v < entrance.low) ⊎ (entrance.high < key v)
 
 -- the first of the items stands for one value, and this is none of its values
 abbrev pub BeginsElsewhere : Value → List Item → Type 0

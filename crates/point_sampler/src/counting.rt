@@ -1,26 +1,64 @@
 //! The counts of the bins that a sample meets.
-ghost use Rattle.std.specs.Prelude.{◌≡◌, ◌≢◌, ℕ, ◌+◌, ◌<◌, ◌≤◌, ◌∷◌, ◌++◌, [], length, slice_get, All, AllPairs, Option, Some, OnOk, if◌then◌else◌};
+ghost use Rattle.std.specs.Prelude.{◌≡◌, ◌≢◌, ℕ, ◌+◌, ◌<◌, ◌≤◌, ◌∷◌, ◌++◌, [], length, slice_get, All, AllPairs, Option, Some, IfSome, OnOk, if◌then◌else◌};
 ghost use Rattle.const_eval.specs.Terms.{Term};
 ghost use Rattle.cov_counting.specs.Hits.{holds as holds_at};
 ghost use Rattle.design_data.specs.declared.infos.BinInfo.{BinInfo as Bin};
 ghost use Rattle.point_sampler.specs.Plans.{AreEntries, IsEntry, IsGuardAt};
 ghost use Rattle.point_sampler.specs.Points.{IsOutside};
-ghost use Rattle.point_sampler.specs.Met.{PlaceTaken, AllTaken};
+ghost use Rattle.point_sampler.specs.Met.{PlaceTaken, AllTaken, IsAnswered};
 
 use crate::plan::Entry;
-use crate::rules::holds;
 use cov_base::{Int, Memory};
+use cov_counting::holds;
 use design_data::{BinInfo, ItemInfo};
+
+/// A guard that was asked at a sample, and its answer.
+#[derive(Clone, Copy, Drop)]
+pub struct Asked {
+    /// The place of a bin with the guard.
+    place: u32,
+    holds: bool,
+}
+
+/// Whether the guard of the bin at this place holds, by the answer that was given last, where that guard was asked.
+#[inline(always)]
+fn holds_at_place(
+    bins: &[BinInfo],
+    place: u32,
+    env: &[Option<Int>],
+    asked: &mut Option<Asked>,
+) -> bool
+    requires place { place < length bins.now }
+    requires asked { IfSome asked.old (IsAnswered bins.now env.now) }
+    ensures holds { (bin : Bin) → slice_get bins.now place ≡ Some bin → result ≡ holds_at bin.guard env.now }
+    ensures asked { IfSome asked.new (IsAnswered bins.now env.now) }
+{
+    if let Some(last) = asked {
+        if last.place == place {
+            return last.holds;
+        }
+    }
+    let holds = holds(&bins[place as usize].guard, env);
+    *asked = Some(Asked { place, holds });
+    holds
+}
 
 /// Whether the guard of the bin at this place holds; None stands for no guard.
 #[inline(always)]
-fn holds_of(bins: &[BinInfo], place: &Option<u32>, env: &[Option<Int>]) -> bool
-    requires { (guard : Option Term) × IsGuardAt bins.now place.now guard }
-    ensures { (guard : Option Term) → IsGuardAt bins.now place.now guard → result ≡ holds_at guard env.now }
+fn holds_of(
+    bins: &[BinInfo],
+    place: &Option<u32>,
+    env: &[Option<Int>],
+    asked: &mut Option<Asked>,
+) -> bool
+    requires guard { (guard : Option Term) × IsGuardAt bins.now place.now guard }
+    requires asked { IfSome asked.old (IsAnswered bins.now env.now) }
+    ensures holds { (guard : Option Term) → IsGuardAt bins.now place.now guard → result ≡ holds_at guard env.now }
+    ensures asked { IfSome asked.new (IsAnswered bins.now env.now) }
 {
     match place {
         None => true,
-        Some(place) => holds(&bins[*place as usize].guard, env),
+        Some(place) => holds_at_place(bins, *place, env, asked),
     }
 }
 
@@ -60,17 +98,20 @@ fn count_one(
     item: &ItemInfo,
     env: &[Option<Int>],
     place: u32,
+    asked: &mut Option<Asked>,
     counts: &mut [u64],
     row: &mut Vec<u32>,
 ) -> Result<(), Memory>
     requires entries { AreEntries item.now.bins entries.now }
     requires place { place < length item.now.bins }
+    requires asked { IfSome asked.old (IsAnswered item.now.bins env.now) }
     requires counts { item.now.first_bin + length item.now.bins ≤ length counts.old }
-    ensures { OnOk result (PlaceTaken item.now env.now place counts.old row.old.items counts.new row.new.items) }
+    ensures taken { OnOk result (PlaceTaken item.now env.now place counts.old row.old.items counts.new row.new.items) }
+    ensures asked { OnOk result (IfSome asked.new (IsAnswered item.now.bins env.now)) }
 {
     let bins = item.bins.as_slice();
     let entry = entry_at(entries, bins, place);
-    if !holds_of(bins, &entry.guard, env) {
+    if !holds_of(bins, &entry.guard, env, asked) {
         return Ok(());
     }
     let number = item.first_bin as usize + place as usize;
@@ -80,7 +121,7 @@ fn count_one(
 }
 
 /// Counts the bins at these places, whose rules are met, where their guards hold, and puts the numbers of the coverage
-/// bins among them into the row.
+/// bins among them into the row. A guard of bins that stand together is asked once.
 #[inline(always)]
 fn count_each(
     entries: &[Entry],
@@ -97,8 +138,9 @@ fn count_each(
     requires none { row.old.items ≡ [] }
     ensures { OnOk result (AllTaken item.now env.now met.now counts.old counts.new row.new.items) }
 {
+    let mut asked = None;
     for place in met {
-        count_one(entries, item, env, *place, counts, row)?;
+        count_one(entries, item, env, *place, &mut asked, counts, row)?;
     }
     Ok(())
 }
@@ -142,7 +184,7 @@ fn count_few(
     ensures { OnOk result (AllTaken item.now env.now met.now counts.old counts.new row.new.items) }
 {
     if let [place] = met {
-        count_one(entries, item, env, *place, counts, row)?;
+        count_one(entries, item, env, *place, &mut None, counts, row)?;
         return Ok(());
     }
     count_each(entries, item, env, met, counts, row)?;

@@ -1,45 +1,36 @@
 //! The values with which windows of a transition bin may begin.
-ghost use Rattle.std.specs.Prelude.{◌≡◌, ◌<ℤ◌, ℤ, [], false, IsTrue};
+ghost use Rattle.std.specs.Prelude.{◌≡◌, ◌⊎◌, ◌<◌, ◌≤◌, ℤ, [], Some, None, true, false, length, IsTrue};
 ghost use Rattle.std.specs.List.{AllByRecursion};
 ghost use Rattle.trans_seq.specs.Windows.{is_known_in};
 ghost use Rattle.design_data.specs.Laws.{Value};
-ghost use Rattle.point_sampler.specs.Plans.{IsEntrance, IsOut, BeginsElsewhere};
+ghost use Rattle.point_sampler.specs.Plans.{IsEntrance, IsOut, BeginsElsewhere, key as key_of_number};
+ghost use Rattle.point_sampler.specs.Met.{AreResting};
 
 use crate::plan::Entrance;
 use cov_base::{Int, ValueSet};
 use trans_auto::TransState;
 use trans_seq::{Item, Repeat, Seq};
 
-/// The least and the greatest number of an `Int`.
+/// The least number of an `Int`.
 const LEAST: i128 = -0x8000_0000_0000_0000;
-
-const GREATEST: i128 = 0xffff_ffff_ffff_ffff;
 
 /// That of windows that may begin with any value, Unknown included.
 fn open_entrance() -> Entrance
-    ensures { result.bounded ≡ false }
+    ensures { (v : Value) → IsOut result v → ⊥ }
 {
     Entrance {
         bounded: false,
-        low: Int::of(0),
-        high: Int::of(0),
+        low: 0,
+        high: u64::MAX,
     }
 }
 
-/// The lesser number.
-fn lesser(a: Int, b: Int) -> Int
-    ensures first { (v : ℤ) → v <ℤ result → v <ℤ a }
-    ensures second { (v : ℤ) → v <ℤ result → v <ℤ b }
+/// The key of a number.
+#[inline(always)]
+fn key_of(number: Int) -> u64
+    ensures { result ≡ key_of_number number }
 {
-    if a.get() < b.get() { a } else { b }
-}
-
-/// The greater number.
-fn greater(a: Int, b: Int) -> Int
-    ensures first { (v : ℤ) → result <ℤ v → a <ℤ v }
-    ensures second { (v : ℤ) → result <ℤ v → b <ℤ v }
-{
-    if a.get() > b.get() { a } else { b }
+    (number.get() - LEAST).min(u64::MAX as i128) as u64
 }
 
 /// With further windows, which begin with a value of the set.
@@ -51,8 +42,8 @@ fn with_set(set: &ValueSet, sofar: Entrance) -> Entrance
     if count == 0 {
         return sofar;
     }
-    let low = lesser(ranges[0].0, sofar.low);
-    let high = greater(ranges[count - 1].1, sofar.high);
+    let low = key_of(ranges[0].0).min(sofar.low);
+    let high = key_of(ranges[count - 1].1).max(sofar.high);
     Entrance {
         bounded: sofar.bounded,
         low,
@@ -93,34 +84,79 @@ pub(crate) fn entrance_of(seqs: &[Seq]) -> Entrance
 {
     let none = Entrance {
         bounded: true,
-        low: Int::of(GREATEST),
-        high: Int::of(LEAST),
+        low: u64::MAX,
+        high: 0,
     };
     with_seqs(seqs, none)
 }
 
-/// Whether the value is Unknown or beyond the bounds.
+/// Whether no window stands, and none begins with a number that has this key.
 #[inline(always)]
-fn is_out(entrance: &Entrance, value: &Option<Int>) -> bool
-    ensures { IsTrue result → IsOut entrance.now value.now }
+fn rests(entrance: &Entrance, state: &TransState, key: u64) -> bool
+    ensures none { IsTrue result → state.now ≡ [] }
+    ensures out { IsTrue result → (key < entrance.now.low) ⊎ (entrance.now.high < key) }
 {
-    if !entrance.bounded {
-        return false;
-    }
-    match value {
-        None => true,
-        Some(number) => { number.get() < entrance.low.get() || entrance.high.get() < number.get() }
-    }
+    state.runs.is_empty() && ((key < entrance.low) | (entrance.high < key))
 }
 
-/// Whether no window stands, and none begins with the value.
+/// Whether no window stands, and none begins with Unknown.
 #[inline(always)]
-pub(crate) fn rests(entrance: &Entrance, state: &TransState, value: &Option<Int>) -> bool
+fn rests_unknown(entrance: &Entrance, state: &TransState) -> bool
     ensures none { IsTrue result → state.now ≡ [] }
-    ensures out { IsTrue result → IsOut entrance.now value.now }
+    ensures out { IsTrue result → entrance.now.bounded ≡ true }
 {
-    if !is_out(entrance, value) {
-        return false;
+    state.runs.is_empty() && entrance.bounded
+}
+
+/// The first automaton from this place on that doesn't rest at a number that has this key.
+fn first_at(entrances: &[Entrance], runs: &[TransState], key: u64, from: usize) -> usize
+    requires same { length entrances.now ≡ length runs.now }
+    requires order { from ≤ length runs.now }
+    ensures order { from ≤ result }
+    ensures within { result ≤ length runs.now }
+    ensures rest { (number : ℤ) → key ≡ key_of_number number
+        → AreResting entrances.now runs.now (Some number) from result }
+{
+    for k in from..runs.len() {
+        if !rests(&entrances[k], &runs[k], key) {
+            return k;
+        }
     }
-    state.runs.is_empty()
+    runs.len()
+}
+
+/// The first automaton from this place on that doesn't rest at Unknown.
+fn first_at_unknown(entrances: &[Entrance], runs: &[TransState], from: usize) -> usize
+    requires same { length entrances.now ≡ length runs.now }
+    requires order { from ≤ length runs.now }
+    ensures order { from ≤ result }
+    ensures within { result ≤ length runs.now }
+    ensures rest { AreResting entrances.now runs.now None from result }
+{
+    for k in from..runs.len() {
+        if !rests_unknown(&entrances[k], &runs[k]) {
+            return k;
+        }
+    }
+    runs.len()
+}
+
+/// The first automaton from this place on of which a window stands or may begin with the value.
+#[inline(always)]
+pub(crate) fn first_stirring(
+    entrances: &[Entrance],
+    runs: &[TransState],
+    value: &Option<Int>,
+    from: usize,
+) -> usize
+    requires same { length entrances.now ≡ length runs.now }
+    requires order { from ≤ length runs.now }
+    ensures order { from ≤ result }
+    ensures within { result ≤ length runs.now }
+    ensures rest { AreResting entrances.now runs.now value.now from result }
+{
+    match value {
+        None => first_at_unknown(entrances, runs, from),
+        Some(number) => first_at(entrances, runs, key_of(*number), from),
+    }
 }

@@ -15,13 +15,14 @@ pub(crate) fn least_of(item: &ItemInfo) -> Int
     match &item.shape {
         ItemShape::Point(expr) => {
             let typ = typ(expr);
-            lowest_of(typ.width().get(), typ.is_signed())
+            lowest_of(typ.width(), typ.is_signed())
         }
         ItemShape::Cross(_) => Int::of(0),
     }
 }
 
 /// The key of a value; None where it is below the least one, or 2^64 and more above it.
+#[inline(always)]
 pub(crate) fn key_of(least: Int, value: Int) -> Option<u64>
     ensures exact { (key : ℕ) → key < 2 ^ 64 → (result ≡ Some key) ↔ (value ≡ least +ℤ pos key) }
     ensures some { IfSome result (λ key. value ≡ least +ℤ pos key) }

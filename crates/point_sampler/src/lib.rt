@@ -9,6 +9,7 @@ mod entrances;
 mod keys;
 mod lookups;
 mod machines;
+mod patterns;
 mod plan;
 mod planning;
 mod point;

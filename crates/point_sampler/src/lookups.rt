@@ -5,26 +5,32 @@ ghost use Rattle.design_data.specs.Laws.{lists as lists_of};
 ghost use Rattle.point_sampler.specs.Plans.{IsPoint, IsLookupOf, has_value, places_from};
 ghost use Rattle.cov_ground.specs.Limits.{most_bins};
 ghost use Rattle.design_data.specs.declared.infos.BinInfo.{BinInfo as Bin};
+ghost use Rattle.design_data.specs.declared.infos.BinRule.TheVariants.{Patterns};
 ghost use Rattle.point_sampler.specs.Keys.{AreListed, AreUnlisted, IsSetOf, HasOneMore, AreSetsOf};
 
 use crate::keys::{keys_of, least_of};
+use crate::patterns::{add_patterns, have_few_ranges, set_of_patterns};
 use crate::plan::Lookup;
 use crate::rules::note;
 use cov_base::{Int, Memory, ValueSet};
 use design_data::{BinInfo, BinRule, ItemInfo};
 use std::alloc::Global;
 use value_index::{Index, Set};
+use wildcard_bins::Pattern;
 
 /// The most intervals that copies for several bins `default` may have.
 const MOST_COPIES: usize = 0x10_0000;
 
-/// Appends the ranges of what a bin lists. False for a bin of patterns.
-fn add_listed(bin: &BinInfo, ranges: &mut Vec<(Int, Int)>) -> Result<bool, Memory>
+/// Appends the ranges of what a bin lists. False for patterns with too many.
+fn add_listed(alloc: Global, bin: &BinInfo, ranges: &mut Vec<(Int, Int)>) -> Result<bool, Memory>
     ensures { IfOk result (λ known. IsTrue known → (v : ℤ) → is_in (written ranges.new.items) v
         ≡ (is_in (written ranges.old.items) v || lists_of (Some v) bin.now.rule)) }
 {
     match &bin.rule {
-        BinRule::Patterns(_) => Ok(false),
+        BinRule::Patterns(patterns) => {
+            let known = add_patterns(alloc, patterns.as_slice(), ranges)?;
+            Ok(known)
+        }
         BinRule::Values(set) => {
             ranges.extend_from_slice(set.intervals())?;
             Ok(true)
@@ -33,13 +39,13 @@ fn add_listed(bin: &BinInfo, ranges: &mut Vec<(Int, Int)>) -> Result<bool, Memor
     }
 }
 
-/// The ranges of what the bins list. None where one is of patterns.
+/// The ranges of what the bins list. None where one has patterns with too many.
 fn listed_of(alloc: Global, bins: &[BinInfo]) -> Result<Option<Vec<(Int, Int)>>, Memory>
     ensures { IfOk result (λ made. IfSome made (λ ranges. AreListed bins.now ranges.items)) }
 {
     let mut ranges = Vec::new(alloc);
     for bin in bins {
-        if !add_listed(bin, &mut ranges)? {
+        if !add_listed(alloc, bin, &mut ranges)? {
             return Ok(None);
         }
     }
@@ -83,8 +89,8 @@ fn unknown_of(alloc: Global, bins: &[BinInfo]) -> Result<Vec<u32>, Memory>
     Ok(places)
 }
 
-/// The values that no bin lists, if there are bins `default`, so many. None where a bin is of patterns, and where the intervals,
-/// copied for each such bin, would be many.
+/// The values that no bin lists, if there are bins `default`, so many. None where they can't be told, and where the
+/// intervals, copied for each such bin, would be many.
 fn unlisted_of(
     alloc: Global,
     item: &ItemInfo,
@@ -107,8 +113,18 @@ fn unlisted_of(
     Ok(Some(rest))
 }
 
-/// The keys of the values that a bin has. None for a bin of patterns, for `default` where the values that no bin lists
-/// aren't known, and where some value has no key.
+/// The keys of the numbers that agree with one of the patterns. None where these have too many ranges.
+fn keys_of_patterns(alloc: Global, least: Int, patterns: &[Pattern]) -> Result<Option<Set>, Memory>
+    ensures { (bins : List Bin) → IfOk result (λ made. IfSome made (IsSetOf bins least (Patterns patterns.now))) }
+{
+    match set_of_patterns(alloc, patterns)? {
+        Some(set) => keys_of(alloc, least, &set),
+        None => Ok(None),
+    }
+}
+
+/// The keys of the values that a bin has. None for patterns with too many ranges, for `default` where the values that no
+/// bin lists aren't known, and where some value has no key.
 fn set_of(
     alloc: Global,
     item: &ItemInfo,
@@ -120,7 +136,7 @@ fn set_of(
     ensures { IfOk result (λ made. IfSome made (IsSetOf item.now.bins least bin.now.rule)) }
 {
     match &bin.rule {
-        BinRule::Patterns(_) => Ok(None),
+        BinRule::Patterns(patterns) => keys_of_patterns(alloc, least, patterns.as_slice()),
         BinRule::Values(set) => keys_of(alloc, least, set),
         BinRule::DefaultValues(set) => keys_of(alloc, least, set),
         BinRule::Default => match rest {
@@ -171,12 +187,15 @@ fn sets_of(
     Ok(Some(sets))
 }
 
-/// The index of a point's bins of values. None where a bin is of patterns, and where the bins overlap so much that an
-/// index would be large.
+/// The index of a point's bins of values. None where the patterns of bins have many ranges, where there are several bins
+/// `default` of many ranges, and where the bins overlap so much that an index would be large.
 pub(crate) fn lookup_of(alloc: Global, item: &ItemInfo) -> Result<Option<Lookup>, Memory>
     requires { IsPoint item.now }
     ensures { IfOk result (λ made. IfSome made (IsLookupOf item.now.bins)) }
 {
+    if !have_few_ranges(item.bins.as_slice()) {
+        return Ok(None);
+    }
     let least = least_of(item);
     let unknown = unknown_of(alloc, item.bins.as_slice())?;
     let rest = unlisted_of(alloc, item, least, unknown.len())?;

@@ -3,11 +3,11 @@ ghost use Rattle.std.specs.Prelude.{◌≡◌, ◌≢◌, ◌↔◌, ◌⊎◌, 
 ghost use Rattle.trans_seq.specs.Windows.{EndsKept, EndsWindow};
 ghost use Rattle.trans_auto.specs.State.{Stands, SaysKept, SaysWindow, TakesSample};
 ghost use Rattle.design_data.specs.Laws.{Value};
-ghost use Rattle.point_sampler.specs.Plans.{removed_by, IsEntrance, AreEntrances};
+ghost use Rattle.point_sampler.specs.Plans.{removed_by, AreEntrances};
 ghost use Rattle.point_sampler.specs.Points.{FitsPlan, RunsStand, OthersStand, Remembers};
 ghost use Rattle.point_sampler.specs.Met.{AreSteps, IsStill, Answered, Ascend, IsPlaceOf, StandApart, IsTransPlace, AreTransMet};
 
-use crate::entrances::rests;
+use crate::entrances::first_stirring;
 use crate::plan::{Entrance, Machine, PointPlan, Removers};
 use crate::rules::note;
 use crate::state::{PointState, Steps};
@@ -64,18 +64,16 @@ fn push_one(
     }
 }
 
-/// Takes the automaton of a bin over the next value of the trace, in no time where no window stands or begins there.
+/// Takes the automaton of a bin over the next value of the trace.
 #[inline(always)]
 fn push_machine(
     machine: &Machine,
-    entrance: &Entrance,
     removers: &Removers,
     steps: &mut Steps,
     is_ready: &mut bool,
     runs: &mut TransState,
     value: &Option<Int>,
 ) -> Result<Answer, Memory>
-    requires entrance { IsEntrance machine.now.watcher entrance.now }
     requires ready { IsTrue is_ready.old → AreSteps removers.now value.now steps.old }
     ensures ready { OnOk result (IsTrue is_ready.new → AreSteps removers.now value.now steps.new) }
     ensures counts { IfOk result (λ answer.
@@ -85,19 +83,12 @@ fn push_machine(
     ensures stands { OnOk result
         (TakesSample machine.now.watcher (removed_by removers.now machine.now.kind) runs.old value.now runs.new) }
 {
-    if rests(entrance, runs, value) {
-        return Ok(Answer {
-            counts: false,
-            ends: false,
-        });
-    }
     begin_once(removers, steps, is_ready, value);
-    let answer = push_one(&machine.watcher, machine.kind, removers, steps, runs, value)?;
-    Ok(answer)
+    push_one(&machine.watcher, machine.kind, removers, steps, runs, value)
 }
 
 /// Takes the automata of a point over the next value of the trace: puts the places of the bins that are met into `met`,
-/// and says whether a window of any ends there.
+/// and says whether a window of any ends there. Those that rest are passed over.
 fn push_machines(
     machines: &[Machine],
     entrances: &[Entrance],
@@ -122,19 +113,13 @@ fn push_machines(
     ensures once { OnOk result (AllPairs (λ a b. a ≢ b) met.new.items) }
 {
     let mut ended = false;
-    for k in 0..machines.len() {
+    let mut k = first_stirring(entrances, runs, value, 0);
+    while k < machines.len() {
         let machine = &machines[k];
-        let answer = push_machine(
-            machine,
-            &entrances[k],
-            removers,
-            steps,
-            is_ready,
-            &mut runs[k],
-            value,
-        )?;
+        let answer = push_machine(machine, removers, steps, is_ready, &mut runs[k], value)?;
         note(machine.place, answer.counts, met)?;
         ended = either(ended, answer.ends);
+        k = first_stirring(entrances, runs, value, k + 1);
     }
     Ok(ended)
 }

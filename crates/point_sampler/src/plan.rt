@@ -64,7 +64,7 @@ pub struct Entry {
     pub(crate) covers: bool,
     /// How many coverage bins come before it.
     pub(crate) number: u32,
-    /// The place of a bin with the same guard, where it has one.
+    /// The place of the first of the bins with its guard that stand together there, where it has one.
     pub(crate) guard: Option<u32>,
 }
 
@@ -78,12 +78,13 @@ pub struct Machine {
     pub(crate) watcher: Watcher,
 }
 
-/// The values with which windows of a bin may begin: where it is bounded, none that is Unknown or beyond the bounds.
-#[derive(Clone, Copy, Drop)]
+/// The values with which windows of a bin may begin: no number whose key is beyond the bounds, and where it is bounded not
+/// Unknown either.
+#[derive(Drop)]
 pub struct Entrance {
     pub(crate) bounded: bool,
-    pub(crate) low: Int,
-    pub(crate) high: Int,
+    pub(crate) low: u64,
+    pub(crate) high: u64,
 }
 
 /// The sequences that take windows away from coverage bins, from ignore bins, and from no bin.

@@ -16,20 +16,48 @@ use crate::plan::{Entrance, Entry, Lookup, Machine, PointPlan, Questions, Remove
 use crate::questions::questions_of;
 use crate::rules::note;
 use crate::state::{PointState, Steps};
+use const_eval::Bound;
 use cov_base::Memory;
 use design_data::{BinInfo, BinRule, ItemInfo};
 use std::alloc::Global;
 use trans_auto::{Removing, Step, TransState, Watcher};
-use trans_seq::Seq;
 use trans_seq::laws::cells_of_joined_lists;
+use trans_seq::{Seq, append_copies};
 
-/// The place, if the bin there has a guard.
-fn guard_place(bin: &BinInfo, place: u32) -> Option<u32>
-    ensures { (bins : List Bin) → slice_get bins place ≡ Some bin.now → IsGuardAt bins result bin.now.guard }
+/// Whether the bin has the guard.
+fn has_guard(bin: &BinInfo, guard: &Bound) -> bool
+    ensures { IsTrue result → bin.now.guard ≡ Some guard.now }
 {
-    match bin.guard {
+    match &bin.guard {
+        None => false,
+        Some(own) => own.is_same(guard),
+    }
+}
+
+/// The place of a bin with the guard of the bin at this place: the one before, if the bin there has it.
+fn place_of(bins: &[BinInfo], before: &Option<u32>, guard: &Bound, place: u32) -> u32
+    requires { IfSome before.now (λ earlier. earlier < length bins.now) }
+    ensures { (bin : Bin) → slice_get bins.now place ≡ Some bin → bin.guard ≡ Some guard.now
+        → IsGuardAt bins.now (Some result) (Some guard.now) }
+{
+    let Some(earlier) = before else {
+        return place;
+    };
+    if has_guard(&bins[*earlier as usize], guard) {
+        return *earlier;
+    }
+    place
+}
+
+/// The place of a bin with the guard of the bin at this place, if it has one: `before`, where the bin there has it. So bins
+/// that stand together and share a guard name one place.
+fn guard_place(bins: &[BinInfo], before: &Option<u32>, bin: &BinInfo, place: u32) -> Option<u32>
+    requires { IfSome before.now (λ earlier. earlier < length bins.now) }
+    ensures { slice_get bins.now place ≡ Some bin.now → IsGuardAt bins.now result bin.now.guard }
+{
+    match &bin.guard {
         None => None,
-        Some(_) => Some(place),
+        Some(guard) => Some(place_of(bins, before, guard, place)),
     }
 }
 
@@ -82,9 +110,10 @@ fn entry_list(alloc: Global, bins: &[BinInfo]) -> Result<Vec<Entry>, Memory>
 {
     let mut entries = Vec::new(alloc);
     let mut number = 0;
+    let mut guard = None;
     for (place, bin) in bins.iter().enumerate() {
         let covers = bin.kind.is_coverage();
-        let guard = guard_place(bin, place as u32);
+        guard = guard_place(bins, &guard, bin, place as u32);
         entries.push(Entry {
             covers,
             number,
@@ -161,23 +190,13 @@ fn sequences_of(alloc: Global, bins: &[BinInfo]) -> Result<Vec<u32>, Memory>
     Ok(places)
 }
 
-/// Appends copies of sequences.
-fn add_copies(alloc: Global, seqs: &[Seq], copies: &mut Vec<Seq>) -> Result<(), Memory>
-    ensures { OnOk result (copies.new.items ≡ copies.old.items ++ seqs.now) }
-{
-    for seq in seqs {
-        copies.push(seq.copy(alloc)?)?;
-    }
-    Ok(())
-}
-
 /// The ignored and the illegal sequences.
 fn removing_of(alloc: Global, item: &ItemInfo) -> Result<Vec<Seq>, Memory>
     ensures { IfOk result (λ seqs. seqs.items ≡ item.now.ignored ++ item.now.illegal) }
 {
     let mut seqs = Vec::new(alloc);
-    add_copies(alloc, item.ignored.as_slice(), &mut seqs)?;
-    add_copies(alloc, item.illegal.as_slice(), &mut seqs)?;
+    append_copies(alloc, item.ignored.as_slice(), &mut seqs)?;
+    append_copies(alloc, item.illegal.as_slice(), &mut seqs)?;
     Ok(seqs)
 }
 

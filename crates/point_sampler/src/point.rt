@@ -10,14 +10,15 @@ use crate::counting::count_met;
 use crate::keys::key_of;
 use crate::machines::{is_still, push_value};
 use crate::plan::{Lookup, PointPlan};
-use crate::rules::holds;
 use crate::state::PointState;
 use crate::values::add_values;
 use const_eval::{Bound, eval};
 use cov_base::{Int, Memory};
+use cov_counting::holds;
 use design_data::ItemInfo;
 
 /// The key of a value; None where it is Unknown or has none.
+#[inline(always)]
 fn key_in(lookup: &Lookup, value: &Option<Int>) -> Option<u64>
     ensures { IfSome result (λ key. value.now ≡ Some (lookup.now.least +ℤ pos key)) }
 {

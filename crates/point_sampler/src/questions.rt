@@ -35,7 +35,7 @@ fn by_pattern(typ: Typ, pattern: &Pattern) -> Question
         return Question::Rule;
     }
     Question::Bits {
-        fixed: !pattern.free & ones(typ.width().get()),
+        fixed: !pattern.free & ones(typ.width()),
         bits: pattern.bits,
     }
 }

@@ -15,7 +15,7 @@ use design_data::{BinInfo, ItemInfo};
 fn bits_of(typ: Typ, number: Int) -> Option<u64>
     ensures { IfSome result (IsWordOf typ (Some number)) }
 {
-    let width = typ.width().get();
+    let width = typ.width();
     let low = lowest_of(width, typ.is_signed()).get();
     let high = highest_of(width, typ.is_signed()).get();
     let value = number.get();
@@ -28,7 +28,7 @@ fn bits_of(typ: Typ, number: Int) -> Option<u64>
     if value >= 0 {
         return Some(value as u64);
     }
-    Some((power_of_two(width) - value.unsigned_abs()) as u64)
+    Some((power_of_two(width.get()) - value.unsigned_abs()) as u64)
 }
 
 /// The bits of a value, where it is a number of the type.

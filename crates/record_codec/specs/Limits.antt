@@ -11,6 +11,10 @@ use Rattle.record_codec.specs.declared.record.Event.{Event}
 use Rattle.record_codec.specs.declared.record.Event.TheVariants.{Set, Sample}
 use Rattle.record_codec.specs.Bytes.{bytes_of}
 
+-- bytes of a test's id, and of the name of who ran it
+abbrev pub longest_id : ℕ
+longest_id = 255
+
 -- a text of a length from least to most, of bytes from low on and below 127
 pub record IsText (least most low : ℕ) (text : List ℕ) : Type 0 where
   pub long_enough : least ≤ length text
@@ -63,11 +67,11 @@ HasFewArgs (Sample instance args) = length args ≤ most_arguments
 pub record IsStart (r : Fields) : Type 0 where
   pub some : 1 ≤ r.version
   pub version : r.version < 3
-  pub id : IsText 1 255 33 r.id
+  pub id : IsText 1 longest_id 33 r.id
   pub status : r.status < 4
   pub seed : r.seed < 2 ^ 64
   pub time : r.time < 2 ^ 64
-  pub user : IsText 0 255 32 r.user
+  pub user : IsText 0 longest_id 32 r.user
   pub signal_count : length r.signals ≤ most_signals
   pub signals : AllByRecursion IsSignalRow r.signals
   pub instance_count : length r.instances ≤ most_instances

@@ -30,6 +30,7 @@ use Rattle.record_codec.specs.declared.record.Event.{Event}
 use Rattle.record_codec.specs.declared.record.Event.TheVariants.{Set, Sample}
 use Rattle.record_codec.specs.Spelling.{fields_of}
 use Rattle.cov_ground.specs.Limits.{longest_name, most_events, most_signals, most_instances, most_arguments, most_bits}
+use Rattle.record_codec.specs.Limits.{longest_id}
 
 -- numbers that fit in a byte
 abbrev pub AreBytes : List ℕ → Type 0
@@ -95,11 +96,11 @@ head_at bytes = do
 
 unfoldable pub test_at : Reader TestRow
 test_at bytes = do
-  id ← text_at 1 255 33 bytes
+  id ← text_at 1 longest_id 33 bytes
   status ← number_within w8 0 3 id.1
   seed ← number_at w64 status.1
   time ← number_at w64 seed.1
-  user ← text_at 0 255 32 time.1
+  user ← text_at 0 longest_id 32 time.1
   Ok (record { id = id.0; status = status.0; seed = seed.0; time = time.0; user = user.0 }, user.1)
 
 -- one more of what is read, behind those in front

@@ -7,7 +7,7 @@ use Rattle.record_codec.specs.declared.record.Start.{Start}
 use Rattle.record_codec.specs.declared.record.Event.{Event}
 use Rattle.record_codec.specs.declared.record.Fields.{Fields}
 use Rattle.record_codec.specs.Bytes.{bytes_of}
-use Rattle.record_codec.specs.Limits.{IsText, IsStart, IsStart-prop, IsEvent, IsEvent-prop}
+use Rattle.record_codec.specs.Limits.{longest_id, IsText, IsStart, IsStart-prop, IsEvent, IsEvent-prop}
 
 -- the fields of the record that begins so and has these events
 abbrev pub with_events : Start → List Event → Fields
@@ -21,9 +21,9 @@ size_with s events = length (bytes_of (with_events s events))
 pub record IsTest (s : Start) : Type 0 where
   pub some : 1 ≤ s.version
   pub version : s.version < 3
-  pub id : IsText 1 255 33 s.id
+  pub id : IsText 1 longest_id 33 s.id
   pub status : s.status < 4
-  pub user : IsText 0 255 32 s.user
+  pub user : IsText 0 longest_id 32 s.user
 
 -- A count and a size that are those of a record with the events that are kept, unless one of them is above its limit.
 pub record IsSound (s : Start) (kept : List Event) (count size : ℕ) : Type 0 where

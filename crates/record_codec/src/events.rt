@@ -7,6 +7,7 @@ use crate::fault::Fault;
 use crate::fields::{u8_at, u16_at, u32_at, u64_up_to};
 use crate::tables::{Rows, counted};
 use crate::{ArgRow, Event, InstRow, SignalRow};
+use bit_width::Width;
 use cov_base::ones;
 use cov_ground::limits::{MOST_BITS, MOST_EVENTS};
 use cov_tree::List;
@@ -25,7 +26,7 @@ pub(crate) fn most_of(width: u8) -> u64
     if width == 0 {
         return 0;
     }
-    ones(width)
+    ones(Width::of(width))
 }
 
 /// The greatest value of each signal.

@@ -22,5 +22,6 @@ pub use builder::RecordBuilder;
 pub use decoding::decode;
 pub use encoding::encode;
 pub use fault::RecordFault;
+pub use limits::LONGEST_ID;
 pub use making::{MakeFault, PushFault, StartFault, checked_record};
 pub use record::{ArgRow, Event, Fields, InstRow, Record, SignalRow, Start};

@@ -13,6 +13,9 @@ use cov_ground::limits::{
     MOST_SIGNALS,
 };
 
+/// Bytes of a test's id, and of the name of who ran it.
+pub const LONGEST_ID: u16 = 255;
+
 /// Whether the text has at least so many bytes and at most so many, each from `low` on and below 127.
 fn is_text(least: usize, most: usize, low: u8, text: &[u8]) -> bool
     ensures { IsTrue result ↔ IsText least most low text.now }
@@ -141,13 +144,13 @@ fn is_test(start: &Start) -> bool
     if !is_version(start.version) {
         return false;
     }
-    if !is_text(1, 255, 33, start.id.as_slice()) {
+    if !is_text(1, LONGEST_ID as usize, 33, start.id.as_slice()) {
         return false;
     }
     if start.status >= 4 {
         return false;
     }
-    is_text(0, 255, 32, start.user.as_slice())
+    is_text(0, LONGEST_ID as usize, 32, start.user.as_slice())
 }
 
 /// Whether a record may begin so.

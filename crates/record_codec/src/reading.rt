@@ -5,6 +5,7 @@ ghost use Rattle.record_codec.specs.Reading.{Gives, version_at, head_at, test_at
 use crate::events::event_list;
 use crate::fault::Fault;
 use crate::fields::{text_within, u8_within, u16_at, u32_at, u64_at};
+use crate::limits::LONGEST_ID;
 use crate::record::{Fields, TestRow};
 use crate::rows::{instance_table, signal_table};
 use std::alloc::Global;
@@ -41,11 +42,11 @@ fn head(bytes: &[u8]) -> Result<(u16, &[u8]), Fault>
 fn test_row(alloc: Global, bytes: &[u8]) -> Result<(TestRow, &[u8]), Fault>
     ensures { Gives (λ x. (x.0, x.1.now)) result (test_at bytes.now) }
 {
-    let (id, rest) = text_within(alloc, 1, 255, 33, bytes)?;
+    let (id, rest) = text_within(alloc, 1, LONGEST_ID, 33, bytes)?;
     let (status, rest) = u8_within(0, 3, rest)?;
     let (seed, rest) = u64_at(rest)?;
     let (time, rest) = u64_at(rest)?;
-    let (user, rest) = text_within(alloc, 0, 255, 32, rest)?;
+    let (user, rest) = text_within(alloc, 0, LONGEST_ID, 32, rest)?;
     let row = TestRow {
         id,
         status,

@@ -7,7 +7,7 @@ use Rattle.record_codec.specs.declared.record.Start.{Start}
 use Rattle.design_data.specs.declared.infos.Signal.{Signal}
 use Rattle.design_data.specs.declared.infos.InstInfo.{InstInfo}
 use Rattle.design_data.specs.declared.design.Design.{Design}
-use Rattle.sampler.specs.Shape.{signals_of, instances_of}
+use Rattle.cov_counting.specs.Tables.{signals_of, instances_of}
 
 -- ---- numbers
 

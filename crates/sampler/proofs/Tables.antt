@@ -6,7 +6,8 @@ use Rattle.std.proofs.lemmas.List.{take_more_same, length-map}
 use Rattle.std.proofs.lemmas.Option.{slice_get-get_or, slice_get_past, slice_get_read, slice_get-map, get_or_from_slice_get}
 use Rattle.record_codec.specs.declared.record.Record.{Record}
 use Rattle.design_data.specs.declared.design.Design.{Design}
-use Rattle.sampler.specs.Shape.{signals_of, instances_of, Fits, FirstDiffering, IsWrongAt}
+use Rattle.cov_counting.specs.Tables.{signals_of, instances_of}
+use Rattle.sampler.specs.Shape.{Fits, FirstDiffering, IsWrongAt}
 
 -- what agrees up to a place agrees at each place before it
 taken : {A : Type 0} (rows others : List A) (at place : ℕ) → place < at → take at rows ≡ take at others → slice_get rows place ≡ slice_get others place

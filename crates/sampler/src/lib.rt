@@ -9,6 +9,7 @@ mod encoded;
 mod instance;
 mod known;
 mod plan;
+mod planned;
 mod planning;
 mod prepared;
 mod sameness;
@@ -22,6 +23,7 @@ pub use binning::{bin_record, bin_record_under, counts_under, part_counts, tally
 pub use encoded::EncodedRecord;
 pub use instance::{InstState, ItemState};
 pub use plan::{InstPlan, ItemPlan, Plan};
+pub use planned::Planned;
 pub use prepared::{Prepared, prepare, prepare_under};
 pub use shape::{WrongShape, shape_fits};
 pub use sharing::{label, labels_at};

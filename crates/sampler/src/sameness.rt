@@ -22,7 +22,6 @@ fn same_kind(first: BinKind, second: BinKind) -> bool
     first == second
 }
 
-/// Two guards count as the same where there are none.
 fn same_guard(first: &Option<Bound>, second: &Option<Bound>) -> bool
     ensures { IsTrue result → first.now ≡ second.now }
 {
@@ -31,7 +30,10 @@ fn same_guard(first: &Option<Bound>, second: &Option<Bound>) -> bool
             None => true,
             Some(_) => false,
         },
-        Some(_) => false,
+        Some(guard) => match second {
+            None => false,
+            Some(other) => guard.is_same(other),
+        },
     }
 }
 

@@ -1,6 +1,7 @@
 //! Whether a record has the design's signals and instances.
 ghost use Rattle.std.specs.Prelude.{◌≡◌, ◌↔◌, ◌+◌, ◌<◌, ◌≤◌, length, IsTrue, IfSome, MatchOption, MatchResult, map, slice_get, Some};
-ghost use Rattle.sampler.specs.Shape.{signal_row, arg_row, arg_rows, instance_row, name_of, instances_of, FirstDiffering, Shapes};
+ghost use Rattle.cov_counting.specs.Tables.{signal_row, arg_row, arg_rows, instance_row, name_of, instances_of};
+ghost use Rattle.sampler.specs.Shape.{FirstDiffering, Shapes};
 
 use cov_tree::Name;
 use design_data::{Design, GroupInfo, InstInfo, Signal};

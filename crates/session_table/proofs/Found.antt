@@ -16,8 +16,8 @@ use Rattle.cov_proto.specs.declared.replies.Body.{Body}
 use Rattle.cov_proto.specs.declared.replies.Body.TheVariants as body
 use Rattle.session_table.specs.Contents.{Content, NoRecord, OtherShape, Holds, IsContent, Text, LongText, NoDesign, OtherTables, IsTextContent, tables_apart}
 use Rattle.session_table.specs.Table.{record_refusal, said_to, said_to_text}
-use Rattle.session_table.specs.declared.faults.Refusal.{Refusal}
-use Rattle.session_table.specs.Refusals.{IsRefusal}
+use Rattle.cov_compile.specs.declared.refusals.Refusal.{Refusal}
+use Rattle.cov_compile.specs.Refusals.{IsRefusal}
 use Rattle.session_table.specs.Says.{IsFaultBody, Refuses, FindsText, FindsRecord, IsWritable}
 
 pub no_record_refuses : (opening : Design) (bytes : List ℕ) (fault : RecordFault) (b : Body) → HasRead (Err fault) (reading bytes) → b ≡ record_refusal fault → Refuses (IsContent opening bytes) said_to b

@@ -21,7 +21,7 @@ use Rattle.session_table.specs.Contents.{tables_apart}
 use Rattle.session_table.proofs.Growing.{grown_long}
 use Rattle.session_table.proofs.Shapes.{fits_of, same_of}
 
-pub prepared_meets : (opening was : Design) (h : List Entry) (b : Basis) (p : Whole) (r : Record) → is_legal opening h ≡ true → opening ≡ was → IsBasis was h b → p.under ≡ arc_value b.design → p.of ≡ r → Fits was r → IsPrepared opening h b.point p
+pub prepared_meets : (opening was : Design) (h : List Entry) (b : Basis) (p : Whole) (r : Record) → is_legal opening h ≡ true → opening ≡ was → IsBasis was h b → p.under ≡ b.design → p.of ≡ r → Fits was r → IsPrepared opening h b.point p
 prepared_meets opening was h b p r legal same basis under of fit =
     let whole : take b.point h ≡ h = ap (λ n. take n h) basis.point ∙ take-length h in
     let now : p.under ≡ design_of opening h = under ∙ (basis.design ∙ ap (λ d. design_of d h) (sym same)) in

@@ -7,7 +7,8 @@ use Rattle.design_data.specs.declared.infos.InstInfo.{InstInfo}
 use Rattle.design_data.specs.declared.infos.GroupInfo.{GroupInfo}
 use Rattle.design_data.specs.declared.design.Design.{Design}
 use Rattle.record_codec.specs.declared.record.Record.{Record}
-use Rattle.sampler.specs.Shape.{signal_row, arg_row, arg_rows, instance_row, name_of, Fits}
+use Rattle.cov_counting.specs.Tables.{signal_row, arg_row, arg_rows, instance_row, name_of}
+use Rattle.sampler.specs.Shape.{Fits}
 use Rattle.cov_history.specs.Tables.{agree, group_name, same_sign, is_signal, is_arg, is_instance, fits, same_signal, same_instance, same_tables}
 use Rattle.session_table.specs.Contents.{apart, first_place, tables_apart}
 

@@ -1,5 +1,3 @@
-pub mod Faults
-pub mod Refusals
 pub mod Contents
 pub mod Table
 pub mod Serves

@@ -21,7 +21,7 @@ use Rattle.cov_proto.specs.Frames.{longest_body}
 use Rattle.cov_proto.specs.Spelled.{body_fields}
 use Rattle.session_table.specs.declared.talk.Talk.{Talk}
 use Rattle.session_table.specs.declared.bodies.Said.{Said}
-use Rattle.session_table.specs.Faults.{fault_word, fault_place}
+use Rattle.cov_compile.specs.Faults.{fault_word, fault_place}
 use Rattle.session_table.specs.Contents.{Content, Fitting, IsContent, Text, IsTextContent, Revising}
 use Rattle.session_table.specs.Table.{Row, said_to, said_to_text, is_bye}
 use Rattle.session_table.specs.Serves.{Place, BySaid, Lacks, Answered, Step}

@@ -15,7 +15,7 @@ use Rattle.cov_proto.specs.declared.requests.Request.TheVariants as request
 use Rattle.cov_proto.specs.declared.replies.Body.{Body}
 use Rattle.cov_proto.specs.declared.replies.Body.TheVariants as body
 use Rattle.cov_proto.specs.Requests.{request_read}
-use Rattle.session_table.specs.Faults.{fault_word, fault_place}
+use Rattle.cov_compile.specs.Faults.{fault_word, fault_place}
 use Rattle.session_table.specs.Contents.{Content, NoRecord, OtherShape, Fitting, IsContent, Text, LongText, NoDesign, OtherTables, Revising, IsTextContent}
 
 -- A reply, or a wish for a turn; and the stage afterwards.

@@ -8,9 +8,8 @@ ghost use Rattle.session_table.specs.Says.{FindsRecord, FindsText, IsWritable, R
 ghost use Rattle.session_table.specs.Contents.{IsContent, IsTextContent};
 ghost use Rattle.session_table.specs.Table.{said_to, said_to_text, record_refusal};
 
-use crate::faults::refusal_of;
 use crate::tables::tables_apart;
-use cov_compile::{CompileFault, Compiled};
+use cov_compile::{CompileFault, Compiled, refusal_of};
 use cov_ground::limits::LONGEST_DESIGN;
 use cov_proto::Body;
 use cov_tree::Name;

@@ -5,7 +5,6 @@
 
 mod alone;
 mod bodies;
-mod faults;
 mod finding;
 mod port;
 mod tables;

@@ -21,7 +21,6 @@ use cov_compile::Compiled;
 use cov_proto::{Body, Reply, Request};
 use design_data::Design;
 use record_codec::Record;
-use sampler::prepare;
 use std::alloc::Global;
 use std::sync::Arc;
 use std::thread::Threads;
@@ -88,7 +87,7 @@ fn admit<P: Port, R: Threads + Sync, G: Gate>(
     let Ok(basis) = port.basis() else {
         return talk.lacks();
     };
-    let Ok(prepared) = prepare(alloc, &basis.design, rec, gate) else {
+    let Ok(prepared) = basis.design.prepare(alloc, rec, gate) else {
         return talk.lacks();
     };
     let since = basis.point;

@@ -7,6 +7,7 @@ ghost use Rattle.session_table.specs.Says.{IsWritable, IsKept, is_long};
 ghost use Rattle.session_table.specs.Writable.{IsShortTest, AreShortTests, IsHeld};
 
 use cov_ground::limits::{LONGEST_CHUNK, MOST_ROWS, MOST_TEST_ROWS};
+use record_codec::LONGEST_ID;
 use ucis_model::{Answer, HistoryKind, HistoryNode};
 
 fn are_from(low: u8, bytes: &[u8]) -> bool
@@ -29,7 +30,7 @@ fn is_text(least: usize, low: u8, bytes: &[u8]) -> bool
     if bytes.len() < least {
         return false;
     }
-    if bytes.len() > 255 {
+    if bytes.len() > LONGEST_ID as usize {
         return false;
     }
     are_from(low, bytes)

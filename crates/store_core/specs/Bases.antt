@@ -13,7 +13,7 @@ use Rattle.store_core.specs.Rebins.{Redone}
 -- the point, the design and the tests' records of this history
 pub record IsBasis (opening : Design) (h : List Entry) (b : Basis) : Type 0 where
   pub point : b.point ≡ length h
-  pub design : arc_value b.design ≡ design_of opening h
+  pub design : b.design ≡ design_of opening h
   pub records : map arc_value b.records ≡ contents h
   pub few : length b.records ≤ most Tests
 

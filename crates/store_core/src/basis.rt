@@ -1,7 +1,6 @@
 //! What a record is prepared under, and a text's design compared with.
 use cov_tree::List;
-use design_data::Design;
-use sampler::EncodedRecord;
+use sampler::{EncodedRecord, Planned};
 use std::sync::Arc;
 
 /// The design and the tests at a point of a history.
@@ -9,8 +8,8 @@ use std::sync::Arc;
 pub struct Basis {
     /// How many entries the history had.
     pub point: u64,
-    /// Its design then.
-    pub design: Arc<Design>,
+    /// Its design then, with what is worked out of it once.
+    pub design: Planned,
     /// The records of its tests then, in order of admission, each as its bytes.
     pub records: List<Arc<EncodedRecord>>,
 }

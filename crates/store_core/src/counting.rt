@@ -14,7 +14,7 @@ use cov_base::Memory;
 use cov_tree::List;
 use design_data::Design;
 use record_codec::Record;
-use sampler::{EncodedRecord, Plan, bin_record_under};
+use sampler::{EncodedRecord, Plan, Planned, bin_record_under};
 use std::alloc::Global;
 use std::sync::Arc;
 use std::thread::Threads;
@@ -127,7 +127,7 @@ fn entries(tallies: &[Arc<Tally>]) -> u64
 pub(crate) fn count_records<R: Threads + Sync>(
     rt: &R,
     alloc: Global,
-    design: &Design,
+    design: &Planned,
     records: &[Arc<EncodedRecord>],
 ) -> Result<Counted, Memory>
     requires { length records.now ≤ most Tests }
@@ -135,9 +135,9 @@ pub(crate) fn count_records<R: Threads + Sync>(
     ensures counts { IfOk result (λ counted. counted.counts.items ≡ all_hits design.now (map arc_value records.now)) }
     ensures entries { IfOk result (λ counted. counted.entries ≡ sum_by (bins_hit design.now) (map arc_value records.now)) }
 {
-    let plan = Plan::of(alloc, design)?;
-    let tallies = tallies_in_threads(rt, alloc, &plan, design, records)?;
-    let counts = sums(alloc, design, records, tallies.as_slice())?;
+    let plan = design.plan();
+    let tallies = tallies_in_threads(rt, alloc, plan, design.design(), records)?;
+    let counts = sums(alloc, design.design(), records, tallies.as_slice())?;
     let entries = entries(tallies.as_slice());
     Ok(Counted {
         tallies,

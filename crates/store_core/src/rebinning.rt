@@ -14,7 +14,7 @@ use cov_base::{Gate, Memory};
 use cov_compile::Compiled;
 use cov_tree::{List, Name};
 use design_data::Design;
-use sampler::EncodedRecord;
+use sampler::{EncodedRecord, Planned};
 use std::alloc::Global;
 use std::marker::Model;
 use std::sync::Arc;
@@ -26,7 +26,7 @@ use tally::Tally;
 #[derive(Drop)]
 pub struct Rebinned {
     text: Name,
-    design: Arc<Design>,
+    design: Planned,
     since: u64,
     records: List<Arc<EncodedRecord>>,
     tallies: Vec<Arc<Tally>>,
@@ -51,23 +51,23 @@ impl Model for Rebinned {
 
     ghost view = { λ r. record {
       text = r.text;
-      design = arc_value r.design;
+      design = r.design;
       since = r.since;
       records = map arc_value r.records;
     } };
 
-    ghost invariant = { λ r. Compiles r.text (Ok (arc_value r.design))
+    ghost invariant = { λ r. Compiles r.text (Ok r.design)
         × (map arc_value r.tallies.items
-        ≡ tallies_of (arc_value r.design) (map arc_value r.records))
-        × (r.counts.items ≡ all_hits (arc_value r.design) (map arc_value r.records))
-        × (r.entries ≡ sum_by (bins_hit (arc_value r.design)) (map arc_value r.records)) };
+        ≡ tallies_of r.design (map arc_value r.records))
+        × (r.counts.items ≡ all_hits r.design (map arc_value r.records))
+        × (r.entries ≡ sum_by (bins_hit r.design) (map arc_value r.records)) };
 }
 
 /// What a `Rebinned` holds.
 #[derive(Drop)]
 pub struct Parts {
     pub text: Name,
-    pub design: Arc<Design>,
+    pub design: Planned,
     /// The tally of each test under the design, in order.
     pub tallies: Vec<Arc<Tally>>,
     /// For each bin, by its number, how often the tests hit it together.
@@ -88,7 +88,7 @@ impl Rebinned {
         ensures design { arc_value result.now ≡ self.now.design }
         ensures declared { Compiles self.now.text (Ok self.now.design) }
     {
-        &self.design
+        self.design.design()
     }
 
     /// The point of the basis.
@@ -115,7 +115,7 @@ impl Rebinned {
     /// Gives away what it holds. It takes no memory.
     pub fn into_parts(self) -> Parts
         ensures text { result.text ≡ self.text }
-        ensures design { arc_value result.design ≡ self.design }
+        ensures design { result.design ≡ self.design }
         ensures tallies { map arc_value result.tallies.items ≡ tallies_of self.design self.records }
         ensures counts { result.counts.items ≡ all_hits self.design self.records }
     {
@@ -141,11 +141,11 @@ pub fn rebin<R: Threads + Sync, G: Gate>(
     ensures { IfOk result (λ r. IsRebinned compiled basis.now r) }
 {
     gate.pass(3);
-    let counted = count_records(rt, alloc, compiled.design(), basis.records.as_slice())?;
+    let design = Planned::of(alloc, compiled.design())?;
+    let counted = count_records(rt, alloc, &design, basis.records.as_slice())?;
     gate.pass(4);
     let text = Name::of(alloc, compiled.text())?;
     let records = shared_records(alloc, basis.records.as_slice())?;
-    let design = compiled.design().clone()?;
     Ok(Rebinned {
         text,
         design,

@@ -175,8 +175,9 @@ fn reads_literals(rt: HostRuntime) -> Result<(), Fail> {
 }
 
 #[test]
-fn refuses_wide_literals(rt: HostRuntime) {
-    let rows: [&[u8]; 8] = [
+fn refuses_what_is_no_literal(rt: HostRuntime) {
+    let rows: [&[u8]; 9] = [
+        b"abc",
         b"3'hx",
         b"3'h?",
         b"4'd16",

@@ -12,7 +12,7 @@ use cov_base::{Int, Memory};
 use cov_tree::List;
 use std::alloc::Global;
 use std::marker::Model;
-use trans_seq::Seq;
+use trans_seq::{Seq, append_copies};
 
 /// The sequences of one side of an automaton. Contracts see them alone.
 #[derive(Drop)]
@@ -40,9 +40,7 @@ fn copied_seqs(alloc: Global, seqs: &[Seq]) -> Result<Vec<Seq>, Memory>
     ensures { IfOk result (λ copies. copies.items ≡ seqs.now) }
 {
     let mut copies = Vec::new(alloc);
-    for seq in seqs {
-        copies.push(seq.copy(alloc)?)?;
-    }
+    append_copies(alloc, seqs, &mut copies)?;
     Ok(copies)
 }
 

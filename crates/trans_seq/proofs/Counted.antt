@@ -18,7 +18,7 @@ abbrev pub AllDiffer : List Word → Type 0
 AllDiffer [] = Unit {0}
 AllDiffer (w ∷ ws) = (is_among ws w ≡ false) × AllDiffer ws
 
-bool_cases : (b : Bool) → (b ≡ true) ⊎ (b ≡ false)
+pub bool_cases : (b : Bool) → (b ≡ true) ⊎ (b ≡ false)
 bool_cases true = inl refl
 bool_cases false = inr refl
 

@@ -1,11 +1,11 @@
 -- Lists with one number of each of several sets, and those that are found already.
-use Rattle.std.proofs.Common.{◌≡◌, ℕ, ◌+◌, ◌<◌, ◌≤◌, List, [], ◌∷◌, ◌++◌, length, drop, get_or, map, filter, refl, ap, sym, ◌∙◌, subst, inl, inr, arith, append_assoc, append-nil, length-append, Result, Ok, Err, OnOk, Bool, true, false, cond, zero, suc}
-use Rattle.std.specs.Prelude.{ℤ, ◌-◌, ◌==◌, not, ◌||◌, Some, Option, replicate}
+use Rattle.std.proofs.Common.{◌≡◌, ℕ, ◌≤◌, List, [], ◌∷◌, ◌++◌, length, drop, map, filter, refl, ap, sym, ◌∙◌, subst, inl, inr, arith, append_assoc, append-nil, length-append, Result, Ok, Err, OnOk, Bool, true, false, cond}
+use Rattle.std.specs.Prelude.{ℤ, ◌==◌, not, ◌||◌, Some, Option}
 use Rattle.std.specs.Ordering.{int_eq}
 use Rattle.std.specs.List.{flat_map, list_any}
 use Rattle.std.proofs.lemmas.Bool.{false≢true, true≢false, or_cases, or_left, or_right}
 use Rattle.std.proofs.lemmas.Bool.Decides.{Decides-int_eq}
-use Rattle.std.proofs.lemmas.List.{drop_more, drop_all}
+use Rattle.std.proofs.lemmas.List.{drop_all}
 use Rattle.cov_base.specs.Sets.{written, is_in, without}
 use Rattle.trans_seq.specs.declared.seq.Item.{Item}
 use Rattle.trans_seq.specs.declared.found.Found.{Found}
@@ -13,13 +13,15 @@ use Rattle.trans_seq.specs.declared.held.Held.{Held}
 use Rattle.trans_seq.specs.declared.held.Known.{Known}
 use Rattle.trans_seq.specs.declared.fault.ExpandFault.{ExpandFault}
 use Rattle.trans_seq.specs.declared.fault.ExpandFault.TheVariants.{Unbounded, TooLong, TooManyBins, Memory}
-use Rattle.trans_seq.specs.Lists.{is_among, news, all_of, listed, by_lengths, choices, joined, lengths, from_on, is_endless, RefusesToExpand}
+use Rattle.trans_seq.specs.Lists.{is_among, news, all_of, listed, by_lengths, is_endless, RefusesToExpand}
 use Rattle.trans_seq.specs.Cells.{cells_of_items}
 use Rattle.cov_ground.specs.Limits.{most_cells}
 use Rattle.trans_seq.specs.Found.{lists_of, Takes, FailsAfter}
-use Rattle.trans_seq.specs.Held.{words, begun, begun_by, once, AreSpread, HasAll, AreHeld}
+use Rattle.trans_seq.specs.Held.{words, begun, begun_by, AreSpread, HasAll, AreHeld}
 use Rattle.trans_seq.proofs.News.{Word, among_left, among_right, among_cases, among_news, news-append, news-map}
-use Rattle.trans_seq.proofs.Counted.{map-append, map-same, joined-append, first_map, no_more, listed-differ}
+use Rattle.trans_seq.specs.Alone.{behind, behind_by, groups_ahead}
+use Rattle.trans_seq.proofs.Ahead.{ahead-all}
+use Rattle.trans_seq.proofs.Counted.{map-append, map-same, no_more, listed-differ}
 use Rattle.trans_seq.proofs.FoundLemmas.{lists_after}
 use Rattle.trans_seq.proofs.MetLemmas.{news_none}
 use Rattle.trans_seq.proofs.Numbers.{none_written}
@@ -32,16 +34,16 @@ begun-more first v (w ∷ ws) =
     ap (λ u. u ∷ map (λ w. first ++ w) (map (λ r. v ∷ r) ws)) (sym (append_assoc first (v ∷ []) w))
     ∙ ap (λ l. ((first ++ v ∷ []) ++ w) ∷ l) (begun-more first v ws)
 
-begun-each : (first : Word) (vs : List ℤ) (items : List Item) → begun_by first vs items ≡ map (λ w. first ++ w) (flat_map (λ v. map (λ r. v ∷ r) (words items)) vs)
-begun-each first [] items = refl
-begun-each first (v ∷ vs) items =
-    let here = map (λ r. v ∷ r) (words items) in
-    ap (λ l. l ++ begun_by first vs items) (sym (begun-more first v (words items)))
-    ∙ ap (λ l. map (λ w. first ++ w) here ++ l) (begun-each first vs items)
-    ∙ sym (map-append (λ w. first ++ w) here (flat_map (λ v. map (λ r. v ∷ r) (words items)) vs))
+pub behind-each : (first : Word) (vs : List ℤ) (ws : List Word) → behind_by first vs ws ≡ behind first (flat_map (λ v. map (λ r. v ∷ r) ws) vs)
+behind-each first [] ws = refl
+behind-each first (v ∷ vs) ws =
+    let here = map (λ r. v ∷ r) ws in
+    ap (λ l. l ++ behind_by first vs ws) (sym (begun-more first v ws))
+    ∙ ap (λ l. behind first here ++ l) (behind-each first vs ws)
+    ∙ sym (map-append (λ w. first ++ w) here (flat_map (λ v. map (λ r. v ∷ r) ws) vs))
 
 pub begun-item : (first : Word) (item : Item) (items : List Item) → begun_by first (written item.set) items ≡ begun first (item ∷ items)
-begun-item first item items = begun-each first (written item.set) items
+begun-item first item items = behind-each first (written item.set) (words items)
 
 pub begun-none : (first : Word) (set : List (ℤ × ℤ)) (items : List Item) → set ≡ [] → begun_by first (written set) items ≡ []
 begun-none first set items none = ap (λ vs. begun_by first vs items) (ap written none ∙ none_written)
@@ -135,51 +137,9 @@ passed-known before first set known items had =
 
 -- ---- items of one length
 
-abbrev pub ahead : List Item → List Word → List Word
-ahead [] ws = ws
-ahead (item ∷ items) ws = flat_map (λ v. map (λ r. v ∷ r) (ahead items ws)) (written item.set)
-
-ahead-all : (items : List Item) → ahead items ([] ∷ []) ≡ words items
-ahead-all [] = refl
-ahead-all (item ∷ items) = ap (λ l. flat_map (λ v. map (λ r. v ∷ r) l) (written item.set)) (ahead-all items)
-
-pub ahead-append : (xs ys : List Item) (ws : List Word) → ahead (xs ++ ys) ws ≡ ahead xs (ahead ys ws)
-ahead-append [] ys ws = refl
-ahead-append (x ∷ xs) ys ws = ap (λ l. flat_map (λ v. map (λ r. v ∷ r) l) (written x.set)) (ahead-append xs ys ws)
-
-ahead-times-by : (vs : List ℤ) (firsts ws : List Word) → joined (flat_map (λ v. map (λ r. v ∷ r) firsts) vs) ws ≡ flat_map (λ v. map (λ r. v ∷ r) (joined firsts ws)) vs
-ahead-times-by [] firsts ws = refl
-ahead-times-by (v ∷ vs) firsts ws =
-    let here = map (λ r. v ∷ r) firsts in
-    let rest = flat_map (λ v. map (λ r. v ∷ r) firsts) vs in
-    joined-append here rest ws
-    ∙ ap (λ l. l ++ joined rest ws) (sym (map-same (joined here ws)) ∙ first_map [] v firsts ws)
-    ∙ ap (λ l. map (λ r. v ∷ r) (joined firsts ws) ++ l) (ahead-times-by vs firsts ws)
-
-pub ahead-times : (item : Item) (n : ℕ) (ws : List Word) → joined (choices (written item.set) n) ws ≡ ahead (replicate n (once item)) ws
-ahead-times item zero ws = append-nil (map (λ o. [] ++ o) ws) ∙ map-same ws
-ahead-times item (suc n) ws =
-    ahead-times-by (written item.set) (choices (written item.set) n) ws
-    ∙ ap (λ l. flat_map (λ v. map (λ r. v ∷ r) l) (written item.set)) (ahead-times item n ws)
-
--- what is kept as the items are gone through
-abbrev pub Spreads : List Item → ℕ → List Item → Type 0
-Spreads items i others = (ws : List Word) → by_lengths (drop i items) ≡ ws ∷ [] → by_lengths items ≡ ahead others ws ∷ []
-
-pub spreads-all : (items others : List Item) (i : ℕ) → length items ≤ i → Spreads items i others → AreSpread items others
-spreads-all items others i le h = h ([] ∷ []) (ap by_lengths (drop_all i items le)) ∙ ap (λ l. l ∷ []) (ahead-all others)
-
-pub spreads-more : (items : List Item) (i : ℕ) (item : Item) (others next : List Item) (low high : ℕ) → i < length items → item ≡ get_or items i item → lengths item.repeat ≡ from_on low (high + 1 - low) → low ≡ high
-    → next ≡ others ++ replicate low (once item) → Spreads items i others → Spreads items (i + 1) next
-spreads-more items i item others next low high lt is ends same more h ws e =
-    let rest = drop (i + 1) items in
-    let parts : drop i items ≡ item ∷ rest = drop_more items i item lt ∙ ap (λ x. x ∷ rest) (sym is) in
-    let one : high + 1 - low ≡ 1 = omega (arith, same) in
-    let single : lengths item.repeat ≡ low ∷ [] = ends ∙ ap (λ n. from_on low n) one in
-    let f : List (List Word) → ℕ → List (List Word) = λ gs n. map (λ g. joined (choices (written item.set) n) g) gs in
-    let here : by_lengths (item ∷ rest) ≡ joined (choices (written item.set) low) ws ∷ [] = ap (λ ns. flat_map (f (by_lengths rest)) ns) single ∙ ap (λ gs. flat_map (f gs) (low ∷ [])) e in
-    h (ahead (replicate low (once item)) ws) (ap by_lengths parts ∙ here ∙ ap (λ l. l ∷ []) (ahead-times item low ws))
-    ∙ ap (λ l. l ∷ []) (sym (ahead-append others (replicate low (once item)) ws) ∙ ap (λ o. ahead o ws) (sym more))
+pub spread-all : (items others : List Item) (size : ℕ) → length items ≤ size → by_lengths items ≡ groups_ahead others (by_lengths (drop size items)) → AreSpread items others
+spread-all items others size le is =
+    is ∙ ap (λ l. groups_ahead others (by_lengths l)) (drop_all size items le) ∙ ap (λ l. l ∷ []) (ahead-all others)
 
 -- the lists of such a sequence
 pub spread-listed : (items others : List Item) (first : Word) (before : List Word) → first ≡ [] → AreSpread items others → news before (begun first others) ≡ news before (listed items)

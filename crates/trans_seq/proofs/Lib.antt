@@ -12,6 +12,7 @@ pub mod ReachLemmas
 pub mod WordLemmas
 pub mod MetLemmas
 pub mod Numbers
+pub mod Ahead
 pub mod HeldLemmas
 pub mod AloneLemmas
 pub mod RunLemmas

@@ -1,10 +1,10 @@
 -- From one item to the next, and from groups to the list of lists.
-use Rattle.std.proofs.Common.{◌≡◌, ℕ, ◌+◌, ◌-◌, ◌^◌, min, ◌≤◌, ◌<◌, ◌⊎◌, List, [], ◌∷◌, ◌++◌, length, take, drop, get_or, refl, ap, sym, ◌∙◌, subst, inl, inr, arith, append-nil, map, false, zero, suc, Any, Result, Ok, Err, IfOk, IfErr}
+use Rattle.std.proofs.Common.{◌≡◌, ℕ, ◌+◌, ◌-◌, ◌^◌, min, ◌≤◌, ◌<◌, ◌⊎◌, List, [], ◌∷◌, ◌++◌, length, take, drop, get_or, refl, ap, sym, ◌∙◌, subst, inl, inr, arith, append-nil, map, false, zero, suc, Any, All, Result, Ok, Err, IfOk, IfErr}
 use Rattle.std.specs.Prelude.{ℤ, pos, Contains, Vec}
 use Rattle.std.specs.Global.{Global}
 use Rattle.std.specs.List.{list_any}
 use Rattle.std.proofs.lemmas.Slice.{first_rest}
-use Rattle.std.proofs.lemmas.List.Elements.{Contains-get_or}
+use Rattle.std.proofs.lemmas.List.Elements.{Contains-get_or, All-head, All-tail}
 use Rattle.cov_base.specs.Sets.{written}
 use Rattle.cov_ground.specs.Limits.{most_bins, most_cells}
 use Rattle.trans_seq.specs.declared.found.Found.{Found}
@@ -15,6 +15,8 @@ use Rattle.trans_seq.specs.Lists.{from_on, lengths, choices, by_lengths, news, a
 use Rattle.trans_seq.specs.Cells.{cells_of_items}
 use Rattle.trans_seq.specs.Found.{lists_of, Holds, FailsAfter, Extends, HasList, NoList, new_groups, packed}
 use Rattle.trans_seq.proofs.Members.{none_in, first_in, cases_in, in_map, in_flat_map}
+use Rattle.trans_seq.specs.Alone.{groups_ahead, Exceeds, AreOrdered, IsFront}
+use Rattle.trans_seq.proofs.Ahead.{packed_front}
 use Rattle.trans_seq.proofs.News.{Word, all_of-new_groups, all_of-packed}
 use Rattle.trans_seq.proofs.Counted.{no_fewer, no_list_here, no_list_later}
 
@@ -75,6 +77,35 @@ fails_behind_too item items Unbounded has h = h
 fails_behind_too item items (TooLong cells) has h = h
 fails_behind_too item items (TooManyBins count) has h = (h.0, omega (arith, h.1, no_fewer_news item items has))
 fails_behind_too item items Memory has h = h
+
+-- items are put in front of what is new behind them
+pub fails_front : (n : ℕ) (items : List Item) (f : ExpandFault) → All HasList items → FailsAfter [] (all_of (by_lengths (drop n items))) f → FailsAfter [] (all_of (by_lengths items)) f
+fails_front zero items f has h = h
+fails_front (suc n) [] f has h = h
+fails_front (suc n) (item ∷ items) f has h = fails_behind_too item items f (All-head HasList item items has) (fails_front n items f (All-tail HasList item items has) h)
+
+pub cells_front : (n : ℕ) (items : List Item) → cells_of_items (drop n items) ≤ cells_of_items items
+cells_front zero items = omega arith
+cells_front (suc n) [] = omega arith
+cells_front (suc n) (item ∷ items) = let next : cells_of_items (drop n items) ≤ cells_of_items items = cells_front n items in omega (arith, next)
+
+pub groups_front : (items once : List Item) (size : ℕ) (got : List (List Word)) → IsFront items once size → AreOrdered once → got ≡ packed (new_groups [] (by_lengths (drop size items)))
+    → packed (groups_ahead once got) ≡ packed (new_groups [] (by_lengths items))
+groups_front items once size got front order is =
+    ap (λ l. packed (groups_ahead once l)) is
+    ∙ packed_front once (by_lengths (drop size items)) order
+    ∙ ap (λ l. packed (new_groups [] l)) (sym front.groups)
+
+-- so many lists are listed
+pub listed_front : (items : List Item) (gs : List (List Word)) → packed gs ≡ packed (new_groups [] (by_lengths items)) → length (all_of gs) ≡ length (listed items)
+listed_front items gs same = ap length (sym (all_of-packed gs) ∙ ap all_of same ∙ sym (listed_all items))
+
+pub exceeds_front : (items : List Item) (gs : List (List Word)) (f : ExpandFault) → packed gs ≡ packed (new_groups [] (by_lengths items)) → Exceeds (length (all_of gs)) f → FailsAfter [] (all_of (by_lengths items)) f
+exceeds_front items gs Unbounded same h = h
+exceeds_front items gs (TooLong cells) same h = h
+exceeds_front items gs (TooManyBins count) same h =
+    (h.0, omega (arith, h.1, ap length (sym (all_of-packed gs) ∙ ap all_of same ∙ all_of-packed (new_groups [] (by_lengths items)) ∙ all_of-new_groups [] (by_lengths items))))
+exceeds_front items gs Memory same h = h
 
 pub listed_none : length (listed []) ≡ 1
 unfolding listed

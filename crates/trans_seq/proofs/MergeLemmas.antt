@@ -1,5 +1,5 @@
 -- The lists of several sequences, one sequence after the other.
-use Rattle.std.proofs.Common.{◌≡◌, ℕ, ◌≤◌, ◌<◌, ◌↔◌, List, [], ◌∷◌, ◌++◌, length, map, ap, sym, ◌∙◌, subst, inl, inr, arith, Bool, true, false, Some, append-nil}
+use Rattle.std.proofs.Common.{◌≡◌, ◌≤◌, ◌↔◌, List, [], ◌∷◌, ◌++◌, length, map, ap, sym, ◌∙◌, subst, inl, inr, arith, Bool, true, false, Some}
 use Rattle.std.specs.Prelude.{Contains, All}
 use Rattle.std.specs.List.{list_any}
 use Rattle.std.proofs.lemmas.Bool.{or_parts, true≢false}
@@ -8,9 +8,9 @@ use Rattle.trans_seq.specs.declared.seq.Seq.{Seq}
 use Rattle.trans_seq.specs.declared.found.Found.{Found}
 use Rattle.trans_seq.specs.declared.fault.ExpandFault.{ExpandFault}
 use Rattle.trans_seq.specs.declared.fault.ExpandFault.TheVariants.{Unbounded, TooLong, TooManyBins, Memory}
-use Rattle.trans_seq.specs.Windows.{InSeq, InSome}
+use Rattle.trans_seq.specs.Windows.{InSome}
 use Rattle.trans_seq.specs.Lists.{is_among, news, all_of, listed, has_endless, IsShort, lists_by_all, listed_by_all, RefusesToExpand, RefusesToExpandAll}
-use Rattle.trans_seq.specs.Found.{lists_of, Holds, Takes, FailsAfter}
+use Rattle.trans_seq.specs.Found.{lists_of, Takes, FailsAfter}
 use Rattle.trans_seq.proofs.Members.{none_in, cases_in, in_flat_map}
 use Rattle.trans_seq.proofs.News.{Word, among_left, among_right, among_news}
 use Rattle.trans_seq.proofs.Counted.{no_more, listed-differ, news_from, map-same}

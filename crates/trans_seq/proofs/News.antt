@@ -193,7 +193,7 @@ all_of-packed [] = refl
 all_of-packed ([] ∷ gs) = all_of-packed gs
 all_of-packed ((w ∷ ws) ∷ gs) = ap (λ l. (w ∷ ws) ++ l) (all_of-packed gs)
 
-packed_one : (g : List Word) (gs hs : List (List Word)) → packed gs ≡ packed hs → packed (g ∷ gs) ≡ packed (g ∷ hs)
+pub packed_one : (g : List Word) (gs hs : List (List Word)) → packed gs ≡ packed hs → packed (g ∷ gs) ≡ packed (g ∷ hs)
 packed_one [] gs hs e = e
 packed_one (w ∷ ws) gs hs e = ap (λ l. (w ∷ ws) ∷ l) e
 

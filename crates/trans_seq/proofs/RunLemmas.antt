@@ -9,7 +9,8 @@ use Rattle.trans_seq.specs.declared.seq.Item.{Item}
 use Rattle.trans_seq.specs.Lists.{from_on, lengths, choices, joined, by_lengths, is_among, all_of}
 use Rattle.trans_seq.specs.Found.{FailsAfter, HasList, fronted, new_groups, packed}
 use Rattle.trans_seq.specs.Held.{once}
-use Rattle.trans_seq.proofs.HeldLemmas.{ahead, ahead-append, ahead-times}
+use Rattle.trans_seq.specs.Alone.{ahead}
+use Rattle.trans_seq.proofs.Ahead.{ahead-append, ahead-times}
 use Rattle.trans_seq.proofs.ListingLemmas.{from_on_low, others, fails_same, news_all}
 use Rattle.trans_seq.proofs.MetLemmas.{news_none}
 use Rattle.trans_seq.proofs.News.{Word, among_left, among_right, among_news, all_of-append, all_of-new_groups, new_groups-append, packed-append, packed_level}

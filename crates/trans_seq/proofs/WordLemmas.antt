@@ -1,20 +1,20 @@
 -- Sequences of single values have one list.
-use Rattle.std.proofs.Common.{◌≡◌, ◌⊎◌, ◌↔◌, ℕ, zero, suc, ◌+◌, ◌-◌, ◌<◌, ◌≤◌, ℤ, List, [], ◌∷◌, ◌++◌, length, get_or, take, drop, Bool, true, false, Option, Some, None, refl, ap, sym, subst, ◌∙◌, inl, inr, arith, int_le, int_eq, length-drop, length-take}
-use Rattle.std.specs.Prelude.{map, Any, ◌&&◌, ◌||◌, if◌then◌else◌}
+use Rattle.std.proofs.Common.{◌≡◌, ◌↔◌, ℕ, zero, suc, ◌-◌, ◌<◌, ◌≤◌, ℤ, List, [], ◌∷◌, ◌++◌, length, get_or, take, drop, Bool, true, false, Option, Some, None, refl, ap, sym, subst, ◌∙◌, arith, int_le, int_eq, length-drop}
+use Rattle.std.specs.Prelude.{Any, ◌&&◌, ◌||◌, if◌then◌else◌}
 use Rattle.std.proofs.lemmas.Grind.{common_steps}
 use Rattle.std.proofs.lemmas.Int.{ints}
-use Rattle.std.proofs.lemmas.List.{length-map, take-append-drop, append-nil}
+use Rattle.std.proofs.lemmas.List.{length-map, take-append-drop}
 use Rattle.std.specs.List.{All}
 use Rattle.std.proofs.lemmas.List.Elements.{All-head, All-cons, All-nil}
-use Rattle.std.proofs.lemmas.Bool.{true≢false, false≢true}
+use Rattle.std.proofs.lemmas.Bool.{false≢true}
 use Rattle.std.proofs.lemmas.Option.{cond_some}
-use Rattle.cov_base.specs.Sets.{is_in, written, covers}
+use Rattle.cov_base.specs.Sets.{is_in, written}
 use Rattle.cov_base.proofs.Members.{is_in-written}
 use Rattle.trans_seq.specs.declared.seq.Item.{Item}
 use Rattle.trans_seq.specs.declared.seq.Seq.{Seq}
 use Rattle.trans_seq.specs.declared.seq.Repeat.{Repeat}
 use Rattle.trans_seq.specs.declared.seq.Repeat.TheVariants.{Once, Consec, Goto, NonConsec}
-use Rattle.trans_seq.specs.Windows.{Then, IsOne, InItem, InSeq, InSome, InRepeat, EndsKept, is_known_in, is_end}
+use Rattle.trans_seq.specs.Windows.{IsOne, InSeq, InSome, InRepeat, EndsKept, is_known_in, is_end}
 use Rattle.trans_seq.specs.Words.{one_of, value_once, with_value, word_of, known, EndsWith}
 
 -- `cond true (Some x) None` is `Some x`

@@ -1,34 +1,43 @@
--- The lists of items of which each stands once, where nothing was found before. Public contracts cite none of it.
-use Rattle.std.specs.Prelude.{◌≡◌, ◌+◌, ◌<◌, ◌≤◌, ℕ, ℤ, List, [], ◌∷◌, ◌++◌, length, map, ⊤}
+-- Lists with one number of each of several sets in front of others. Public contracts cite none of it.
+use Rattle.std.specs.Prelude.{◌≡◌, ◌+◌, ◌<◌, ◌≤◌, ℕ, ℤ, List, [], ◌∷◌, ◌++◌, length, map, drop, ⊤}
 use Rattle.std.specs.List.{flat_map}
 use Rattle.cov_base.specs.Sets.{written, set_of}
 use Rattle.cov_ground.specs.Limits.{most_bins}
 use Rattle.trans_seq.specs.declared.fault.ExpandFault.{ExpandFault}
 use Rattle.trans_seq.specs.declared.fault.ExpandFault.TheVariants.{Unbounded, TooLong, TooManyBins, Memory}
 use Rattle.trans_seq.specs.declared.seq.Item.{Item}
-use Rattle.trans_seq.specs.Held.{begun}
+use Rattle.trans_seq.specs.Lists.{by_lengths}
 
--- these lists with the tail behind each
-abbrev pub ended : List ℤ → List (List ℤ) → List (List ℤ)
-ended tail lists = map (λ list. list ++ tail) lists
+-- these lists behind the numbers of first
+abbrev pub behind : List ℤ → List (List ℤ) → List (List ℤ)
+behind first lists = map (λ rest. first ++ rest) lists
 
--- the lists that begin with `first`, go on with one of the numbers and one of each item's set, and end with the tail
-abbrev pub ended_by : List ℤ → List ℤ → List ℤ → List Item → List (List ℤ)
-ended_by tail first numbers items = flat_map (λ v. ended tail (begun (first ++ v ∷ []) items)) numbers
+-- and with one of the numbers between
+abbrev pub behind_by : List ℤ → List ℤ → List (List ℤ) → List (List ℤ)
+behind_by first numbers lists = flat_map (λ v. behind (first ++ v ∷ []) lists) numbers
 
--- the lists are added, and are few enough then
-pub record Adds (old new lists : List (List ℤ)) : Type 0 where
-  pub are : new ≡ old ++ lists
-  pub few : length new ≤ most_bins
+-- each list with one number of each item's set in front of one of these, the last one running fastest
+abbrev pub ahead : List Item → List (List ℤ) → List (List ℤ)
+ahead [] lists = lists
+ahead (item ∷ items) lists = flat_map (λ v. map (λ r. v ∷ r) (ahead items lists)) (written item.set)
 
--- or they are too many, or memory ran out
-abbrev pub Exceeds : ℕ → ℕ → ExpandFault → Type 0
-Exceeds have more Unbounded = ⊥
-Exceeds have more (TooLong cells) = ⊥
-Exceeds have more (TooManyBins count) = (count ≡ most_bins + 1) × (most_bins < have + more)
-Exceeds have more Memory = ⊤
+-- the same in each group
+abbrev pub groups_ahead : List Item → List (List (List ℤ)) → List (List (List ℤ))
+groups_ahead items groups = map (λ group. ahead items group) groups
+
+-- so many lists are too many, or memory ran out
+abbrev pub Exceeds : ℕ → ExpandFault → Type 0
+Exceeds lists Unbounded = ⊥
+Exceeds lists (TooLong cells) = ⊥
+Exceeds lists (TooManyBins count) = (count ≡ most_bins + 1) × (most_bins < lists)
+Exceeds lists Memory = ⊤
 
 -- the intervals of each item's set are in normal form
 abbrev pub AreOrdered : List Item → Type 0
 AreOrdered [] = ⊤
 AreOrdered (item ∷ items) = (set_of (written item.set) ≡ item.set) × AreOrdered items
+
+-- so many items in front have lists of one length alone, with one number of each set of the others
+pub record IsFront (items others : List Item) (size : ℕ) : Type 0 where
+  pub within : size ≤ length items
+  pub groups : by_lengths items ≡ groups_ahead others (by_lengths (drop size items))

@@ -1,5 +1,5 @@
 -- Sequences of which each item is one value, once: they have one list (IEEE 1800-2017, 19.5.2).
-use Rattle.std.specs.Prelude.{◌≡◌, ◌↔◌, ℤ, ℕ, ◌≤◌, ◌<◌, ◌-◌, List, [], ◌∷◌, length, map, drop, Option, Some, None, if◌then◌else◌}
+use Rattle.std.specs.Prelude.{◌≡◌, ◌↔◌, ℤ, ◌≤◌, ◌<◌, ◌-◌, List, [], ◌∷◌, length, map, drop, Option, Some, None, if◌then◌else◌}
 use Rattle.std.specs.Ordering.{int_eq}
 use Rattle.trans_seq.specs.declared.seq.Item.{Item}
 use Rattle.trans_seq.specs.declared.seq.Seq.{Seq}

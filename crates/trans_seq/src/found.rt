@@ -87,8 +87,10 @@ pub(crate) fn take_group(
     found: &mut Found,
 ) -> Result<(), ExpandFault>
     requires { Holds found.old }
-    ensures ok { OnOk result (Takes found.old found.new (map (λ rest. first.now ++ rest) group.now)) }
-    ensures err { IfErr result (FailsAfter (lists_of found.old) (map (λ rest. first.now ++ rest) group.now)) }
+    ensures ok { OnOk result
+        (Takes found.old found.new (map (λ rest. first.now ++ rest) group.now)) }
+    ensures err { IfErr result
+        (FailsAfter (lists_of found.old) (map (λ rest. first.now ++ rest) group.now)) }
 {
     for rest in group {
         let list = list_of(alloc, first, rest.as_slice())?;
@@ -124,8 +126,10 @@ fn take_choices(
 ) -> Result<(), ExpandFault>
     requires { Holds found.old }
     ensures first { OnOk result (first.new.items ≡ first.old.items) }
-    ensures ok { OnOk result (Takes found.old found.new (continued (written set.now) first.old.items more group.now)) }
-    ensures err { IfErr result (FailsAfter (lists_of found.old) (continued (written set.now) first.old.items more group.now)) }
+    ensures ok { OnOk result (Takes found.old found.new
+        (continued (written set.now) first.old.items more group.now)) }
+    ensures err { IfErr result (FailsAfter (lists_of found.old)
+        (continued (written set.now) first.old.items more group.now)) }
 {
     if more == 0 {
         return take_group(alloc, first.as_slice(), group, found);
@@ -163,8 +167,10 @@ pub(crate) fn take_length(
 ) -> Result<(), ExpandFault>
     requires holds { Holds found.old }
     requires closed { found.old.fresh.items ≡ [] }
-    ensures ok { OnOk result (Extends found.old found.new (map (λ group. joined (choices (written set.now) size) group) groups.now)) }
-    ensures err { IfErr result (FailsAfter (all_of found.old.groups.items) (all_of (map (λ group. joined (choices (written set.now) size) group) groups.now))) }
+    ensures ok { OnOk result (Extends found.old found.new
+        (map (λ group. joined (choices (written set.now) size) group) groups.now)) }
+    ensures err { IfErr result (FailsAfter (all_of found.old.groups.items)
+        (all_of (map (λ group. joined (choices (written set.now) size) group) groups.now))) }
 {
     let mut first = Vec::new(alloc);
     for group in groups {

@@ -19,6 +19,6 @@ mod windows;
 pub use fault::ExpandFault;
 pub use listing::{expand, expand_all};
 pub use reach::window_in;
-pub use seq::{Item, Repeat, Seq};
+pub use seq::{Item, Repeat, Seq, append_copies};
 pub use size::{cells, cells_of_items, cells_of_seqs};
 pub use windows::is_inside;

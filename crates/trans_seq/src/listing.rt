@@ -8,14 +8,14 @@ ghost use Rattle.trans_seq.specs.Cells.{cells_of_repeat, cells_of_items};
 ghost use Rattle.trans_seq.specs.Windows.{HasWord, SomeHasWord};
 ghost use Rattle.trans_seq.specs.Lists.{lengths, by_lengths, from_on, all_of, listed, is_endless, has_endless as seq_has_endless, IsShort, IsFirstLong, HasEndless, Expands, RefusesToExpand, ExpandsAll, RefusesToExpandAll, lists_by_all, listed_by_all};
 
-use crate::alone::lists_of_items;
+use crate::alone::groups_before;
 use crate::fault::ExpandFault;
 use crate::found::{Found, none_found, take_all, take_length};
 use crate::held::{Known, none_known};
 use crate::met::{Met, is_held, none_met};
 use crate::seq::{Item, Repeat, Seq, same_values};
 use crate::size::cells;
-use crate::spread::{spread, take_items};
+use crate::spread::{front_of, spread, take_items};
 use cov_base::{Int, Memory, ValueSet};
 use cov_ground::limits::MOST_CELLS;
 use cov_tree::List;
@@ -121,9 +121,28 @@ fn run_of<'a>(set: &ValueSet, low: u32, high: u32, items: &'a [Item]) -> (u32, u
     }
 }
 
+/// The lists of the items, in groups of the same lengths. Those in front that have lists of one length alone are put
+/// before the others at once.
+#[cycle(grouped)]
+fn grouped(alloc: Global, items: &[Item]) -> Result<Vec<List<List<Int>>>, ExpandFault>
+    requires lists { AllHaveList items.now }
+    requires short { cells_of_items items.now ≤ most_cells }
+    ensures ok { IfOk result (λ made. made.items ≡ packed (new_groups [] (by_lengths items.now))) }
+    ensures few { IfOk result (λ made. length (listed items.now) ≤ most_bins) }
+    ensures err { IfErr result (FailsAfter [] (all_of (by_lengths items.now))) }
+{
+    let front = front_of(alloc, items)?;
+    if front.size == 0 {
+        return varied(alloc, items);
+    }
+    let groups = grouped(alloc, &items[front.size..])?;
+    groups_before(alloc, front.once.as_slice(), groups.as_slice())
+}
+
 /// The lists of the items, in groups of the same lengths. Items of one set that stand one after the other are taken
 /// together.
-fn grouped(alloc: Global, items: &[Item]) -> Result<Vec<List<List<Int>>>, ExpandFault>
+#[cycle(grouped)]
+fn varied(alloc: Global, items: &[Item]) -> Result<Vec<List<List<Int>>>, ExpandFault>
     requires lists { AllHaveList items.now }
     requires short { cells_of_items items.now ≤ most_cells }
     ensures ok { IfOk result (λ made. made.items ≡ packed (new_groups [] (by_lengths items.now))) }
@@ -161,9 +180,10 @@ fn flattened(alloc: Global, groups: Vec<List<List<Int>>>) -> Result<Vec<List<Int
 /// the last one running fastest. A list that was there before is left out.
 ///
 /// It is refused where an item has `[->` or `[=`; else where the greatest lengths of the items are more than
-/// `MOST_CELLS` together, even where an item has no list; else where more than `MOST_BINS` lists are distinct. Items of
-/// one set that stand one after the other are taken as one. The work is then, item by item from the last one, at most
-/// what its set and lengths make of the distinct lists behind it, and never the number of ways to make a list.
+/// `MOST_CELLS` together, even where an item has no list; else where more than `MOST_BINS` lists are distinct. Items that
+/// have lists of one length alone are put before the lists behind them at once, and items of one set that stand one after
+/// the other are taken as one. The work is then, from one item of several lengths to the next, at most what its set and
+/// lengths make of the distinct lists behind it, and never the number of ways to make a list.
 pub fn expand(alloc: Global, seq: &Seq) -> Result<Vec<List<Int>>, ExpandFault>
     ensures lists { IfOk result (λ lists. Expands seq.now.items lists.items) }
     ensures windows { IfOk result
@@ -242,39 +262,6 @@ fn distinct(alloc: Global, seqs: &[Seq]) -> Result<Vec<List<Int>>, ExpandFault>
 
 /// The lists of a sequence by itself, which are distinct.
 fn alone(alloc: Global, seq: &Seq) -> Result<Vec<List<Int>>, ExpandFault>
-    requires bounded { seq_has_endless seq.now ≡ false }
-    requires short { IsShort seq.now }
-    ensures lists { IfOk result (λ lists. lists.items ≡ listed seq.now.items) }
-    ensures few { IfOk result (λ lists. length (listed seq.now.items) ≤ most_bins) }
-    ensures err { IfErr result (FailsAfter [] (listed seq.now.items)) }
-{
-    let items = seq.items.as_slice();
-    let is_empty = !all_have_list(items);
-    if is_empty {
-        return Ok(Vec::new(alloc));
-    }
-    match spread(alloc, items)? {
-        Some(others) => spread_lists(alloc, items, others.as_slice()),
-        None => expanded(alloc, seq),
-    }
-}
-
-/// The lists of items that have lists of one length alone, with one number of each set of the others.
-fn spread_lists(
-    alloc: Global,
-    items: &[Item],
-    others: &[Item],
-) -> Result<Vec<List<Int>>, ExpandFault>
-    requires { AreSpread items.now others.now }
-    ensures lists { IfOk result (λ lists. lists.items ≡ listed items.now) }
-    ensures few { IfOk result (λ lists. length (listed items.now) ≤ most_bins) }
-    ensures err { IfErr result (FailsAfter [] (listed items.now)) }
-{
-    lists_of_items(alloc, others)
-}
-
-/// The lists of a sequence as they are written out.
-fn expanded(alloc: Global, seq: &Seq) -> Result<Vec<List<Int>>, ExpandFault>
     requires bounded { seq_has_endless seq.now ≡ false }
     requires short { IsShort seq.now }
     ensures lists { IfOk result (λ lists. lists.items ≡ listed seq.now.items) }

@@ -1,5 +1,5 @@
 //! What a transition sequence is written of.
-ghost use Rattle.std.specs.Prelude.{◌≡◌, ◌↔◌, IsTrue, IfOk};
+ghost use Rattle.std.specs.Prelude.{◌≡◌, ◌↔◌, ◌++◌, IsTrue, IfOk, OnOk};
 ghost use Rattle.trans_seq.specs.Cells.{cells_of_repeat};
 
 use cov_base::{Memory, ValueSet};
@@ -86,6 +86,16 @@ impl Seq {
             items: List::of(copied_items(alloc, self.items.as_slice())?),
         })
     }
+}
+
+/// Appends copies of the sequences.
+pub fn append_copies(alloc: Global, seqs: &[Seq], copies: &mut Vec<Seq>) -> Result<(), Memory>
+    ensures { OnOk result (copies.new.items ≡ copies.old.items ++ seqs.now) }
+{
+    for seq in seqs {
+        copies.push(seq.copy(alloc)?)?;
+    }
+    Ok(())
 }
 
 pub(crate) fn copied_items(alloc: Global, items: &[Item]) -> Result<Vec<Item>, Memory>

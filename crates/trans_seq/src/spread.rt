@@ -3,6 +3,7 @@
 ghost use Rattle.std.specs.Prelude.{◌≡◌, [], ◌++◌, ℕ, replicate, IsTrue, IfOk, IfErr, OnOk, IfSome};
 ghost use Rattle.cov_base.specs.Sets.{written, without};
 ghost use Rattle.trans_seq.specs.Found.{Holds, Takes, FailsAfter, lists_of};
+ghost use Rattle.trans_seq.specs.Alone.{IsFront};
 ghost use Rattle.trans_seq.specs.Held.{begun, begun_by, once as item_once, AreSpread, AreHeld};
 
 use crate::fault::ExpandFault;
@@ -17,7 +18,8 @@ use std::alloc::Global;
 const FEW_NUMBERS: u128 = 3;
 
 fn add_once(alloc: Global, item: &Item, times: u32, items: &mut Vec<Item>) -> Result<(), Memory>
-    ensures { OnOk result (items.new.items ≡ items.old.items ++ replicate times (item_once item.now)) }
+    ensures { OnOk result
+        (items.new.items ≡ items.old.items ++ replicate times (item_once item.now)) }
 {
     for _ in 0..times {
         let set = item.set.copy(alloc)?;
@@ -29,19 +31,40 @@ fn add_once(alloc: Global, item: &Item, times: u32, items: &mut Vec<Item>) -> Re
     Ok(())
 }
 
+/// Items of which each stands once, and how many items in front they stand for.
+#[derive(Drop)]
+pub(crate) struct Front {
+    pub(crate) once: Vec<Item>,
+    pub(crate) size: usize,
+}
+
+/// For the items in front that have lists of one length alone, an item that stands once for each of their values.
+pub(crate) fn front_of(alloc: Global, items: &[Item]) -> Result<Front, Memory>
+    ensures { IfOk result (λ front. IsFront items.now front.once.items front.size) }
+{
+    let mut once = Vec::new(alloc);
+    for (size, item) in items.iter().enumerate() {
+        let (low, high) = ends(item.repeat);
+        if low != high {
+            return Ok(Front { once, size });
+        }
+        add_once(alloc, item, low, &mut once)?;
+    }
+    Ok(Front {
+        once,
+        size: items.len(),
+    })
+}
+
 /// Where each item has lists of one length alone, an item that stands once for each of their values.
 pub(crate) fn spread(alloc: Global, items: &[Item]) -> Result<Option<Vec<Item>>, Memory>
     ensures { IfOk result (λ spread. IfSome spread (λ others. AreSpread items.now others.items)) }
 {
-    let mut others = Vec::new(alloc);
-    for item in items {
-        let (low, high) = ends(item.repeat);
-        if low != high {
-            return Ok(None);
-        }
-        add_once(alloc, item, low, &mut others)?;
+    let front = front_of(alloc, items)?;
+    if front.size < items.len() {
+        return Ok(None);
     }
-    Ok(Some(others))
+    Ok(Some(front.once))
 }
 
 /// The numbers of the set that aren't among those that are known.
@@ -122,9 +145,11 @@ fn take_unknown(
     requires holds { Holds found.old }
     requires held { AreHeld known.old (lists_of found.old) }
     ensures first { OnOk result (first.new.items ≡ first.old.items) }
-    ensures ok { OnOk result (Takes found.old found.new (begun_by first.old.items (written set.now) rest.now)) }
+    ensures ok { OnOk result
+        (Takes found.old found.new (begun_by first.old.items (written set.now) rest.now)) }
     ensures held { OnOk result (AreHeld known.new (lists_of found.new)) }
-    ensures err { IfErr result (FailsAfter (lists_of found.old) (begun_by first.old.items (written set.now) rest.now)) }
+    ensures err { IfErr result
+        (FailsAfter (lists_of found.old) (begun_by first.old.items (written set.now) rest.now)) }
 {
     let before = known_numbers(alloc, first.as_slice(), rest, known)?;
     let left = unknown_numbers(alloc, set, &before)?;
@@ -149,9 +174,11 @@ fn take_numbers(
     requires holds { Holds found.old }
     requires held { AreHeld known.old (lists_of found.old) }
     ensures first { OnOk result (first.new.items ≡ first.old.items) }
-    ensures ok { OnOk result (Takes found.old found.new (begun_by first.old.items (written set.now) rest.now)) }
+    ensures ok { OnOk result
+        (Takes found.old found.new (begun_by first.old.items (written set.now) rest.now)) }
     ensures held { OnOk result (AreHeld known.new (lists_of found.new)) }
-    ensures err { IfErr result (FailsAfter (lists_of found.old) (begun_by first.old.items (written set.now) rest.now)) }
+    ensures err { IfErr result
+        (FailsAfter (lists_of found.old) (begun_by first.old.items (written set.now) rest.now)) }
 {
     for k in 0..set.count() {
         if let Some(value) = set.nth(k) {

@@ -9,6 +9,7 @@ use Rattle.atomic_table.specs.Table.{State}
 use Rattle.turn_lock.specs.declared.board.View.{View}
 use Rattle.turn_lock.specs.declared.board.Stage.{Stage}
 use Rattle.turn_lock.specs.declared.board.Stage.TheVariants.{Spent, Idle, Waiting, Served, Done}
+use Rattle.turn_lock.specs.Limits.{most_seats}
 use Rattle.turn_lock.specs.History.{NoneBy}
 use Rattle.turn_lock.specs.Views.{lives_of, HasTurn, lefts, tickets, places, total}
 
@@ -81,7 +82,7 @@ module _ {T B E : Type 0} (base : T → B) (entries : T → List E) (sound : B �
     pub left_over : next + total lefts s.views ≡ 2 ^ 32
     pub unused : (n : ℕ) → next ≤ n → NoneBy number n (drop opened log)
     pub within : opened ≤ length log
-    pub bound : most ≤ 4096
+    pub bound : most ≤ most_seats
     -- as many tickets are held as there are from served up to drawn, by no more seats than the lock was opened for
     pub held : drawn ≡ served + total tickets s.views
     pub few : total places s.views ≤ most

@@ -7,10 +7,6 @@ use Rattle.turn_lock.specs.declared.types.TurnLock.{TurnLock}
 use Rattle.turn_lock.specs.declared.types.Seat.{Seat}
 use Rattle.turn_lock.specs.declared.types.Turn.{Turn}
 
--- the most seats of a lock at a time
-abbrev pub most_seats : ℕ
-most_seats = 4096
-
 module _ {T B E : Type 0} where
   -- the base of the lock
   unfoldable pub home : (T → B) → TurnLock T B E → B

@@ -4,6 +4,7 @@ use mathlib.Core.List.{IsPrefix}
 use Rattle.atomic_table.specs.Table.{Me, Step}
 use Rattle.turn_lock.specs.declared.board.View.{View}
 use Rattle.turn_lock.specs.declared.board.Stage.TheVariants.{Waiting, Served, Done, Idle}
+use Rattle.turn_lock.specs.Limits.{most_seats}
 use Rattle.turn_lock.specs.History.{longer, NoneBy}
 use Rattle.turn_lock.specs.Views.{ticket_of, taken_of, who_is, view, at_stage}
 
@@ -43,7 +44,7 @@ module _ {T B E : Type 0} where
   abbrev pub learned : (B → List E → Type 0) → (E → ℕ) → Step (Option T) → Sat T B E → ℕ → Sat T B E → Type 0
   learned sound number st m r m' = (m' ≡ (view m.0.stage m.0.free m.0.base (longer m.0.seen m.0.told) m.0.told m.0.who, m.1))
       × IsPrefix m.0.seen m'.0.seen × IsPrefix m.0.told m'.0.seen × ((b : B) → m.0.base ≡ Some b → sound b m'.0.seen)
-      × NoneBy number m.0.who.number (drop (length m.0.seen) m'.0.seen) × (m.0.who.left < 2 ^ 32) × (m.0.free < 4096) × (m.0.who.opened ≤ length m.0.seen)
+      × NoneBy number m.0.who.number (drop (length m.0.seen) m'.0.seen) × (m.0.who.left < 2 ^ 32) × (m.0.free < most_seats) × (m.0.who.opened ≤ length m.0.seen)
 
   -- the seat holds this ticket and no slot
   abbrev pub Waits : ℕ → Sat T B E → Type 0

@@ -5,7 +5,8 @@ ghost use Rattle.turn_lock.specs.History.{longer, NoneBy, AtMostOneMore};
 ghost use Rattle.turn_lock.specs.Views.{taken_of, ticket_of, view};
 ghost use Rattle.turn_lock.specs.Steps.{Waits, IsServed};
 ghost use Rattle.turn_lock.specs.declared.board.Stage.TheVariants.{Done};
-ghost use Rattle.turn_lock.specs.Seats.{most_seats, home, IsSeatOf, IsSame, IsTurnOf, IsTurnBy};
+ghost use Rattle.turn_lock.specs.Limits.{most_seats};
+ghost use Rattle.turn_lock.specs.Seats.{home, IsSeatOf, IsSame, IsTurnOf, IsTurnBy};
 ghost use Rattle.turn_lock.specs.Seats.{number_of, free, left, opened, seen, own, taken, turn_number, turn_own};
 
 use crate::board::{About, Board, Place};

@@ -15,7 +15,8 @@ use Rattle.vcd_reader.specs.Signals.{vars_in, codes_of}
 use Rattle.vcd_reader.specs.Watching.{first_of}
 use Rattle.vcd_reader.specs.Events.{all_events}
 use Rattle.vcd_reader.specs.Moments.{events_of}
-use Rattle.vcd_reader.specs.Starting.{signal_row, start_of, limited}
+use Rattle.cov_counting.specs.Tables.{signal_row}
+use Rattle.vcd_reader.specs.Starting.{start_of, limited}
 
 -- the first group whose event can't be watched
 abbrev pub unless_bad : Option ℕ → Watches → Result Watches DumpFault

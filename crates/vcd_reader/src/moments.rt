@@ -3,17 +3,14 @@ ghost use Rattle.std.specs.Prelude.{◌≡◌, ◌≤◌, ◌++◌, ◌∷◌, [
 ghost use Rattle.std.specs.List.{list_any};
 ghost use Rattle.cov_ground.specs.Limits.{most_signals, most_instances};
 ghost use Rattle.record_codec.specs.declared.record.Event.TheVariants.{Set, Sample};
-ghost use Rattle.const_eval.specs.Values.{is_true};
-ghost use Rattle.cov_counting.specs.Hits.{holds};
 ghost use Rattle.vcd_reader.specs.Held.{unknown, shown, applied};
 ghost use Rattle.vcd_reader.specs.Moments.{is_zero, is_one, is_x, is_z, rises, falls, same_bit, same_value, is_edge, numbers_from, sets_from, matches, samples_from, has_edge, moment_with, moment_of};
 
 use crate::Bit4;
 use crate::held::{Held, UNKNOWN};
 use crate::watching::Watch;
-use const_eval::{Bound, eval};
 use cov_base::Int;
-use cov_counting::signal_value;
+use cov_counting::{holds, signal_value};
 use cov_ground::Memory;
 use cov_tree::{EdgeKind, List};
 use record_codec::{Event, SignalRow};
@@ -122,26 +119,6 @@ fn shown(codes: &[u32], table: &[Held], signal: u16) -> Held
     match codes.get(signal as usize) {
         Some(code) => at_code(table, *code),
         None => UNKNOWN,
-    }
-}
-
-/// Whether a value is known and not 0.
-fn is_true_value(value: Option<Int>) -> bool
-    ensures { result ≡ is_true value }
-{
-    match value {
-        Some(number) => number.get() != 0,
-        None => false,
-    }
-}
-
-/// Whether a condition is true, or none is written.
-fn holds(guard: &Option<Bound>, env: &[Option<Int>]) -> bool
-    ensures { result ≡ holds guard.now env.now }
-{
-    match guard {
-        None => true,
-        Some(guard) => is_true_value(eval(guard, env, None)),
     }
 }
 

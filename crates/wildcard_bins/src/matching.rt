@@ -11,14 +11,14 @@ impl Pattern {
     pub(crate) fn lowest(&self) -> Int
         ensures { result ≡ lowest self.now.width self.now.signed }
     {
-        lowest_of(self.width.get(), self.signed)
+        lowest_of(self.width, self.signed)
     }
 
     /// The greatest number of the pattern's width and sign.
     fn highest(&self) -> Int
         ensures { result ≡ highest self.now.width self.now.signed }
     {
-        highest_of(self.width.get(), self.signed)
+        highest_of(self.width, self.signed)
     }
 
     /// The bits of a number, which is one of the pattern's width and sign.
@@ -41,7 +41,8 @@ impl Pattern {
     pub fn matches(&self, v: Int) -> bool
         ensures { result ≡ agrees self.now v }
     {
-        let width = self.width.get();
+        // its bits are no more than 64
+        let _width = self.width.get();
         let number = v.get();
         let low = self.lowest().get();
         if number < low {
@@ -51,7 +52,7 @@ impl Pattern {
         if number > high {
             return false;
         }
-        let fixed = !self.free & ones(width);
+        let fixed = !self.free & ones(self.width);
         (self.bits_of(v) ^ self.bits) & fixed == 0
     }
 }

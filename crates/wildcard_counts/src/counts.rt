@@ -16,7 +16,7 @@ fn distance(pattern: &Pattern, number: Int, next: u8) -> u128
     ensures most { result ≤ 2 ^ pattern.now.width }
 {
     let width = pattern.width.get();
-    let far = number.get() + next as i128 - lowest_of(width, pattern.signed).get();
+    let far = number.get() + next as i128 - lowest_of(pattern.width, pattern.signed).get();
     if far < 0 {
         return 0;
     }

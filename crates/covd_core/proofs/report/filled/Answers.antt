@@ -1,4 +1,4 @@
-use Rattle.std.proofs.Common.{[], subst}
+use Rattle.std.proofs.Common.{[], subst, ◌∙◌}
 use Rattle.std.proofs.lemmas.Result.{IfOk-weaker}
 use Rattle.design_data.specs.declared.design.Design.{Design}
 use Rattle.covd_core.specs.Command.{Files, Fills}
@@ -11,4 +11,4 @@ returns-clause-answer g c =
     let before = g.F.Shelf.faults c.args.shelf.now in
     let now = g.F.Shelf.faults c.filled_into.new.shelf in
     let origins = origins_of c.args.origins in
-    IfOk-weaker c.filled_into.result _ _ (λ a h. subst (λ (d : Design). Fills files before now d 1 [] origins a.status a.text.items) c.in_ok-design.ensures.design h) c.filled_into.ensures.answer
+    IfOk-weaker c.filled_into.result _ _ (λ a h. subst (λ (d : Design). Fills files before now d 1 [] origins a.status a.text.items) (c.design.ensures ∙ c.in_ok-planned.ensures.design) h) c.filled_into.ensures.answer

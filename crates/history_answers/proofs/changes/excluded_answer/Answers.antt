@@ -2,7 +2,7 @@ use Rattle.std.proofs.Common.{arith}
 use Rattle.ucis_model.specs.declared.answers.Answer.TheVariants as answers
 use Rattle.cov_history.specs.declared.entry.Event.TheVariants as event
 use Rattle.cov_history.specs.Answers.{by}
-use Rattle.history_answers.proofs.Amounting.{legal_amounts, excluded_amounts, change_is}
+use Rattle.history_answers.proofs.Amounting.{amount_is, legal_amounts, excluded_amounts, change_is}
 use Rattle.history_answers.proofs.changes.excluded_answer.Goals as goal
 
 pub amounts_of-requires-clause-within : goal.amounts_of-requires-clause-within
@@ -10,7 +10,7 @@ amounts_of-requires-clause-within c which = legal_amounts c.args.opening.now c.a
 
 pub with_path-after-requires : goal.with_path-after-requires
 with_path-after-requires c which =
-    let a = c.in_ok-before.ensures which in
+    let a = amount_is c.args.opening.now c.args.entries.now c.in_ok-before.before c.in_ok-before.ensures which in
     let most = legal_amounts c.args.opening.now c.args.entries.now c.requires.legal which in
     omega (arith, a, most)
 

@@ -11,7 +11,7 @@ amounts_of-requires-clause-within c which = legal_amounts c.args.opening.now c.a
 
 pub with_revision-requires-clause-bytes : goal.with_revision-requires-clause-bytes
 with_revision-requires-clause-bytes c =
-    let a = c.in_ok-before.ensures Bytes in
+    let a = c.in_ok-before.ensures.bytes in
     let most = legal_amounts c.args.opening.now c.args.entries.now c.requires.legal Bytes in
     omega (arith, a, most)
 

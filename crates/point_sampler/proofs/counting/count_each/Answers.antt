@@ -17,8 +17,9 @@ loop-place-preserved c =
     let less : h.0 < i = omega (arith, h.1, length-take-le i met (omega (arith, lt))) in
     c.requires.once h.0 i place less lt (sym (get_or-take i met h.0 place less) ∙ h.2 ∙ get_or_default met i 0 place lt) in
     record {
+      asked = c.in_ok-count_one.ensures.asked;
       same = c.count_one.auto.counts ∙ inv.same;
       taken = subst (λ (ps : List ℕ). AllTaken c.args.item.now c.args.env.now ps c.args.counts.now c.count_one.new.counts c.count_one.new.row.items) (sym more)
           (all_taken_more c.args.item.now c.args.env.now (take i met) place c.args.counts.now c.loop-place.counts c.count_one.new.counts c.loop-place.row.items c.count_one.new.row.items
-          (c.requires.within i 0 lt) fresh (omega (arith, c.requires.counts, inv.same)) c.in_ok-count_one.ensures inv.taken);
+          (c.requires.within i 0 lt) fresh (omega (arith, c.requires.counts, inv.same)) c.in_ok-count_one.ensures.taken inv.taken);
     }

@@ -10,4 +10,4 @@ returns-in-len1 c =
     let some : 0 < length met = omega (arith, one) in
     subst (λ (places : List ℕ). AllTaken c.args.item.now c.args.env.now places c.args.counts.now c.count_one.new.counts c.count_one.new.row.items) (single met one)
     (one_taken c.args.item.now c.args.env.now (get_or met 0 0) c.args.counts.now c.count_one.new.counts c.args.row.now.items c.count_one.new.row.items
-    (c.requires.within 0 0 some) c.requires.counts c.requires.none c.in_ok-count_one.ensures)
+    (c.requires.within 0 0 some) c.requires.counts c.requires.none c.in_ok-count_one.ensures.taken)

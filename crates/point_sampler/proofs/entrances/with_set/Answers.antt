@@ -1,4 +1,4 @@
-use Rattle.std.proofs.Common.{arith}
+use Rattle.std.proofs.Common.{ℕ, min, max, ap, ◌∙◌, arith}
 use Rattle.point_sampler.proofs.Bounds.{out_by, out_same}
 use Rattle.point_sampler.proofs.entrances.with_set.Goals as goal
 
@@ -9,6 +9,7 @@ pub returns : goal.returns
 returns c =
     let first = c.index-ranges-0.result in
     let last = c.index-ranges-count.result in
-    out_by c.intervals-ranges.result.now c.args.set.now c.args.sofar c.lesser-low.result c.greater-high.result first last c.intervals-ranges.ensures.value c.intervals-ranges.ensures.normal
+    out_by c.intervals-ranges.result.now c.args.set.now c.args.sofar c.min-low.result c.max-high.result first last c.intervals-ranges.ensures.value c.intervals-ranges.ensures.normal
     (omega (arith, c.if-count-eq0.false))
-    c.lesser-low.ensures.first c.lesser-low.ensures.second c.greater-high.ensures.first c.greater-high.ensures.second
+    (c.min-low.ensures ∙ ap (λ (n : ℕ). min n c.args.sofar.low) c.key_of.ensures)
+    (c.max-high.ensures ∙ ap (λ (n : ℕ). max n c.args.sofar.high) c.key_of-2.ensures)

@@ -3,7 +3,7 @@ use Rattle.std.specs.Prelude.{slice_get, Some}
 use Rattle.std.proofs.lemmas.Option.{slice_get_read}
 use Rattle.point_sampler.specs.declared.plan.Entry.{Entry}
 use Rattle.point_sampler.specs.Plans.{IsEntry, AreEntriesOf}
-use Rattle.point_sampler.proofs.Taking.{entries_more, counted_more, counted_few}
+use Rattle.point_sampler.proofs.Taking.{entries_more, counted_more, counted_few, before_within}
 use Rattle.point_sampler.proofs.planning.entry_list.Goals as goal
 
 pub loop-place-preserved : goal.loop-place-preserved
@@ -14,8 +14,9 @@ loop-place-preserved c =
     let inv = c.loop-place.invariant in
     let entry : Entry = record { covers = c.is_coverage-covers.result; number = c.loop-place.number; guard = c.guard_place-guard.result } in
     let is : slice_get bins place ≡ Some bin = slice_get_read bins (length bins) place bin refl c.loop-place-test.true c.index-bins-place.is in
-    let here : IsEntry bins place bin entry = record { covers = c.is_coverage-covers.ensures; number = inv.number; guard = c.guard_place-guard.ensures bins is } in
+    let here : IsEntry bins place bin entry = record { covers = c.is_coverage-covers.ensures; number = inv.number; guard = c.guard_place-guard.ensures is } in
     record {
+      before = before_within bins c.guard_place-guard.result bin.guard here.guard;
       number = counted_more bins place bin c.is_coverage-covers.result c.loop-place.number c.counted-number.result c.loop-place-test.true c.index-bins-place.is c.is_coverage-covers.ensures inv.number c.counted-number.ensures;
       few = counted_few c.is_coverage-covers.result c.loop-place.number c.counted-number.result place c.counted-number.ensures inv.few;
       entries = subst (λ (es : List Entry). AreEntriesOf bins (place + 1) es) (sym c.in_ok-push.ensures.items) (entries_more bins place bin c.loop-place.entries.items entry is here inv.entries);

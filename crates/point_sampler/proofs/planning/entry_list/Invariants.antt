@@ -1,4 +1,5 @@
-use Rattle.std.proofs.Common.{◌≡◌, ◌≤◌, length, take}
+use Rattle.std.proofs.Common.{◌≡◌, ◌≤◌, ◌<◌, length, take}
+use Rattle.std.specs.Prelude.{IfSome}
 use Rattle.point_sampler.specs.Plans.{covering, AreEntriesOf}
 use Rattle.point_sampler.proofs.planning.entry_list.Given as goal
 
@@ -6,5 +7,6 @@ abbrev pub invariant-loop-place : goal.invariant-loop-place
 invariant-loop-place l = record {
   number : l.number ≡ length (covering (take l.place l.bins));
   few : l.number ≤ l.place;
+  before : IfSome l.guard (λ earlier. earlier < length l.bins);
   entries : AreEntriesOf l.bins l.place l.entries.items;
 }

@@ -1,4 +1,4 @@
-use Rattle.sampler.specs.Shape.{arg_row}
+use Rattle.cov_counting.specs.Tables.{arg_row}
 use Rattle.std.proofs.Common.{arith, refl}
 use Rattle.sampler.proofs.Tables.{row_more}
 use Rattle.sampler.proofs.shape.are_args.Goals as goal

@@ -1,6 +1,6 @@
 -- the rows passed are those of the arguments passed
 use Rattle.std.proofs.Common.{◌≡◌, map, take}
-use Rattle.sampler.specs.Shape.{arg_row}
+use Rattle.cov_counting.specs.Tables.{arg_row}
 use Rattle.sampler.proofs.shape.are_args.Given as goal
 
 abbrev pub invariant-loop-at : goal.invariant-loop-at

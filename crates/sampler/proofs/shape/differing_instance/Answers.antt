@@ -2,7 +2,8 @@ use Rattle.std.proofs.Common.{ℕ, ◌+◌, List, take, map, length, get_or, ◌
 use Rattle.design_data.specs.declared.infos.InstInfo.{InstInfo}
 use Rattle.design_data.specs.declared.infos.GroupInfo.{GroupInfo}
 use Rattle.record_codec.specs.declared.record.InstRow.{InstRow}
-use Rattle.sampler.specs.Shape.{instance_row, FirstDiffering}
+use Rattle.cov_counting.specs.Tables.{instance_row}
+use Rattle.sampler.specs.Shape.{FirstDiffering}
 use Rattle.sampler.proofs.Tables.{row_more, goes_on}
 use Rattle.sampler.proofs.shape.differing_instance.Goals as goal
 

@@ -1,6 +1,6 @@
 -- the tables agree so far
 use Rattle.std.proofs.Common.{◌≡◌, ◌≤◌, length, take}
-use Rattle.sampler.specs.Shape.{instances_of}
+use Rattle.cov_counting.specs.Tables.{instances_of}
 use Rattle.sampler.proofs.shape.differing_instance.Given as goal
 
 abbrev pub invariant-loop-at : goal.invariant-loop-at

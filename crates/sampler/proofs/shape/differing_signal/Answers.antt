@@ -1,5 +1,5 @@
 use Rattle.std.proofs.Common.{ℕ, take, map, length, arith, ◌≡◌, ◌∙◌, refl, sym, subst}
-use Rattle.sampler.specs.Shape.{signal_row}
+use Rattle.cov_counting.specs.Tables.{signal_row}
 use Rattle.sampler.proofs.Tables.{row_more, goes_on}
 use Rattle.sampler.proofs.shape.differing_signal.Goals as goal
 

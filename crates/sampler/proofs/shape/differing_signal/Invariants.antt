@@ -1,6 +1,6 @@
 -- the tables agree so far
 use Rattle.std.proofs.Common.{◌≡◌, ◌≤◌, length, map, take}
-use Rattle.sampler.specs.Shape.{signal_row}
+use Rattle.cov_counting.specs.Tables.{signal_row}
 use Rattle.sampler.proofs.shape.differing_signal.Given as goal
 
 abbrev pub invariant-loop-at : goal.invariant-loop-at

@@ -1,6 +1,6 @@
-use Rattle.std.proofs.Common.{◌≡◌, ◌+◌, ◌*◌, length, take}
+use Rattle.std.proofs.Common.{◌≡◌, ◌++◌, ◌+◌, ◌*◌, length, take}
 use Rattle.cov_base.specs.Sets.{written}
-use Rattle.trans_seq.specs.Alone.{ended_by, Adds}
+use Rattle.trans_seq.specs.Alone.{ahead, behind, behind_by}
 use Rattle.trans_seq.proofs.alone.+add_lists.Given as goal
 
 abbrev pub decreases-add_lists : goal.decreases-add_lists
@@ -12,5 +12,5 @@ decreases-add_numbers l = 2 * length l.rest.now + 1
 abbrev pub invariant-add_numbers-loop-k : goal.invariant-add_numbers-loop-k
 invariant-add_numbers-loop-k l = record {
   first : l.first.items ≡ l.initial.first.items;
-  adds : Adds l.initial.lists.items l.lists.items (ended_by l.tail l.initial.first.items (take l.k (written l.set)) l.rest);
+  added : l.lists.items ≡ l.initial.lists.items ++ behind_by l.initial.first.items (take l.k (written l.set)) (ahead l.rest (behind l.tail l.group));
 }

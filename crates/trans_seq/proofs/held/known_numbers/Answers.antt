@@ -1,4 +1,4 @@
-use Rattle.std.proofs.Common.{rules, ◌≡◌, sym, ◌∙◌, subst, List}
+use Rattle.std.proofs.Common.{rules, ◌≡◌, sym, subst, List}
 use Rattle.std.specs.Prelude.{ℤ, Some}
 use Rattle.std.specs.Ordering.{int_eq}
 use Rattle.std.specs.Cmp.Lexicographic.{pointwise}

@@ -1,4 +1,4 @@
-use Rattle.std.proofs.Common.{◌≤◌, length, arith}
+use Rattle.std.proofs.Common.{arith}
 use Rattle.trans_seq.specs.Found.{lists_of}
 use Rattle.trans_seq.proofs.MetLemmas.{merged_all, merged_few, merges_none}
 use Rattle.trans_seq.proofs.listing.merged.Goals as goal

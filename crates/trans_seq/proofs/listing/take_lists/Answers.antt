@@ -1,6 +1,6 @@
-use Rattle.std.proofs.Common.{◌≡◌, [], ap, sym, ◌∙◌, subst, true}
-use Rattle.trans_seq.specs.Lists.{news, listed}
-use Rattle.trans_seq.specs.Found.{Takes, SomeNoList, lists_of}
+use Rattle.std.proofs.Common.{◌≡◌, [], sym, subst}
+use Rattle.trans_seq.specs.Lists.{listed}
+use Rattle.trans_seq.specs.Found.{Takes, SomeNoList}
 use Rattle.trans_seq.proofs.FoundLemmas.{takes_none}
 use Rattle.trans_seq.proofs.ListingLemmas.{none_listed}
 use Rattle.trans_seq.proofs.HeldLemmas.{held-more, on-ok}

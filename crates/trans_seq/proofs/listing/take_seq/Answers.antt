@@ -1,8 +1,6 @@
-use Rattle.std.proofs.Common.{rules, ◌≡◌, [], sym}
-use Rattle.std.specs.Prelude.{Contains}
-use Rattle.trans_seq.specs.declared.seq.Seq.{Seq}
-use Rattle.trans_seq.specs.Lists.{listed, lists_by_all}
-use Rattle.trans_seq.specs.Found.{FailsAfter, lists_of}
+use Rattle.std.proofs.Common.{rules, []}
+use Rattle.trans_seq.specs.Lists.{lists_by_all}
+use Rattle.trans_seq.specs.Found.{FailsAfter}
 use Rattle.trans_seq.proofs.MetLemmas.{merges_more, merges_held, fails_more}
 use Rattle.trans_seq.proofs.listing.take_seq.Goals as goal
 

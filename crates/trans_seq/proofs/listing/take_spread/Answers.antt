@@ -1,6 +1,6 @@
 use Rattle.std.proofs.Common.{rules, ◌≡◌}
 use Rattle.trans_seq.specs.Lists.{news, listed}
-use Rattle.trans_seq.specs.Found.{Takes, FailsAfter, lists_of}
+use Rattle.trans_seq.specs.Found.{FailsAfter, lists_of}
 use Rattle.trans_seq.specs.Held.{begun}
 use Rattle.trans_seq.proofs.HeldLemmas.{spread-listed, takes-same, fails-same}
 use Rattle.trans_seq.proofs.listing.take_spread.Goals as goal

@@ -1,5 +1,4 @@
-use Rattle.std.proofs.Common.{◌≡◌, ◌<◌, List, [], ◌∷◌, length, refl, get_or, arith}
-use Rattle.trans_seq.specs.declared.seq.Item.{Item}
+use Rattle.std.proofs.Common.{refl, arith}
 use Rattle.trans_seq.proofs.SameLemmas.{same-by-index}
 use Rattle.trans_seq.proofs.seq.same_items.Goals as goal
 

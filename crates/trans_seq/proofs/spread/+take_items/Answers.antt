@@ -1,9 +1,7 @@
 use Rattle.std.proofs.Common.{rules, ◌≡◌, ◌+◌, ◌<◌, List, [], ◌∷◌, ◌++◌, length, take, ap, subst, sym, ◌∙◌, arith}
 use Rattle.std.specs.Prelude.{ℤ}
 use Rattle.std.specs.List.{flat_map}
-use Rattle.std.proofs.lemmas.List.{take_all}
-use Rattle.cov_base.specs.Sets.{written, without}
-use Rattle.trans_seq.specs.declared.seq.Item.{Item}
+use Rattle.cov_base.specs.Sets.{written}
 use Rattle.trans_seq.specs.Lists.{news}
 use Rattle.trans_seq.specs.Found.{Takes, FailsAfter, lists_of}
 use Rattle.trans_seq.specs.Held.{begun, begun_by, HasAll, AreHeld}

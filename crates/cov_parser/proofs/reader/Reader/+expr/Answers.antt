@@ -7,47 +7,57 @@ use Rattle.cov_grammar.proofs.Compose.{both_reads, both_fails, both_then_fails}
 use Rattle.cov_grammar.proofs.Steps.{exits, step, ends, leads_parses}
 use Rattle.cov_grammar.proofs.ExprLaws.{part_expr_lawful}
 use Rattle.cov_parser.proofs.Walks.{too_deep}
-use Rattle.cov_parser.proofs.ExprWalks.{climbs, climbs_fails, operand, operand_fails, joins_first, joins_sinks, found_next, found_breaks, found_falls, found_none, unsigned, signed, no_room_to_sign, number_read, name_read, no_primary, opened, no_room_to_open, braced, no_room_to_brace, no_index, bracketed, no_room_to_index, no_colon, colon_leads, colon_lawful, list_starts, list_fails, list_next, list_breaks, list_ends, list_falls, list_lawful, test_fails, no_branches, asked, no_room_to_ask, no_lawful, ends_lawful}
+use Rattle.cov_parser.proofs.ExprWalks.{climbs, climbs_fails, operand, operand_fails, joins_first, joins_sinks, found_next, found_breaks, found_falls, found_none, unsigned, signed, no_room_to_sign, number_read, number_operand, name_read, no_primary, opened, no_room_to_open, braced, no_room_to_brace, no_index, bracketed, no_room_to_index, no_colon, colon_leads, colon_lawful, list_starts, list_fails, list_next, list_breaks, list_ends, list_falls, list_lawful, test_fails, no_branches, asked, no_room_to_ask, no_lawful, ends_lawful}
 use Rattle.cov_grammar.specs.Operators.{unary_kinds}
 use Rattle.cov_parser.proofs.Operating.{unary_operate}
 use Rattle.cov_parser.proofs.reader.Reader.+expr.Goals as goal
 
-pub binary-returns-in_err-left : goal.binary-returns-in_err-left
-binary-returns-in_err-left t c =
-    exits _ _ _ _ _ c.from_residual.ensures.1 (climbs_fails c.args.self.text.now c.args.self.tokens.now c.args.standing 0 c.args.level (omega arith) (operand_fails c.args.self.text.now c.args.self.tokens.now c.args.standing c.in_err-left.ensures))
+pub operand-returns-in-Some : goal.operand-returns-in-Some
+operand-returns-in-Some t c = rw (c.of.ensures, c.number.ensures) (number_operand c.args.self.text.now c.args.self.tokens.now c.args.standing (c.in-Some.ensures.some _) c.in-Some.ensures.here)
 
-pub binary-loop-below-init : goal.binary-loop-below-init
-binary-loop-below-init t c = record { within = omega arith; reads = operand c.args.self.text.now c.args.self.tokens.now c.args.standing c.in_ok-left.ensures }
+pub binary-returns-in_err-first : goal.binary-returns-in_err-first
+binary-returns-in_err-first t c =
+    exits _ _ _ _ _ c.from_residual.ensures.1 (climbs_fails c.args.self.text.now c.args.self.tokens.now c.args.standing 0 c.args.level (omega arith) (operand_fails c.args.self.text.now c.args.self.tokens.now c.args.standing c.in_err-first.ensures))
 
-pub binary-loop-op-init : goal.binary-loop-op-init
-binary-loop-op-init t c =
-    joins_first c.args.self.text.now c.args.self.tokens.now c.args.standing _ _ (omega arith) (climbs c.args.self.text.now c.args.self.tokens.now c.args.standing c.loop-below.done c.in-Some.below c.in-Some.ensures.inside c.in-Some.ensures.before c.loop-below.invariant.reads)
-
-pub binary-returns-in_err-op : goal.binary-returns-in_err-op
-binary-returns-in_err-op t c =
-    exits _ _ _ _ _ c.from_residual-in_err-op.ensures.1 (climbs_fails c.args.self.text.now c.args.self.tokens.now c.args.standing (c.in-Some.below + 1) c.args.level (let l = c.in-Some.ensures.below in omega arith) (joins_sinks c.args.self.text.now c.args.self.tokens.now c.args.standing _ _ _ c.operators-kinds.ensures _ _ c.loop-op.invariant c.in_err-op.ensures.too_many c.in_err-op.ensures.full))
-
-pub binary-returns-in_err-right : goal.binary-returns-in_err-right
-binary-returns-in_err-right t c =
-    exits _ _ _ _ _ c.from_residual-in_err-right.ensures.1 (climbs_fails c.args.self.text.now c.args.self.tokens.now c.args.standing (c.in-Some.below + 1) c.args.level (let l = c.in-Some.ensures.below in omega arith) (found_breaks c.args.self.text.now c.args.self.tokens.now c.args.standing _ _ _ c.operators-kinds.ensures _ _ _ _ c.in-Some-2.is c.loop-op.invariant c.in_ok-op.ensures.some c.in_ok-op.ensures.behind c.in_err-right.ensures))
-
-pub binary-loop-op-smaller : goal.binary-loop-op-smaller
-binary-loop-op-smaller t c =
-    found_falls c.args.self.text.now c.args.self.tokens.now c.args.standing _ c.loop-op.at _ _ _ c.in-Some-2.is c.in_ok-op.ensures.behind c.in_ok-op.ensures.inside c.in_ok-right.ensures
-
-pub binary-loop-op-preserved : goal.binary-loop-op-preserved
-binary-loop-op-preserved t c =
-    rw c.in_ok-left-2.ensures (found_next c.args.self.text.now c.args.self.tokens.now c.args.standing _ _ _ c.operators-kinds.ensures _ _ _ _ c.in-Some-2.is c.loop-op.invariant c.in_ok-op.ensures.some c.in_ok-right.ensures)
-
-pub binary-loop-below-preserved : goal.binary-loop-below-preserved
-binary-loop-below-preserved t c = record {
-  within = (let l = c.in-Some.ensures.below in omega arith);
-  reads = found_none c.args.self.text.now c.args.self.tokens.now c.args.standing _ _ _ c.operators-kinds.ensures _ _ c.in_default-2.is c.loop-op.invariant c.in_ok-op.ensures.none;
-}
+pub binary-returns-in_default : goal.binary-returns-in_default
+binary-returns-in_default t c =
+    climbs c.args.self.text.now c.args.self.tokens.now c.args.standing 0 c.args.level (omega arith) c.in_default.ensures.none (operand c.args.self.text.now c.args.self.tokens.now c.args.standing c.in_ok-first.ensures)
 
 pub binary-returns : goal.binary-returns
-binary-returns t c =
-    climbs c.args.self.text.now c.args.self.tokens.now c.args.standing c.loop-below.done c.args.level c.loop-below.invariant.within c.in_default.ensures.none c.loop-below.invariant.reads
+binary-returns t c = c.climbed.ensures c.args.place c.in_ok-first.ensures
+
+pub climbed-loop-below-init : goal.climbed-loop-below-init
+climbed-loop-below-init t c = record { within = omega arith; reads = λ start r. operand c.args.self.text.now c.args.self.tokens.now c.args.standing r }
+
+pub climbed-loop-op-init : goal.climbed-loop-op-init
+climbed-loop-op-init t c = λ start r.
+    joins_first c.args.self.text.now c.args.self.tokens.now c.args.standing _ _ (omega arith) (climbs c.args.self.text.now c.args.self.tokens.now c.args.standing c.loop-below.done c.in-Some.below c.in-Some.ensures.inside c.in-Some.ensures.before (c.loop-below.invariant.reads start r))
+
+pub climbed-returns-in_err-op : goal.climbed-returns-in_err-op
+climbed-returns-in_err-op t c = λ start r.
+    exits _ _ _ _ _ c.from_residual.ensures.1 (climbs_fails c.args.self.text.now c.args.self.tokens.now c.args.standing (c.in-Some.below + 1) c.args.level (let l = c.in-Some.ensures.below in omega arith) (joins_sinks c.args.self.text.now c.args.self.tokens.now c.args.standing _ _ _ c.operators-kinds.ensures _ _ (c.loop-op.invariant start r) c.in_err-op.ensures.too_many c.in_err-op.ensures.full))
+
+pub climbed-returns-in_err-right : goal.climbed-returns-in_err-right
+climbed-returns-in_err-right t c = λ start r.
+    exits _ _ _ _ _ c.from_residual-in_err-right.ensures.1 (climbs_fails c.args.self.text.now c.args.self.tokens.now c.args.standing (c.in-Some.below + 1) c.args.level (let l = c.in-Some.ensures.below in omega arith) (found_breaks c.args.self.text.now c.args.self.tokens.now c.args.standing _ _ _ c.operators-kinds.ensures _ _ _ _ c.in-Some-2.is (c.loop-op.invariant start r) c.in_ok-op.ensures.some c.in_ok-op.ensures.behind c.in_err-right.ensures))
+
+pub climbed-loop-op-smaller : goal.climbed-loop-op-smaller
+climbed-loop-op-smaller t c =
+    found_falls c.args.self.text.now c.args.self.tokens.now c.args.standing _ c.loop-op.at _ _ _ c.in-Some-2.is c.in_ok-op.ensures.behind c.in_ok-op.ensures.inside c.in_ok-right.ensures
+
+pub climbed-loop-op-preserved : goal.climbed-loop-op-preserved
+climbed-loop-op-preserved t c = λ start r.
+    rw c.in_ok-left.ensures (found_next c.args.self.text.now c.args.self.tokens.now c.args.standing _ _ _ c.operators-kinds.ensures _ _ _ _ c.in-Some-2.is (c.loop-op.invariant start r) c.in_ok-op.ensures.some c.in_ok-right.ensures)
+
+pub climbed-loop-below-preserved : goal.climbed-loop-below-preserved
+climbed-loop-below-preserved t c = record {
+  within = (let l = c.in-Some.ensures.below in omega arith);
+  reads = λ start r. found_none c.args.self.text.now c.args.self.tokens.now c.args.standing _ _ _ c.operators-kinds.ensures _ _ c.in_default-2.is (c.loop-op.invariant start r) c.in_ok-op.ensures.none;
+}
+
+pub climbed-returns : goal.climbed-returns
+climbed-returns t c = λ start r.
+    climbs c.args.self.text.now c.args.self.tokens.now c.args.standing c.loop-below.done c.args.level c.loop-below.invariant.within c.in_default.ensures.none (c.loop-below.invariant.reads start r)
 
 pub index-returns-in_default : goal.index-returns-in_default
 index-returns-in_default t c = rw c.of.ensures (no_index c.args.self.text.now c.args.self.tokens.now c.args.standing _ c.index_kinds.ensures c.in_default.ensures.none)

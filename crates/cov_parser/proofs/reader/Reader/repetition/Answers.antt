@@ -8,7 +8,6 @@ use Rattle.cov_grammar.specs.Expressions.{pair}
 use Rattle.cov_grammar.proofs.Lawful.{lawful_one}
 use Rattle.cov_grammar.proofs.Steps.{one_fails}
 use Rattle.cov_grammar.proofs.ExprLaws.{expr_lawful}
-use Rattle.cov_parser.proofs.Walks.{no_more}
 use Rattle.cov_parser.proofs.BinsWalks.{ways, colon_lawful, two_numbers_lawful, times_lawful, no_repetition, repetition_part}
 use Rattle.cov_parser.proofs.reader.Reader.repetition.Goals as goal
 
@@ -27,8 +26,5 @@ returns-in_err-second c = exits _ _ _ _ _ c.from_residual-in_err-second.ensures.
 pub returns-in_err-after : goal.returns-in_err-after
 returns-in_err-after c = exits _ _ _ _ _ c.from_residual-in_err-after.ensures.1 ((repetition_part c.args.self.text.now c.args.self.tokens.now (c.in-Some.ensures.some c.args.room)).fails (both_then_fails _ (times_lawful c.args.self.text.now c.args.self.tokens.now) (lawful_word c.args.self.tokens.now CloseSquare) refl (both_reads repeated (lawful_one c.args.self.tokens.now (ways c.args.self.text.now c.args.self.tokens.now)) (two_numbers_lawful c.args.self.text.now c.args.self.tokens.now) refl (c.in-Some-take.ensures.some c.args.room) (both_reads pair (expr_lawful c.args.self.text.now c.args.self.tokens.now) (lawful_maybe (colon_lawful c.args.self.text.now c.args.self.tokens.now) refl) refl c.in_ok-low.ensures c.in_ok-second.ensures)) (c.in_err-after.ensures _)))
 
-pub returns-in_err-high : goal.returns-in_err-high
-returns-in_err-high c = exits _ _ _ _ _ c.from_residual-in_err-high.ensures.1 (no_more _ (c.in_err-high.ensures.only_memory _ _ c.in_ok-low.ensures))
-
 pub returns : goal.returns
-returns c = rw (c.of-2.ensures, c.times_of.ensures, c.in_ok-high.ensures.same _ _ c.in_ok-low.ensures) ((repetition_part c.args.self.text.now c.args.self.tokens.now (c.in-Some.ensures.some c.args.room)).reads (both_reads _ (times_lawful c.args.self.text.now c.args.self.tokens.now) (lawful_word c.args.self.tokens.now CloseSquare) refl (both_reads repeated (lawful_one c.args.self.tokens.now (ways c.args.self.text.now c.args.self.tokens.now)) (two_numbers_lawful c.args.self.text.now c.args.self.tokens.now) refl (c.in-Some-take.ensures.some c.args.room) (both_reads pair (expr_lawful c.args.self.text.now c.args.self.tokens.now) (lawful_maybe (colon_lawful c.args.self.text.now c.args.self.tokens.now) refl) refl c.in_ok-low.ensures c.in_ok-second.ensures)) (c.in_ok-after.ensures _)))
+returns c = rw (c.of-2.ensures, c.in_ok-times.ensures) ((repetition_part c.args.self.text.now c.args.self.tokens.now (c.in-Some.ensures.some c.args.room)).reads (both_reads _ (times_lawful c.args.self.text.now c.args.self.tokens.now) (lawful_word c.args.self.tokens.now CloseSquare) refl (both_reads repeated (lawful_one c.args.self.tokens.now (ways c.args.self.text.now c.args.self.tokens.now)) (two_numbers_lawful c.args.self.text.now c.args.self.tokens.now) refl (c.in-Some-take.ensures.some c.args.room) (both_reads pair (expr_lawful c.args.self.text.now c.args.self.tokens.now) (lawful_maybe (colon_lawful c.args.self.text.now c.args.self.tokens.now) refl) refl c.in_ok-low.ensures c.in_ok-second.ensures)) (c.in_ok-after.ensures _)))

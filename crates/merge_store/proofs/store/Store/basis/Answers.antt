@@ -19,7 +19,7 @@ returns c =
     let most = s.keeps.within Tests in
     record {
       point = c.point.ensures;
-      design = c.in_ok-design.ensures.cases ∙ s.keeps.design_is;
+      design = c.in_ok-design.ensures ∙ s.keeps.design_is;
       records = listed;
       few = omega (arith, many, most);
     }

@@ -20,7 +20,7 @@ invariant_of-result-clause-keeps c =
     let none : c.in_ok-out.out.items ≡ replicate (length nodes) None = c.in_ok-out.ensures ∙ ap (λ (n : ℕ). replicate n None) c.len.ensures in
     let out : map view c.in_ok-out.out.items ≡ replicate (length nodes) None = ap (map view) none ∙ map_none view (length nodes) None refl in
     let kept = fresh d nodes c.in_ok-counts.counts.items (map view c.in_ok-out.out.items) are counts out in
-    rw (c.new.ensures.items, c.new-2.ensures.empty, c.in_ok-again.ensures.cases) kept
+    rw (c.new.ensures.items, c.new-2.ensures.empty, c.in_ok-again.ensures) kept
 
 pub invariant_of-result-clause-marked : goal.invariant_of-result-clause-marked
 invariant_of-result-clause-marked c =

@@ -10,4 +10,4 @@ pub returns-then-number-high : goal.returns-then-number-high
 returns-then-number-high c = too_high c.args.self.now c.args.v (omega (arith, ints, c.if-number-high.true, c.highest.ensures, c.get-high.ensures.value, c.get-number.ensures.value))
 
 pub returns : goal.returns
-returns c = rw (c.ones.ensures, c.get-width.ensures.value) (matched c.args.self.now c.args.v c.bits_of.result c.get-width.ensures.range.1 (omega arith) (omega (arith, ints, c.if-number-low.false, c.lowest.ensures, c.get-low.ensures.value, c.get-number.ensures.value)) (omega (arith, ints, c.if-number-high.false, c.highest.ensures, c.get-high.ensures.value, c.get-number.ensures.value)) c.bits_of.ensures.value)
+returns c = rw c.ones.ensures (matched c.args.self.now c.args.v c.bits_of.result c.get-width.ensures.range.1 (omega arith) (omega (arith, ints, c.if-number-low.false, c.lowest.ensures, c.get-low.ensures.value, c.get-number.ensures.value)) (omega (arith, ints, c.if-number-high.false, c.highest.ensures, c.get-high.ensures.value, c.get-number.ensures.value)) c.bits_of.ensures.value)

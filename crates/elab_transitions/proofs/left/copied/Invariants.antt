@@ -1,5 +1,0 @@
-use Rattle.std.proofs.Common.{◌≡◌, ◌++◌, take}
-use Rattle.elab_transitions.proofs.left.copied.Given as goal
-
-abbrev pub invariant-loop-seq : goal.invariant-loop-seq
-invariant-loop-seq l = l.copies.items ≡ l.initial.copies.items ++ take l.seq-index l.seqs

@@ -1,0 +1,4 @@
+pub mod Orders
+pub mod Finding
+pub mod Keeping
+mod Pieces

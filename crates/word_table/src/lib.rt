@@ -1,0 +1,11 @@
+//! Street: sampling.
+//!
+//! Words in a sorted table, and which of them a trace ends with: lists of single values of transition bins (IEEE
+//! 1800-2017, 19.5.2) by the last values alone, without an automaton each.
+#![tactic(auto)]
+
+mod recent;
+mod table;
+
+pub use recent::Recent;
+pub use table::WordTable;
