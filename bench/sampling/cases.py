@@ -73,7 +73,9 @@ def case(name, declarations, group, signals, points, crosses, events, samples, i
     for signal, bins in points:
         lines.append(f"point {signal} {len(bins)}")
         lines += [f"{kind} " + " ".join(f"{low} {high}" for low, high in ranges) for kind, ranges in bins]
-    lines += ["cross " + " ".join(str(axis) for axis in axes) for axes in crosses]
+    for axes, picks in crosses:
+        lines.append("cross " + " ".join(str(axis) for axis in axes))
+        lines += [f"pick {axis} {low} {high}" for axis, low, high in picks]
     open(f"{room}/{name}.bins", "w").write("\n".join(lines) + "\n")
     print(name, samples)
 
@@ -118,8 +120,14 @@ case("transitions", "bit [5:0] v;", "p: coverpoint v {\n" + "\n".join(f"bins t{k
      [(0, [("list", [step]) for step in steps])], [], (e for _, e in zip(range(131072), walked(0, random(6)))), 65536)
 
 case("crosses", "bit [15:0] v;\nbit [15:0] w;", "p: coverpoint v { bins b[64] = {[0:65535]}; }\nq: coverpoint w { bins b[64] = {[0:65535]}; }\nc: cross p, q;",
-     [("v", 16), ("w", 16)], [(0, sets(parts(64, 16))), (1, sets(parts(64, 16)))], [(0, 1)],
+     [("v", 16), ("w", 16)], [(0, sets(parts(64, 16))), (1, sets(parts(64, 16)))], [((0, 1), [])],
      (e for a, b in zip(random(16), slow(16)) for e in ((0, a), (1, b), 0)), 3 * 310000)
+
+# 1,048,576 products, each in one of 64 bins of the cross
+case("picks", "bit [15:0] v;\nbit [15:0] w;", "p: coverpoint v { bins b[1024] = {[0:65535]}; }\nq: coverpoint w { bins b[1024] = {[0:65535]}; }\nc: cross p, q {\n"
+     + "\n".join(f"bins x{k} = binsof(p) intersect {{[{1024 * k}:{1024 * k + 1023}]}};" for k in range(64)) + "\n}",
+     [("v", 16), ("w", 16)], [(0, sets(parts(1024, 16))), (1, sets(parts(1024, 16)))], [((0, 1), [(0, 16 * k, 16 * k + 15) for k in range(64)])],
+     (e for a, b in zip(random(6), slow(16)) for e in ((0, 1024 * a), (1, b), 0)), 3 * 310000)
 
 # 1,000,000 samples each of which ends a window that begins at the first one
 open(f"{room}/window.sv", "w").write("bit [7:0] v;\ncovergroup g;\np: coverpoint v { bins b = (1 => 2[=1] => 3); }\nendgroup\ng i0 = new;\n")

@@ -1,6 +1,8 @@
 //! The same as `bench_sampling` in plain Rust: `plain BINS RECORD WORD ROUNDS`. The bins stand in a plain file (cases.py);
 //! a point has an index of cuts with a table of buckets, or its bins are asked one after another where an index would be
-//! large; lists of values are automata of two cells; a cross has a row for each product.
+//! large; lists of values are automata of two cells; a cross has a row for each product, or, where its bins pick
+//! products, keeps the bins of each product that was hit.
+use std::collections::HashMap;
 use std::env;
 use std::fs;
 
@@ -96,7 +98,14 @@ enum Rule {
 
 enum Item {
     Point { signal: usize, bins: Vec<Rule>, first: usize },
-    Cross { axes: Vec<usize>, first: usize, sizes: Vec<usize> },
+    Cross { axes: Vec<usize>, first: usize, sizes: Vec<usize>, picks: Vec<Pick> },
+}
+
+/// A bin of a cross: the products whose member of an axis is one of these bins.
+struct Pick {
+    axis: usize,
+    low: u32,
+    high: u32,
 }
 
 struct Index {
@@ -179,24 +188,30 @@ enum Plan {
     Index(Index),
     Scan,
     Cross(Vec<u32>),
+    Picks,
 }
 
-/// What an item keeps: of lists, which of them have begun.
+/// What an item keeps: of lists, which of them have begun; of a cross whose bins pick products, the bins of those that
+/// were hit, and for each bin the number of the sample at which it was hit last.
 #[derive(Clone, Default)]
 struct State {
     begun: Vec<bool>,
+    known: HashMap<u32, Vec<u32>>,
+    stamps: Vec<u32>,
+    samples: u32,
 }
 
 fn bins_of(item: &Item) -> usize {
     match item {
         Item::Point { bins, .. } => bins.len(),
-        Item::Cross { sizes, .. } => sizes.iter().product(),
+        Item::Cross { sizes, picks, .. } if picks.is_empty() => sizes.iter().product(),
+        Item::Cross { picks, .. } => picks.len(),
     }
 }
 
 fn read_bins(text: &str) -> Option<(usize, Vec<Item>, usize)> {
     let (mut instances, mut items, mut first) = (1, Vec::new(), 0);
-    let mut lines = text.lines();
+    let mut lines = text.lines().peekable();
     while let Some(line) = lines.next() {
         let words: Vec<&str> = line.split(' ').collect();
         match words[0] {
@@ -219,9 +234,13 @@ fn read_bins(text: &str) -> Option<(usize, Vec<Item>, usize)> {
             _ => {
                 let axes: Vec<usize> = words[1..].iter().map(|word| word.parse().ok()).collect::<Option<_>>()?;
                 let sizes: Vec<usize> = axes.iter().map(|axis| bins_of(&items[*axis])).collect();
-                let count: usize = sizes.iter().product();
-                items.push(Item::Cross { axes, first, sizes });
-                first += count;
+                let mut picks = Vec::new();
+                while let Some(line) = lines.next_if(|line| line.starts_with("pick")) {
+                    let numbers: Vec<u32> = line.split(' ').skip(1).map(|word| word.parse().ok()).collect::<Option<_>>()?;
+                    picks.push(Pick { axis: numbers[0] as usize, low: numbers[1], high: numbers[2] });
+                }
+                items.push(Item::Cross { axes, first, sizes, picks });
+                first += bins_of(&items[items.len() - 1]);
             }
         }
     }
@@ -233,7 +252,8 @@ fn plan(items: &[Item]) -> Vec<Plan> {
         .iter()
         .map(|item| match item {
             Item::Point { bins, .. } => Index::new(bins).map_or(Plan::Scan, Plan::Index),
-            Item::Cross { sizes, .. } => Plan::Cross((0..sizes.iter().product::<usize>() as u32).collect()),
+            Item::Cross { sizes, picks, .. } if picks.is_empty() => Plan::Cross((0..sizes.iter().product::<usize>() as u32).collect()),
+            Item::Cross { .. } => Plan::Picks,
         })
         .collect()
 }
@@ -271,14 +291,41 @@ fn sample_point(plan: &Plan, bins: &[Rule], first: usize, value: Option<u64>, st
     }
 }
 
+/// The picks that have the product of this number.
+fn picked(sizes: &[usize], picks: &[Pick], number: u32) -> Vec<u32> {
+    let mut members = vec![0; sizes.len()];
+    let mut left = number as usize;
+    for (member, size) in members.iter_mut().zip(sizes).rev() {
+        *member = (left % size) as u32;
+        left /= size;
+    }
+    (0..picks.len() as u32).filter(|&k| {
+        let pick = &picks[k as usize];
+        pick.low <= members[pick.axis] && members[pick.axis] <= pick.high
+    }).collect()
+}
+
+fn add_picks(sizes: &[usize], picks: &[Pick], numbers: &[u32], state: &mut State, counts: &mut [u64]) {
+    state.samples += 1;
+    for number in numbers {
+        for bin in state.known.entry(*number).or_insert_with(|| picked(sizes, picks, *number)).iter() {
+            let bin = *bin as usize;
+            if state.stamps[bin] != state.samples {
+                state.stamps[bin] = state.samples;
+                counts[bin] += 1;
+            }
+        }
+    }
+}
+
 fn count(instances: usize, items: &[Item], bins: usize, plans: &[Plan], record: &Record) -> Vec<u64> {
     let mut counts = vec![0; instances * bins];
     let mut values = vec![None; record.signals];
     let states: Vec<State> = items
         .iter()
         .map(|item| match item {
-            Item::Point { bins, .. } => State { begun: vec![false; bins.len()] },
-            Item::Cross { .. } => State::default(),
+            Item::Point { bins, .. } => State { begun: vec![false; bins.len()], ..State::default() },
+            Item::Cross { picks, .. } => State { stamps: vec![0; picks.len()], ..State::default() },
         })
         .collect();
     let mut kept = vec![states; instances];
@@ -294,8 +341,7 @@ fn count(instances: usize, items: &[Item], bins: usize, plans: &[Plan], record: 
                         Item::Point { signal, bins, first } => {
                             sample_point(&plans[k], bins, *first, values[*signal], &mut kept[*instance][k], counts, &mut rows[*instance][k]);
                         }
-                        Item::Cross { axes, first, sizes } => {
-                            let Plan::Cross(table) = &plans[k] else { continue };
+                        Item::Cross { axes, first, sizes, picks } => {
                             numbers.clear();
                             numbers.push(0);
                             for (axis, size) in axes.iter().zip(sizes) {
@@ -305,8 +351,13 @@ fn count(instances: usize, items: &[Item], bins: usize, plans: &[Plan], record: 
                                 }
                                 std::mem::swap(&mut numbers, &mut spare);
                             }
-                            for number in &numbers {
-                                counts[first + table[*number as usize] as usize] += 1;
+                            match &plans[k] {
+                                Plan::Cross(table) => {
+                                    for number in &numbers {
+                                        counts[first + table[*number as usize] as usize] += 1;
+                                    }
+                                }
+                                _ => add_picks(sizes, picks, &numbers, &mut kept[*instance][k], &mut counts[*first..]),
                             }
                         }
                     }

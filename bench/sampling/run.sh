@@ -32,7 +32,7 @@ while read -r name samples; do
     }'
 done <"$room/cases"
 
-for name in slow_64 random_4096 points overlapping transitions crosses; do
+for name in slow_64 random_4096 points overlapping transitions crosses picks; do
     samples=$(awk -v name="$name" '$1 == name { print $2 }' "$room/cases")
     a=$(work "$ours" "$room/$name.sv" "$room/$name.rec" count)
     b=$(work "$plain" "$room/$name.bins" "$room/$name.rec" count)

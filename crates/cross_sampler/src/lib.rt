@@ -5,6 +5,7 @@
 #![tactic(auto)]
 
 mod building;
+mod known;
 mod numbers;
 mod once;
 mod plan;
@@ -12,5 +13,6 @@ mod products;
 mod sampling;
 mod state;
 
+pub use known::Known;
 pub use plan::{CrossPlan, Table};
 pub use state::CrossState;

@@ -6,9 +6,11 @@ ghost use Rattle.cross_select.specs.Products.{product_of};
 ghost use Rattle.cross_sampler.specs.Numbers.{product_at};
 ghost use Rattle.cross_sampler.specs.Once.{Once, HasRoom, guard_at};
 ghost use Rattle.cross_sampler.specs.Plans.{IsDeclaredEnd, IsGuardEnd, bins_with, AreRows, HasProducts, IsPlan};
+ghost use Rattle.cross_sampler.specs.Known.{AreKnown, Fits};
 ghost use Rattle.cross_sampler.specs.Standing.{visited, hit_bins, Raises, TakesSample};
 
 use crate::building::push_bins;
+use crate::known::Known;
 use crate::numbers::{one_number, product_numbers};
 use crate::once::add_once;
 use crate::plan::{CrossPlan, Table};
@@ -47,7 +49,8 @@ fn add_by_rows(
     }
 }
 
-/// Puts the bins of the product of a number into `hit`. `product` is room.
+/// Puts the bins of the product of a number into `hit`. They are worked out once, as long as there is room to keep
+/// them. `product` is room.
 #[tactic(auto, using(crate::proofs::Radix::weights_some))]
 fn put_bins(
     bins: &[BinInfo],
@@ -55,21 +58,28 @@ fn put_bins(
     sizes: &[u32],
     weights: &[u32],
     number: u32,
+    known: &mut Known,
     product: &mut Vec<u32>,
     hit: &mut Vec<u32>,
 ) -> Result<(), Memory>
     requires few { length bins.now ≤ most_bins }
     requires declared { IsDeclaredEnd bins.now declared }
     requires products { HasProducts sizes.now weights.now }
-    ensures { OnOk result (hit.new.items ≡ bins_with bins.now (product_at sizes.now number) (length bins.now)) }
+    requires known { AreKnown sizes.now bins.now known.old }
+    ensures bins { OnOk result (hit.new.items ≡ bins_with bins.now (product_at sizes.now number) (length bins.now)) }
+    ensures known { OnOk result (AreKnown sizes.now bins.now known.new) }
 {
-    let _ = sizes;
+    if known.recall(bins, sizes, number, hit)? {
+        return Ok(());
+    }
     put_product(weights, number, product)?;
     hit.clear();
-    push_bins(bins, declared, bins.len(), product.as_slice(), hit)
+    push_bins(bins, declared, bins.len(), product.as_slice(), hit)?;
+    known.keep(bins, sizes, number, hit.as_slice())?;
+    Ok(())
 }
 
-/// Adds one to each bin that has one of the products, whose bins are worked out one after another.
+/// Adds one to each bin that has one of the products, whose bins are worked out where they aren't known.
 fn add_by_scan(
     bins: &[BinInfo],
     declared: usize,
@@ -80,6 +90,7 @@ fn add_by_scan(
     numbers: &[u32],
     env: &[Option<Int>],
     mark: u32,
+    known: &mut Known,
     product: &mut Vec<u32>,
     hit: &mut Vec<u32>,
     stamps: &mut [u32],
@@ -91,11 +102,13 @@ fn add_by_scan(
     requires guards { IsGuardEnd bins.now guards }
     requires bins { length stamps.old ≡ length bins.now }
     requires within { first + length stamps.old ≤ length counts.old }
-    ensures { OnOk result (HasRoom first mark stamps.old counts.old
+    requires known { AreKnown sizes.now bins.now known.old }
+    ensures known { OnOk result (AreKnown sizes.now bins.now known.new) }
+    ensures once { OnOk result (HasRoom first mark stamps.old counts.old
         → Once (guard_at bins.now env.now) first mark (visited bins.now sizes.now numbers.now) stamps.old counts.old stamps.new counts.new) }
 {
     for number in numbers {
-        put_bins(bins, declared, sizes, weights, *number, product, hit)?;
+        put_bins(bins, declared, sizes, weights, *number, known, product, hit)?;
         add_once(
             bins,
             guards,
@@ -126,10 +139,10 @@ impl CrossPlan {
         requires products { HasProducts self.now.sizes self.now.weights }
         requires table { AreRows self.now.sizes item.now.bins (length item.now.bins) table.now }
         requires axes { length self.now.sizes ≡ length axes.now }
-        requires stamps { length state.old.stamps.items ≡ length item.now.bins }
+        requires fits { Fits item.now self.now state.old }
         requires within { item.now.first_bin + length item.now.bins ≤ length counts.old }
         ensures samples { OnOk result (state.new.samples ≡ state.old.samples) }
-        ensures stamps { OnOk result (length state.new.stamps.items ≡ length item.now.bins) }
+        ensures fits { OnOk result (Fits item.now self.now state.new) }
         ensures once { OnOk result (Raises item.now.bins item.now.first_bin env.now state.old.samples (hit_bins item.now.bins self.now.sizes rows.now axes.now) state.old.stamps.items counts.old state.new.stamps.items counts.new) }
     {
         let sizes = self.sizes.as_slice();
@@ -167,10 +180,10 @@ impl CrossPlan {
         requires plan { IsPlan item.now.bins self.now }
         requires products { HasProducts self.now.sizes self.now.weights }
         requires axes { length self.now.sizes ≡ length axes.now }
-        requires stamps { length state.old.stamps.items ≡ length item.now.bins }
+        requires fits { Fits item.now self.now state.old }
         requires within { item.now.first_bin + length item.now.bins ≤ length counts.old }
         ensures samples { OnOk result (state.new.samples ≡ state.old.samples) }
-        ensures stamps { OnOk result (length state.new.stamps.items ≡ length item.now.bins) }
+        ensures fits { OnOk result (Fits item.now self.now state.new) }
         ensures once { OnOk result (Raises item.now.bins item.now.first_bin env.now state.old.samples (hit_bins item.now.bins self.now.sizes rows.now axes.now) state.old.stamps.items counts.old state.new.stamps.items counts.new) }
     {
         let sizes = self.sizes.as_slice();
@@ -185,11 +198,13 @@ impl CrossPlan {
             state.numbers.as_slice(),
             env,
             state.samples,
+            &mut state.known,
             &mut state.product,
             &mut state.bins,
             state.stamps.as_mut_slice(),
             counts,
-        )
+        )?;
+        Ok(())
     }
 
     /// The same by the table that there is.
@@ -204,10 +219,10 @@ impl CrossPlan {
     ) -> Result<(), Memory>
         requires plan { IsPlan item.now.bins self.now }
         requires axes { length self.now.sizes ≡ length axes.now }
-        requires stamps { length state.old.stamps.items ≡ length item.now.bins }
+        requires fits { Fits item.now self.now state.old }
         requires within { item.now.first_bin + length item.now.bins ≤ length counts.old }
         ensures samples { OnOk result (state.new.samples ≡ state.old.samples) }
-        ensures stamps { OnOk result (length state.new.stamps.items ≡ length item.now.bins) }
+        ensures fits { OnOk result (Fits item.now self.now state.new) }
         ensures once { OnOk result (Raises item.now.bins item.now.first_bin env.now state.old.samples (hit_bins item.now.bins self.now.sizes rows.now axes.now) state.old.stamps.items counts.old state.new.stamps.items counts.new) }
     {
         match &self.table {
@@ -235,9 +250,9 @@ impl CrossPlan {
     ) -> Result<(), Memory>
         requires plan { IsPlan item.now.bins self.now }
         requires axes { length self.now.sizes ≡ length axes.now }
-        requires stamps { length state.old.stamps.items ≡ length item.now.bins }
+        requires fits { Fits item.now self.now state.old }
         requires within { item.now.first_bin + length item.now.bins ≤ length counts.old }
-        ensures stamps { OnOk result (length state.new.stamps.items ≡ length item.now.bins) }
+        ensures fits { OnOk result (Fits item.now self.now state.new) }
         ensures takes { OnOk result (TakesSample self.now.sizes item.now axes.now env.now rows.now
             state.old counts.old state.new counts.new) }
     {

@@ -1,7 +1,10 @@
 //! What a cross keeps along the samples of its instance.
-ghost use Rattle.std.specs.Prelude.{◌≡◌, ◌<◌, ◌≤◌, ◌+◌, ◌-◌, ◌^◌, length, IfOk};
+ghost use Rattle.std.specs.Prelude.{◌≡◌, ℕ, List, ◌<◌, ◌≤◌, ◌+◌, ◌-◌, ◌^◌, length, IfOk};
 ghost use Rattle.std.specs.List.{All};
+ghost use Rattle.design_data.specs.declared.infos.BinInfo.{BinInfo};
+ghost use Rattle.cross_sampler.specs.Known.{AreKnown};
 
+use crate::known::Known;
 use cov_base::Memory;
 use std::alloc::Global;
 
@@ -18,6 +21,8 @@ pub struct CrossState {
     /// Room for a product and its bins.
     pub product: Vec<u32>,
     pub bins: Vec<u32>,
+    /// The bins of products that were hit before, where no table has them.
+    pub known: Known,
 }
 
 impl CrossState {
@@ -26,6 +31,7 @@ impl CrossState {
         ensures samples { IfOk result (λ state. state.samples ≡ 0) }
         ensures stamps { IfOk result (λ state. length state.stamps.items ≡ bins) }
         ensures marks { IfOk result (λ state. All (λ stamp. stamp ≤ 0) state.stamps.items) }
+        ensures known { IfOk result (λ state. (sizes : List ℕ) (bins : List BinInfo) → AreKnown sizes bins state.known) }
     {
         Ok(CrossState {
             samples: 0,
@@ -34,6 +40,7 @@ impl CrossState {
             spare: Vec::new(alloc),
             product: Vec::new(alloc),
             bins: Vec::new(alloc),
+            known: Known::new(alloc),
         })
     }
 
@@ -41,6 +48,7 @@ impl CrossState {
     pub(crate) fn begin(&mut self)
         ensures samples { self.old.samples < 2 ^ 32 - 1 → self.new.samples ≡ self.old.samples + 1 }
         ensures stamps { self.new.stamps.items ≡ self.old.stamps.items }
+        ensures known { self.new.known ≡ self.old.known }
     {
         self.samples = self.samples.saturating_add(1);
     }

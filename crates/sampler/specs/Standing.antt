@@ -15,6 +15,7 @@ use Rattle.point_sampler.specs.Plans as points
 use Rattle.point_sampler.specs.Points as points_stand
 use Rattle.cross_sampler.specs.Numbers.{row_at}
 use Rattle.cross_sampler.specs.Plans as crosses
+use Rattle.cross_sampler.specs.Known as crosses_known
 use Rattle.cross_sampler.specs.Standing as crosses_stand
 use Rattle.sampler.specs.declared.plan.ItemPlan.{ItemPlan}
 use Rattle.sampler.specs.declared.plan.ItemPlan.TheVariants as plan
@@ -49,7 +50,7 @@ abbrev pub FitsItem : ItemInfo → ItemPlan → ItemState → Type 0
 FitsItem item (plan.Point p) (kept.Point s) = points_stand.FitsPlan p s
 FitsItem item (plan.Point p) (kept.Cross s) = ⊥
 FitsItem item (plan.Cross p) (kept.Point s) = ⊥
-FitsItem item (plan.Cross p) (kept.Cross s) = length s.stamps.items ≡ length item.bins
+FitsItem item (plan.Cross p) (kept.Cross s) = crosses_known.Fits item p s
 
 -- what a point keeps, and its counts, after the first m samples
 abbrev pub PointStands : ItemInfo → Term → List Env → ℕ → ItemPlan → ItemState → (counts : List ℕ) → Type 0

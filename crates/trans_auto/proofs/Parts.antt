@@ -1,12 +1,10 @@
 -- One item's cells, by the last sample.
-use Rattle.std.proofs.Common.{◌≡◌, ℕ, ◌+◌, ◌*◌, ◌<◌, ◌≤◌, ◌⊎◌, ◌↔◌, List, [], ◌∷◌, ◌++◌, length, drop, refl, ap, sym, ◌∙◌, subst, inl, inr, arith, length-drop, Bool, true, false, not, zero, suc}
-use Rattle.std.proofs.lemmas.List.{take_all}
-use Rattle.std.proofs.lemmas.List.Elements.{All-nil}
+use Rattle.std.proofs.Common.{◌≡◌, ℕ, ◌+◌, ◌*◌, ◌<◌, ◌≤◌, ◌⊎◌, ◌↔◌, List, [], ◌∷◌, ◌++◌, length, drop, refl, sym, ◌∙◌, inl, inr, arith, Bool, true, false, not, zero, suc}
 use Rattle.std.proofs.lemmas.Bool.{and_parts, and_from, or_cases, or_left, or_right, not-true, not_from_false}
 use Rattle.trans_seq.specs.declared.seq.Repeat.{Repeat}
 use Rattle.trans_seq.specs.declared.seq.Repeat.TheVariants.{Once, Consec, Goto, NonConsec}
 use Rattle.trans_seq.specs.Windows.{Then, AllOutside, IsBlock, IsGap, IsRun, IsBlocks, IsGoto, InRepeat}
-use Rattle.trans_seq.proofs.Cuts.{then-map, then-assoc, then-assoc_back, then-empty}
+use Rattle.trans_seq.proofs.Cuts.{then-map, then-assoc, then-assoc_back}
 use Rattle.trans_seq.proofs.Blocks.{run-zero, blocks-zero, at-push, at-push_back, after-push, after-push_back, run_at-push, run_at-push_back, open-cases, open-from}
 use Rattle.trans_auto.specs.Masks.{has_bit, RunsHold, BlocksHold, RepeatHolds}
 use Rattle.trans_auto.specs.Steps.{run_bit, at_bit, from_bit, RunsStep, BlocksStep, RepeatSteps, Leaves}

@@ -1,5 +1,6 @@
 //! The sequences that take windows away from the bins of a point.
-ghost use Rattle.std.specs.Prelude.{◌≡◌, ◌↔◌, ℤ, ◌≤◌, ◌<◌, min, IsTrue, IsOk, IfOk, IsOkUnless, Option, Err, false};
+ghost use Rattle.std.specs.Prelude.{◌≡◌, ◌↔◌, ℕ, ℤ, ◌≤◌, ◌<◌, min, [], nat_eq, IsTrue, IsOk, IfOk, IsOkUnless, Option, None, Err, false};
+ghost use Rattle.std.specs.HashMap.{get};
 ghost use Rattle.cov_ground.specs.Limits.{most_cells};
 ghost use Rattle.trans_seq.specs.Cells.{cells_of_seqs as cells_of};
 ghost use Rattle.trans_seq.specs.Windows.{SomeHasWord};
@@ -69,9 +70,13 @@ impl Removing {
     pub fn begin(&self, step: &mut Step, sample: Option<Int>)
         ensures { IsStep self.now sample step.new }
     {
+        if self.side.is_empty() {
+            step.rest();
+            return;
+        }
         step.inside = self.side.inside(&sample);
         step.begun = self.side.step(step.inside, true, 0);
-        step.moves.clear();
+        step.forget();
     }
 
     /// Whether the list of known values is a list of one of the sequences. Its time grows with the length of the list
@@ -104,6 +109,28 @@ impl Step {
             begun: removed.step(inside, true, 0),
             moves: HashMap::new(alloc),
             keeps: false,
+        }
+    }
+
+    /// What any sample does where nothing takes windows away.
+    #[inline(always)]
+    fn rest(&mut self)
+        ensures { (v : Option ℤ) → IsStep [] v self.new }
+    {
+        self.inside = 0;
+        self.begun = 0;
+        self.forget();
+    }
+
+    /// Forgets the masks that were moved.
+    #[inline(always)]
+    fn forget(&mut self)
+        ensures inside { self.new.inside ≡ self.old.inside }
+        ensures begun { self.new.begun ≡ self.old.begun }
+        ensures moves { (old : ℕ) → get nat_eq self.new.moves old ≡ None }
+    {
+        if !self.moves.is_empty() {
+            self.moves.clear();
         }
     }
 

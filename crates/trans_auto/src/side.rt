@@ -1,5 +1,5 @@
 //! Sequences with the cells that they have in a mask.
-ghost use Rattle.std.specs.Prelude.{◌≡◌, ℕ, Option, ℤ, ◌≤◌, ◌↔◌, IfOk, IsTrue, Bool, false};
+ghost use Rattle.std.specs.Prelude.{◌≡◌, ℕ, Option, ℤ, ◌≤◌, ◌↔◌, IfOk, IsTrue, Bool, false, []};
 ghost use Rattle.cov_ground.specs.Limits.{most_cells};
 ghost use Rattle.trans_seq.specs.Cells.{cells_of_seqs};
 ghost use Rattle.trans_seq.specs.Windows.{SomeHasWord};
@@ -67,6 +67,14 @@ impl Side {
 
     pub(crate) fn allocator(&self) -> Global {
         *self.seqs.allocator()
+    }
+
+    /// Whether there are no sequences.
+    #[inline(always)]
+    pub(crate) fn is_empty(&self) -> bool
+        ensures { IsTrue result → self.now ≡ [] }
+    {
+        self.seqs.is_empty()
     }
 
     /// The cells of the items that the sample is inside.

@@ -1,4 +1,4 @@
-use Rattle.std.proofs.Common.{◌<◌, get_or, length, drop, sym, ◌∙◌, arith, true, false}
+use Rattle.std.proofs.Common.{◌<◌, get_or, length, drop, sym, ◌∙◌, arith, false}
 use Rattle.std.proofs.lemmas.Bool.{true≢false, false≢true}
 use Rattle.std.proofs.lemmas.List.Elements.{Contains-get_or}
 use Rattle.trans_seq.specs.Windows.{InSome}

@@ -1,7 +1,6 @@
-use Rattle.std.proofs.Common.{◌≡◌, ℕ, ◌<◌, get_or, List, [], Option, true, false}
-use Rattle.std.specs.Prelude.{ℤ}
+use Rattle.std.proofs.Common.{◌≡◌, true, false}
 use Rattle.trans_seq.specs.Windows.{InSome}
-use Rattle.trans_auto.specs.State.{PairHolds, Remains}
+use Rattle.trans_auto.specs.State.{Remains}
 use Rattle.trans_auto.proofs.RunLemmas.{SomeRunHas, NoneBelowHas}
 use Rattle.trans_auto.proofs.runs.answer.Given as goal
 

@@ -9,4 +9,4 @@ returns-then-not-holds-clause-takes c = λ items all m are sample hit h.
 pub returns-clause-takes : goal.returns-clause-takes
 returns-clause-takes c = λ items all m are sample hit h.
     begun items c.args.item.now c.args.axes.now all m c.args.env.now c.args.rows.now c.args.self.now.sizes c.args.state.now c.begin.new.self c.raise.new.state c.args.counts.now c.raise.new.counts are sample (sym c.holds.ensures ∙ c.if-not-holds.false) hit
-    c.requires.stamps c.begin.ensures.samples c.begin.ensures.stamps c.in_ok-raise.ensures.samples c.in_ok-raise.ensures.once h
+    c.requires.fits.stamps c.begin.ensures.samples c.begin.ensures.stamps c.in_ok-raise.ensures.samples c.in_ok-raise.ensures.once h
