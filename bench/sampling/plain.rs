@@ -1,6 +1,6 @@
 //! The same as `bench_sampling` in plain Rust: `plain BINS RECORD WORD ROUNDS`. The bins stand in a plain file (cases.py);
 //! a point has an index of cuts with a table of buckets, or its bins are asked one after another where an index would be
-//! large; lists of values are automata of two cells; a cross has a row for each product.
+//! large; lists of two values are rows of a sorted table; a cross has a row for each product.
 use std::env;
 use std::fs;
 
@@ -175,16 +175,30 @@ impl Index {
     }
 }
 
+/// A row of two values, the last one first, and the place of its bin.
+type Row = (u64, u64, u32);
+
+fn rows_of(bins: &[Rule]) -> Option<Vec<Row>> {
+    let mut rows = Vec::new();
+    for (place, rule) in bins.iter().enumerate() {
+        let Rule::List(from, to) = rule else { return None };
+        rows.push((*to, *from, place as u32));
+    }
+    rows.sort_unstable();
+    Some(rows)
+}
+
 enum Plan {
     Index(Index),
+    Lists(Vec<Row>),
     Scan,
     Cross(Vec<u32>),
 }
 
-/// What an item keeps: of lists, which of them have begun.
+/// What an item keeps: the value before.
 #[derive(Clone, Default)]
 struct State {
-    begun: Vec<bool>,
+    before: Option<u64>,
 }
 
 fn bins_of(item: &Item) -> usize {
@@ -232,35 +246,39 @@ fn plan(items: &[Item]) -> Vec<Plan> {
     items
         .iter()
         .map(|item| match item {
-            Item::Point { bins, .. } => Index::new(bins).map_or(Plan::Scan, Plan::Index),
+            Item::Point { bins, .. } => match (Index::new(bins), rows_of(bins)) {
+                (Some(index), _) => Plan::Index(index),
+                (None, Some(rows)) => Plan::Lists(rows),
+                (None, None) => Plan::Scan,
+            },
             Item::Cross { sizes, .. } => Plan::Cross((0..sizes.iter().product::<usize>() as u32).collect()),
         })
         .collect()
 }
 
-fn met(rule: &Rule, value: u64, begun: &mut [bool], bin: usize) -> bool {
+fn met(rule: &Rule, value: u64) -> bool {
     match rule {
         Rule::Set(ranges) => ranges.iter().any(|(low, high)| *low <= value && value <= *high),
         Rule::Mask(mask, bits) => value & mask == *bits,
-        Rule::List(from, to) => {
-            let ends = begun[bin] && value == *to;
-            begun[bin] = value == *from;
-            ends
-        }
+        Rule::List(..) => false,
     }
 }
 
 fn sample_point(plan: &Plan, bins: &[Rule], first: usize, value: Option<u64>, state: &mut State, counts: &mut [u64], row: &mut Vec<u32>) {
     row.clear();
-    let Some(value) = value else {
-        state.begun.fill(false);
-        return;
-    };
+    let before = std::mem::replace(&mut state.before, value);
+    let Some(value) = value else { return };
     match plan {
         Plan::Index(index) => row.extend_from_slice(index.hits(value)),
+        Plan::Lists(rows) => {
+            let Some(before) = before else { return };
+            let from = rows.partition_point(|(last, first, _)| (*last, *first) < (value, before));
+            let to = from + rows[from..].partition_point(|(last, first, _)| (*last, *first) <= (value, before));
+            row.extend(rows[from..to].iter().map(|(_, _, place)| *place));
+        }
         _ => {
             for (bin, rule) in bins.iter().enumerate() {
-                if met(rule, value, &mut state.begun, bin) {
+                if met(rule, value) {
                     row.push(bin as u32);
                 }
             }
@@ -274,13 +292,7 @@ fn sample_point(plan: &Plan, bins: &[Rule], first: usize, value: Option<u64>, st
 fn count(instances: usize, items: &[Item], bins: usize, plans: &[Plan], record: &Record) -> Vec<u64> {
     let mut counts = vec![0; instances * bins];
     let mut values = vec![None; record.signals];
-    let states: Vec<State> = items
-        .iter()
-        .map(|item| match item {
-            Item::Point { bins, .. } => State { begun: vec![false; bins.len()] },
-            Item::Cross { .. } => State::default(),
-        })
-        .collect();
+    let states = vec![State::default(); items.len()];
     let mut kept = vec![states; instances];
     let mut rows = vec![vec![Vec::new(); items.len()]; instances];
     let (mut numbers, mut spare) = (Vec::new(), Vec::new());
