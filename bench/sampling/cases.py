@@ -113,7 +113,9 @@ case("wildcards", "bit [63:0] v;", "p: coverpoint v {\n" + "\n".join(
      [(0, [("mask", [(mask, value)]) for mask, value in marks])], [], (e for _, e in zip(range(131072), walked(0, (a << 33 | b for a, b in zip(draws(3), draws(4)))))), 65536)
 
 case("lists", "bit [7:0] v;", "p: coverpoint v { bins b[] = ([0:255] => [0:255]); }", [("v", 8)],
-     [(0, [("list", [(k // 256, k % 256)]) for k in range(65536)])], [], (e for _, e in zip(range(2048), walked(0, random(8)))), 1024)
+     [(0, [("list", [(k // 256, k % 256)]) for k in range(65536)])], [], walked(0, random(8)), half)
+case("list", "bit [7:0] v;", "p: coverpoint v { bins b = (1 => 2); }", [("v", 8)], [(0, [("list", [(1, 2)])])], [], walked(0, random(8)), half)
+case("sequence", "bit [7:0] v;", "p: coverpoint v { bins b = (1 [*1:2] => 2); }", [("v", 8)], [(0, [("list", [(1, 2)])])], [], walked(0, random(8)), half)
 
 steps = [(k, (k + 1) % 64) for k in range(64)]
 case("transitions", "bit [5:0] v;", "p: coverpoint v {\n" + "\n".join(f"bins t{k} = ({a} => {b});" for k, (a, b) in enumerate(steps)) + "\n}", [("v", 6)],

@@ -1,6 +1,6 @@
 //! The same as `bench_sampling` in plain Rust: `plain BINS RECORD WORD ROUNDS`. The bins stand in a plain file (cases.py);
 //! a point has an index of cuts with a table of buckets, or its bins are asked one after another where an index would be
-//! large; lists of values are automata of two cells; a cross has a row for each product, or, where its bins pick
+//! large; lists of two values are rows of a sorted table; a cross has a row for each product, or, where its bins pick
 //! products, keeps the bins of each product that was hit.
 use std::collections::HashMap;
 use std::env;
@@ -184,18 +184,32 @@ impl Index {
     }
 }
 
+/// A row of two values, the last one first, and the place of its bin.
+type Row = (u64, u64, u32);
+
+fn rows_of(bins: &[Rule]) -> Option<Vec<Row>> {
+    let mut rows = Vec::new();
+    for (place, rule) in bins.iter().enumerate() {
+        let Rule::List(from, to) = rule else { return None };
+        rows.push((*to, *from, place as u32));
+    }
+    rows.sort_unstable();
+    Some(rows)
+}
+
 enum Plan {
     Index(Index),
+    Lists(Vec<Row>),
     Scan,
     Cross(Vec<u32>),
     Picks,
 }
 
-/// What an item keeps: of lists, which of them have begun; of a cross whose bins pick products, the bins of those that
-/// were hit, and for each bin the number of the sample at which it was hit last.
+/// What an item keeps: the value before; of a cross whose bins pick products, the bins of those that were hit, and for
+/// each bin the number of the sample at which it was hit last.
 #[derive(Clone, Default)]
 struct State {
-    begun: Vec<bool>,
+    before: Option<u64>,
     known: HashMap<u32, Vec<u32>>,
     stamps: Vec<u32>,
     samples: u32,
@@ -251,36 +265,40 @@ fn plan(items: &[Item]) -> Vec<Plan> {
     items
         .iter()
         .map(|item| match item {
-            Item::Point { bins, .. } => Index::new(bins).map_or(Plan::Scan, Plan::Index),
+            Item::Point { bins, .. } => match (Index::new(bins), rows_of(bins)) {
+                (Some(index), _) => Plan::Index(index),
+                (None, Some(rows)) => Plan::Lists(rows),
+                (None, None) => Plan::Scan,
+            },
             Item::Cross { sizes, picks, .. } if picks.is_empty() => Plan::Cross((0..sizes.iter().product::<usize>() as u32).collect()),
             Item::Cross { .. } => Plan::Picks,
         })
         .collect()
 }
 
-fn met(rule: &Rule, value: u64, begun: &mut [bool], bin: usize) -> bool {
+fn met(rule: &Rule, value: u64) -> bool {
     match rule {
         Rule::Set(ranges) => ranges.iter().any(|(low, high)| *low <= value && value <= *high),
         Rule::Mask(mask, bits) => value & mask == *bits,
-        Rule::List(from, to) => {
-            let ends = begun[bin] && value == *to;
-            begun[bin] = value == *from;
-            ends
-        }
+        Rule::List(..) => false,
     }
 }
 
 fn sample_point(plan: &Plan, bins: &[Rule], first: usize, value: Option<u64>, state: &mut State, counts: &mut [u64], row: &mut Vec<u32>) {
     row.clear();
-    let Some(value) = value else {
-        state.begun.fill(false);
-        return;
-    };
+    let before = std::mem::replace(&mut state.before, value);
+    let Some(value) = value else { return };
     match plan {
         Plan::Index(index) => row.extend_from_slice(index.hits(value)),
+        Plan::Lists(rows) => {
+            let Some(before) = before else { return };
+            let from = rows.partition_point(|(last, first, _)| (*last, *first) < (value, before));
+            let to = from + rows[from..].partition_point(|(last, first, _)| (*last, *first) <= (value, before));
+            row.extend(rows[from..to].iter().map(|(_, _, place)| *place));
+        }
         _ => {
             for (bin, rule) in bins.iter().enumerate() {
-                if met(rule, value, &mut state.begun, bin) {
+                if met(rule, value) {
                     row.push(bin as u32);
                 }
             }
@@ -324,7 +342,7 @@ fn count(instances: usize, items: &[Item], bins: usize, plans: &[Plan], record: 
     let states: Vec<State> = items
         .iter()
         .map(|item| match item {
-            Item::Point { bins, .. } => State { begun: vec![false; bins.len()], ..State::default() },
+            Item::Point { .. } => State::default(),
             Item::Cross { picks, .. } => State { stamps: vec![0; picks.len()], ..State::default() },
         })
         .collect();

@@ -2,19 +2,22 @@
 use Rattle.std.proofs.Common.{◌≡◌, ◌≢◌, ◌⊎◌, ◌↔◌, ℕ, ◌+◌, ◌<◌, ◌≤◌, List, [], ◌∷◌, ◌++◌, length, get_or, take, Bool, true, false, cond, refl, ap, sym, subst, ◌∙◌, inl, inr, arith, IsTrue}
 use Rattle.std.specs.Prelude.{Contains, AllPairs, slice_set}
 use Rattle.std.proofs.lemmas.Bool.{false≢true, cases_lt}
-use Rattle.std.proofs.lemmas.List.{get_or-set_same, get_or-set_other, get_or_default, get_or-take, length-take-le, get_or_append_left}
+use Rattle.std.proofs.lemmas.List.{append-nil, get_or-set_same, get_or-set_other, get_or_default, get_or-take, length-take-le, get_or_append_left}
 use Rattle.std.proofs.Math.Seq.{get_or-append_seam}
 use Rattle.std.proofs.lemmas.List.Elements.{Contains-append_left, Contains-append_right, Contains-append_cases, Contains-push, Contains-push_cases, Contains-get_or}
 use Rattle.std.proofs.lemmas.List.Quantifiers.{all_pairs_push}
 use Rattle.trans_seq.specs.Windows.{EndsKept, EndsWindow}
 use Rattle.trans_auto.specs.State.{Stands}
 use Rattle.design_data.specs.Laws.{Value}
+use Rattle.word_table.specs.declared.row.PlacedWord.{PlacedWord}
+use Rattle.word_table.specs.Placed.{HasPlace, EndsAt, AddsEnded}
+use Rattle.word_table.proofs.Keeping.{last_itself}
 use Rattle.point_sampler.specs.declared.plan.Machine.{Machine}
 use Rattle.point_sampler.specs.declared.plan.Removers.{Removers}
 use Rattle.point_sampler.specs.declared.plan.PointPlan.{PointPlan}
 use Rattle.point_sampler.specs.Plans.{removed_by}
-use Rattle.point_sampler.specs.Points.{RunsStand}
-use Rattle.point_sampler.specs.Met.{IsPlaceOf, MetBy, EndedBy, Answered, SomeTaken, Ascend, StandApart, IsTransPlace, AreTransMet}
+use Rattle.point_sampler.specs.Points.{RunsStand, AreRecent}
+use Rattle.point_sampler.specs.Met.{IsPlaceOf, MetBy, EndedBy, Answered, SomeTaken, Ascend, StandApart, IsTracePlace, AreTransMet}
 use Rattle.point_sampler.proofs.Places.{in_none, once_append}
 
 -- ---- what they say
@@ -152,41 +155,89 @@ joined_new : (b : Bool) (met more : List ℕ) (p : ℕ) → b ≡ true → Conta
 joined_new true met more p e c = Contains-append_right met more p c
 joined_new false met more p e c = absurd (false≢true e)
 
-pub trans_met : (plan : PointPlan) (w : List Value) (v : Value) (met next : List ℕ) (begun ended alone : Bool) → Answered plan.machines.items plan.removers (w ++ v ∷ []) met ended
-    → (IsTrue begun ↔ (0 < length w))
-    → (0 < length plan.sequences.items → IsTrue alone ↔ (IsTrue begun × (IsTrue ended → ⊥) × (EndsWindow plan.others (w ++ v ∷ []) → ⊥)))
-    → next ≡ cond alone (met ++ plan.sequences.items) met → AreTransMet plan w v next
-trans_met plan w v met next begun ended alone h later says is = λ p. (
-  (λ c. elim (joined_cases alone met plan.sequences.items p (subst (λ (m : List ℕ). Contains m p) is c)) [
-    | inl old ↦ inl ((h.met_by p).0 old)
-    | inr new ↦
-        let some : 0 < length plan.sequences.items = omega (arith, new.1.1) in
-        let all = (says some).0 new.0 in
-        inr (new.1, record { later = later.0 all.0; machines = λ e. all.1 (h.ended_by.1 e); others = all.2 })
-  ]),
-  (λ m. subst (λ (ps : List ℕ). Contains ps p) (sym is) (elim m [
-    | inl kept ↦ joined_old alone met plan.sequences.items p ((h.met_by p).1 kept)
-    | inr new ↦
-        let some : 0 < length plan.sequences.items = omega (arith, new.0.1) in
-        joined_new alone met plan.sequences.items p ((says some).1 (later.1 new.1.later, (λ t. new.1.machines (h.ended_by.0 t)), new.1.others)) new.0
-  ])),
-)
-
-pub trans_among : (plan : PointPlan) (met next : List ℕ) (alone : Bool) → next ≡ cond alone (met ++ plan.sequences.items) met
-    → ((p : ℕ) → Contains met p → IsPlaceOf plan.machines.items p) → (p : ℕ) → Contains next p → IsTransPlace plan p
-trans_among plan met next alone is among p c = elim (joined_cases alone met plan.sequences.items p (subst (λ (m : List ℕ). Contains m p) is c)) [
-  | inl old ↦ inl (among p old)
-  | inr new ↦ inr new.1
-]
-
 joined_once : (b : Bool) (met more : List ℕ) → AllPairs (λ a b. a ≢ b) met → AllPairs (λ a b. a ≢ b) (met ++ more) → AllPairs (λ a b. a ≢ b) (cond b (met ++ more) met)
 joined_once true met more h all = all
 joined_once false met more h all = h
 
-pub trans_once : (plan : PointPlan) (met next : List ℕ) (alone : Bool) → StandApart plan → next ≡ cond alone (met ++ plan.sequences.items) met
-    → ((p : ℕ) → Contains met p → IsPlaceOf plan.machines.items p) → AllPairs (λ a b. a ≢ b) met → AllPairs (λ a b. a ≢ b) next
-trans_once plan met next alone apart is among once =
-    subst (AllPairs (λ a b. a ≢ b)) (sym is) (joined_once alone met plan.sequences.items once (once_append met plan.sequences.items once apart.once (λ p a b. apart.apart p (among p a) b)))
+some_in : (found : List ℕ) (p : ℕ) → Contains found p → 0 < length found
+some_in found p c = omega (arith, c.1)
+
+module _ (plan : PointPlan) (w : List Value) (v : Value) (met found both next : List ℕ) (begun ended some now alone : Bool) (joined : both ≡ met ++ found) (is : next ≡ cond alone (both ++ plan.sequences.items) both) where
+  in_both : (p : ℕ) → Contains both p → Contains met p ⊎ Contains found p
+  in_both p c = Contains-append_cases met found p (subst (λ (ps : List ℕ). Contains ps p) joined c)
+
+  met_both : (p : ℕ) → Contains met p → Contains both p
+  met_both p c = subst (λ (ps : List ℕ). Contains ps p) (sym joined) (Contains-append_left met found p c)
+
+  found_both : (p : ℕ) → Contains found p → Contains both p
+  found_both p c = subst (λ (ps : List ℕ). Contains ps p) (sym joined) (Contains-append_right met found p c)
+
+  pub trans_met : Answered plan.machines.items plan.removers (w ++ v ∷ []) met ended → ((p : ℕ) → Contains found p ↔ EndsAt plan.words (w ++ v ∷ []) p) → (IsTrue some ↔ (0 < length found)) → (IsTrue now ↔ (IsTrue ended ⊎ IsTrue some))
+      → (IsTrue begun ↔ (0 < length w))
+      → (0 < length plan.sequences.items → IsTrue alone ↔ (IsTrue begun × (IsTrue now → ⊥) × (EndsWindow plan.others (w ++ v ∷ []) → ⊥)))
+      → AreTransMet plan w v next
+  trans_met h are is_some either later says = λ p. (
+    (λ c. elim (joined_cases alone both plan.sequences.items p (subst (λ (m : List ℕ). Contains m p) is c)) [
+      | inl old ↦ elim (in_both p old) [ inl m ↦ inl ((h.met_by p).0 m) | inr f ↦ inr (inl ((are p).0 f)) ]
+      | inr new ↦
+          let all = (says (some_in plan.sequences.items p new.1)).0 new.0 in
+          inr (inr (
+            new.1,
+            record {
+              later = later.0 all.0;
+              machines = λ e. all.1 (either.1 (inl (h.ended_by.1 e)));
+              words = λ q e. all.1 (either.1 (inr (is_some.1 (some_in found q ((are q).1 e)))));
+              others = all.2;
+            },
+          ))
+    ]),
+    (λ m. subst (λ (ps : List ℕ). Contains ps p) (sym is) (elim m [
+      | inl kept ↦ joined_old alone both plan.sequences.items p (met_both p ((h.met_by p).1 kept))
+      | inr (inl word) ↦ joined_old alone both plan.sequences.items p (found_both p ((are p).1 word))
+      | inr (inr new) ↦
+          let quiet : IsTrue now → ⊥ = λ t. elim (either.0 t) [
+            | inl e ↦ new.1.machines (h.ended_by.0 e)
+            | inr s ↦ let q = get_or found 0 0 in new.1.words q ((are q).0 (Contains-get_or found 0 0 (is_some.0 s)))
+          ] in
+          joined_new alone both plan.sequences.items p ((says (some_in plan.sequences.items p new.0)).1 (later.1 new.1.later, quiet, new.1.others)) new.0
+    ])),
+  )
+
+  pub trans_among : ((p : ℕ) → Contains met p → IsPlaceOf plan.machines.items p) → ((p : ℕ) → Contains found p → HasPlace plan.words p) → (p : ℕ) → Contains next p → IsTracePlace plan p
+  trans_among among words p c = elim (joined_cases alone both plan.sequences.items p (subst (λ (m : List ℕ). Contains m p) is c)) [
+    | inl old ↦ inl (elim (in_both p old) [ inl m ↦ inl (among p m) | inr f ↦ inr (words p f) ])
+    | inr new ↦ inr new.1
+  ]
+
+  pub trans_once : StandApart plan → ((p : ℕ) → Contains met p → IsPlaceOf plan.machines.items p) → ((p : ℕ) → Contains found p → HasPlace plan.words p) → AllPairs (λ a b. a ≢ b) met → AllPairs (λ a b. a ≢ b) found → AllPairs (λ a b. a ≢ b) next
+  trans_once apart among words once found_once =
+      let both_once : AllPairs (λ a b. a ≢ b) both = subst (AllPairs (λ a b. a ≢ b)) (sym joined) (once_append met found once found_once (λ p a b. apart.words p (among p a) (words p b))) in
+      subst (AllPairs (λ a b. a ≢ b)) (sym is) (joined_once alone both plan.sequences.items both_once (once_append both plan.sequences.items both_once apart.once (λ p a b.
+      apart.apart p (elim (in_both p a) [ inl m ↦ inl (among p m) | inr f ↦ inr (words p f) ]) b)))
+
+-- ---- words
+
+pub ends_placed : (rows : List PlacedWord) (w : List Value) (place : ℕ) → EndsAt rows w place → HasPlace rows place
+ends_placed rows w place e = record { row = e.row; is_one = e.is_one; is_place = e.is_place }
+
+-- the places that were found are those of the words that the trace ends with, where the last values are kept only for words
+pub found_ends : (rows : List PlacedWord) (recent : List Value) (old new : List ℕ) (some : Bool) (adds : AddsEnded rows recent old new some) (w : List Value) → AreRecent rows recent w → (place : ℕ) → Contains adds.found place ↔ EndsAt rows w place
+found_ends rows recent old new some adds w last place = (
+  (λ c. let has = (adds.are recent (last_itself recent) place).0 c in (adds.are w (last (omega (arith, has.is_one.1))) place).0 c),
+  (λ e. (adds.are w (last (omega (arith, e.is_one.1))) place).1 e),
+)
+
+pub found_placed : (rows : List PlacedWord) (recent : List Value) (old new : List ℕ) (some : Bool) (adds : AddsEnded rows recent old new some) (place : ℕ) → Contains adds.found place → HasPlace rows place
+found_placed rows recent old new some adds place c = ends_placed rows recent place ((adds.are recent (last_itself recent) place).0 c)
+
+pub adds_none : (rows : List PlacedWord) (recent : List Value) (met : List ℕ) → rows ≡ [] → AddsEnded rows recent met met false
+adds_none rows recent met e = record {
+  found = [];
+  is_new = sym (append-nil met);
+  are = λ w last place. ((λ c. absurd (in_none place c)), (λ h. absurd (in_none h.row (subst (λ (rs : List PlacedWord). Contains rs h.row) e h.is_one))));
+  once = λ once i j d lt within. absurd (omega (arith, within));
+  is_some = ((λ t. absurd (false≢true t)), (λ lt. absurd (omega (arith, lt))));
+}
 
 -- ---- before the first value
 

@@ -2,8 +2,7 @@
 use Rattle.std.proofs.Common.{◌≡◌, ℕ, zero, suc, ◌+◌, ◌<◌, List, [], ◌∷◌, ◌++◌, length, get_or, take, true, Some, refl, ap, sym, subst, ◌∙◌, inl, inr, arith}
 use Rattle.std.specs.Prelude.{slice_get, Contains}
 use Rattle.std.proofs.lemmas.List.{take_more, append-nil, append_assoc, length-take-le}
-use Rattle.std.proofs.lemmas.List.Elements.{Contains-append_left, Contains-append_right, Contains-append_cases, Contains-get_or}
-use Rattle.std.proofs.lemmas.List.Kept.{AllPairs-cons}
+use Rattle.std.proofs.lemmas.List.Elements.{Contains-append_left, Contains-append_right, Contains-append_cases}
 use Rattle.std.proofs.lemmas.Option.{cond_some, slice_get_within}
 use Rattle.trans_seq.specs.declared.seq.Seq.{Seq}
 use Rattle.design_data.specs.declared.infos.BinInfo.{BinInfo}
@@ -12,7 +11,6 @@ use Rattle.design_data.specs.declared.infos.BinRule.{BinRule}
 use Rattle.design_data.specs.declared.infos.BinRule.TheVariants.{Values, Patterns, Trans, Default, DefaultValues, DefaultSequence, Picked, Product}
 use Rattle.point_sampler.specs.declared.plan.Machine.{Machine}
 use Rattle.point_sampler.specs.Plans.{machine_of, machines_from}
-use Rattle.point_sampler.specs.Met.{Ascend}
 use Rattle.point_sampler.proofs.Places.{in_none, in_one, in_first}
 
 -- the automaton is that of a bin
@@ -61,23 +59,6 @@ to_machines first (b ∷ bins) (suc index) bin seqs is rule =
     let e : first + 1 + index ≡ first + suc index = omega arith in
     Contains-append_right (machine_of first b.kind b.rule) (machines_from (first + 1) bins) (record { place = first + suc index; kind = bin.kind; watcher = seqs })
     (subst (λ (n : ℕ). Contains (machines_from (first + 1) bins) (record { place = n; kind = bin.kind; watcher = seqs })) e (to_machines (first + 1) bins index bin seqs is rule))
-
-ascend_by : (first : ℕ) (kind : BinKind) (rule : BinRule) (bins : List BinInfo) → Ascend (machines_from (first + 1) bins) → Ascend (machine_of first kind rule ++ machines_from (first + 1) bins)
-ascend_by first kind (Values set) bins rest = rest
-ascend_by first kind (Patterns patterns) bins rest = rest
-ascend_by first kind (Trans seqs) bins rest =
-    AllPairs-cons (λ a b. a.place < b.place) (record { place = first; kind = kind; watcher = seqs }) (machines_from (first + 1) bins)
-    (λ k d lt. let m = from_machines (first + 1) bins (get_or (machines_from (first + 1) bins) k d) (Contains-get_or (machines_from (first + 1) bins) k d lt) in omega (arith, m.is_place))
-    rest
-ascend_by first kind Default bins rest = rest
-ascend_by first kind (DefaultValues set) bins rest = rest
-ascend_by first kind DefaultSequence bins rest = rest
-ascend_by first kind (Picked select) bins rest = rest
-ascend_by first kind (Product members) bins rest = rest
-
-pub ascends : (first : ℕ) (bins : List BinInfo) → Ascend (machines_from first bins)
-ascends first [] = λ i j d lt within. absurd (omega (arith, within))
-ascends first (bin ∷ bins) = ascend_by first bin.kind bin.rule bins (ascends (first + 1) bins)
 
 machines_append : (first : ℕ) (xs ys : List BinInfo) → machines_from first (xs ++ ys) ≡ machines_from first xs ++ machines_from (first + length xs) ys
 machines_append first [] ys = let e : first ≡ first + 0 = omega arith in ap (λ (n : ℕ). machines_from n ys) e

@@ -10,3 +10,5 @@ mod Asking
 mod Resting
 mod Passing
 mod Bounds
+mod Knowing
+mod Dividing

@@ -5,7 +5,7 @@ use Rattle.std.proofs.lemmas.Bool.{false≢true, true≢false}
 use Rattle.std.proofs.lemmas.List.Elements.{Contains-append_left, Contains-append_right, Contains-append_cases, Contains-get_or}
 use Rattle.std.proofs.lemmas.Option.{slice_get_within, slice_get-get_or, get_or_from_slice_get}
 use Rattle.trans_seq.specs.declared.seq.Seq.{Seq}
-use Rattle.trans_seq.specs.Windows.{InSome, EndsKept}
+use Rattle.trans_seq.specs.Windows.{InSome, EndsKept, EndsWindow}
 use Rattle.design_data.specs.declared.infos.ItemInfo.{ItemInfo}
 use Rattle.design_data.specs.declared.infos.BinInfo.{BinInfo}
 use Rattle.design_data.specs.declared.infos.BinKind.{BinKind}
@@ -15,12 +15,14 @@ use Rattle.design_data.specs.declared.infos.BinRule.TheVariants.{Values, Pattern
 use Rattle.design_data.specs.Bins.{seqs_of, removing_seqs}
 use Rattle.design_data.specs.Laws.{Value, is_listed}
 use Rattle.cov_counting.specs.Hits.{Meets, EndsNone, IsDefaultSequence}
+use Rattle.word_table.specs.Placed.{EndsAt}
 use Rattle.point_sampler.specs.declared.plan.PointPlan.{PointPlan}
 use Rattle.point_sampler.specs.declared.plan.Machine.{Machine}
-use Rattle.point_sampler.specs.Plans.{IsPlanOf, removed_by, is_default_sequence, places_from, has_value}
-use Rattle.point_sampler.specs.Met.{MetBy, StandApart, IsTransPlace, EndsNowhere, AreTransMet, SomeMeets, AreMet}
+use Rattle.point_sampler.specs.Plans.{IsPlanOf, removed_by, machines_from, is_default_sequence, places_from, has_value}
+use Rattle.point_sampler.specs.Met.{MetBy, StandApart, IsTransPlace, IsTracePlace, EndsNowhere, AreTransMet, SomeMeets, AreMet}
 use Rattle.point_sampler.proofs.Places.{once_append, from_places, to_places, places_once}
-use Rattle.point_sampler.proofs.Automata.{from_machines, to_machines, ascends}
+use Rattle.point_sampler.proofs.Automata.{from_machines, to_machines}
+use Rattle.point_sampler.proofs.Knowing.{kept_by_word, window_by_word}
 use Rattle.point_sampler.proofs.Taking.{same_bin}
 
 -- ---- rules
@@ -88,12 +90,21 @@ module _ (item : ItemInfo) (plan : PointPlan) (is_plan : IsPlanOf item plan) whe
     pub is_kind : machine.kind ≡ bin.kind
     pub is_rule : bin.rule ≡ Trans machine.watcher
 
-  -- the bin of an automaton
-  bin_of : (machine : Machine) (place : ℕ) → Contains plan.machines.items machine → machine.place ≡ place → IsTransBin place machine
+  abbrev all : List Machine
+  all = machines_from 0 item.bins
+
+  -- the bin of a transition
+  bin_of : (machine : Machine) (place : ℕ) → Contains all machine → machine.place ≡ place → IsTransBin place machine
   bin_of machine place c at =
-      let m = from_machines 0 item.bins machine (subst (λ (ms : List Machine). Contains ms machine) is_plan.machines c) in
+      let m = from_machines 0 item.bins machine c in
       let e : m.index ≡ place = omega (arith, m.is_place, at) in
       record { bin = m.bin; is_bin = subst (λ (n : ℕ). slice_get item.bins n ≡ Some m.bin) e m.is_bin; is_kind = m.is_kind; is_rule = m.is_rule }
+
+  trans_bin : (place : ℕ) → IsTransPlace plan place → (machine : Machine) × IsTransBin place machine
+  trans_bin place p = elim p [
+    | inl m ↦ (m.machine, bin_of m.machine place (is_plan.machines.from m.machine m.is_one) m.is_place)
+    | inr h ↦ let o = is_plan.machines.words h.row h.is_one in (o.0, bin_of o.0 place o.1 (sym o.2.is_place ∙ h.is_place))
+  ]
 
   pub record IsSequenceBin (place : ℕ) : Type 0 where
     pub bin : BinInfo
@@ -108,10 +119,12 @@ module _ (item : ItemInfo) (plan : PointPlan) (is_plan : IsPlanOf item plan) whe
 
   pub apart_of : StandApart plan
   apart_of = record {
-    ascend = subst (λ (ms : List Machine). AllPairs (λ a b. a.place < b.place) ms) (sym is_plan.machines) (ascends 0 item.bins);
+    ascend = is_plan.machines.ascend;
+    words_once = is_plan.machines.once;
+    words = λ place m h. is_plan.machines.apart m.machine m.is_one (record { row = h.row; is_one = h.is_one; is_place = h.is_place ∙ sym m.is_place });
     once = subst (λ (ps : List ℕ). AllPairs (λ a b. a ≢ b) ps) (sym is_plan.sequences) (places_once sequence_test 0 item.bins);
-    apart = λ place m c.
-        let t = bin_of m.machine place m.is_one m.is_place in
+    apart = λ place p c.
+        let t = (trans_bin place p).1 in
         let s = sequence_of place c in
         false≢true (ap is_default_sequence (sym t.is_rule) ∙ ap sequence_test (same_bin item.bins place t.bin s.bin t.is_bin s.is_bin) ∙ ap is_default_sequence s.is_rule);
   }
@@ -120,11 +133,17 @@ module _ (item : ItemInfo) (plan : PointPlan) (is_plan : IsPlanOf item plan) whe
 
   module _ (w : List Value) (v : Value) where
     none_of : EndsNowhere plan w v → (rule : BinRule) (kind : BinKind) (k : ℕ) (bin : BinInfo) → slice_get item.bins k ≡ Some bin → bin.rule ≡ rule → EndsNone (seqs_of rule) (w ++ v ∷ [])
-    none_of n (Trans seqs) kind k bin is e = λ from lt s. n.machines (record {
-      machine = record { place = 0 + k; kind = bin.kind; watcher = seqs };
-      is_one = subst (λ (ms : List Machine). Contains ms (record { place = 0 + k; kind = bin.kind; watcher = seqs })) (sym is_plan.machines) (to_machines 0 item.bins k bin seqs is e);
-      ends = record { from = from; some = lt; is_list = s };
-    })
+    none_of n (Trans seqs) kind k bin is e = λ from lt s.
+        let machine : Machine = record { place = 0 + k; kind = bin.kind; watcher = seqs } in
+        elim (is_plan.machines.each machine (to_machines 0 item.bins k bin seqs is e)) [
+          | inl mine ↦ n.machines (record { machine = machine; is_one = mine; ends = record { from = from; some = lt; is_list = s } })
+          | inr r ↦ n.words (0 + k) (record {
+            row = r.0;
+            is_one = r.1;
+            is_place = r.2.is_place;
+            ends = (window_by_word (removed_by plan.removers bin.kind) seqs r.0.word r.2.known (w ++ v ∷ [])).0 (record { from = from; some = lt; is_list = s });
+          })
+        ]
     none_of n (Values set) kind k bin is e = λ from lt s. absurd (omega (arith, s.2))
     none_of n (Patterns patterns) kind k bin is e = λ from lt s. absurd (omega (arith, s.2))
     none_of n Default kind k bin is e = λ from lt s. absurd (omega (arith, s.2))
@@ -140,14 +159,20 @@ module _ (item : ItemInfo) (plan : PointPlan) (is_plan : IsPlanOf item plan) whe
       removing = λ from lt s. n.others (record { from = from; some = lt; is_list = subst (λ (seqs : List Seq). InSome seqs (drop from (w ++ v ∷ []))) (sym is_plan.others) s });
     }
 
+    no_window : IsDefaultSequence item w v → (machine : Machine) → Contains all machine → EndsWindow machine.watcher (w ++ v ∷ []) → ⊥
+    no_window d machine c e =
+        let t = bin_of machine machine.place c refl in
+        let none = d.bins machine.place t.bin (slice_get_within item.bins machine.place t.bin t.is_bin) in
+        let same : get_or item.bins machine.place t.bin ≡ t.bin = get_or_from_slice_get item.bins machine.place t.bin t.bin t.is_bin in
+        none e.from e.some (subst (λ (seqs : List Seq). InSome seqs (drop e.from (w ++ v ∷ []))) (sym (ap (λ (b : BinInfo). seqs_of b.rule) same ∙ ap seqs_of t.is_rule)) e.is_list)
+
     from_sequence : IsDefaultSequence item w v → EndsNowhere plan w v
     from_sequence d = record {
       later = d.later;
-      machines = λ e.
-          let t = bin_of e.machine e.machine.place e.is_one refl in
-          let none = d.bins e.machine.place t.bin (slice_get_within item.bins e.machine.place t.bin t.is_bin) in
-          let same : get_or item.bins e.machine.place t.bin ≡ t.bin = get_or_from_slice_get item.bins e.machine.place t.bin t.bin t.is_bin in
-          none e.ends.from e.ends.some (subst (λ (seqs : List Seq). InSome seqs (drop e.ends.from (w ++ v ∷ []))) (sym (ap (λ (b : BinInfo). seqs_of b.rule) same ∙ ap seqs_of t.is_rule)) e.ends.is_list);
+      machines = λ e. no_window d e.machine (is_plan.machines.from e.machine e.is_one) e.ends;
+      words = λ place e.
+          let o = is_plan.machines.words e.row e.is_one in
+          no_window d o.0 o.1 ((window_by_word (removed_by plan.removers o.0.kind) o.0.watcher e.row.word o.2.known (w ++ v ∷ [])).1 e.ends);
       others = λ e. d.removing e.from e.some (subst (λ (seqs : List Seq). InSome seqs (drop e.from (w ++ v ∷ []))) is_plan.others e.is_list);
     }
 
@@ -159,11 +184,19 @@ module _ (item : ItemInfo) (plan : PointPlan) (is_plan : IsPlanOf item plan) whe
     met_at : (place : ℕ) (bin : BinInfo) → slice_get item.bins place ≡ Some bin → Meets item bin.kind bin.rule w v → SomeMeets item (slice_get item.bins place) w v
     met_at place bin is m = subst (λ (o : Option BinInfo). SomeMeets item o w v) (sym is) m
 
-    from_trans : (place : ℕ) → MetBy plan.machines.items plan.removers (w ++ v ∷ []) place → SomeMeets item (slice_get item.bins place) w v
-    from_trans place m =
-        let t = bin_of m.machine place m.is_one m.is_place in
+    from_kept : (machine : Machine) (place : ℕ) → Contains all machine → machine.place ≡ place → EndsKept machine.watcher (removed_by plan.removers machine.kind) (w ++ v ∷ []) → SomeMeets item (slice_get item.bins place) w v
+    from_kept machine place c at kept =
+        let t = bin_of machine place c at in
         met_at place t.bin t.is_bin (subst (λ (r : BinRule). Meets item t.bin.kind r w v) (sym t.is_rule)
-        (subst (λ (seqs : List Seq). EndsKept m.machine.watcher seqs (w ++ v ∷ [])) (removed m.machine.kind ∙ ap (removing_seqs item) t.is_kind) m.kept))
+        (subst (λ (seqs : List Seq). EndsKept machine.watcher seqs (w ++ v ∷ [])) (removed machine.kind ∙ ap (removing_seqs item) t.is_kind) kept))
+
+    from_trans : (place : ℕ) → MetBy plan.machines.items plan.removers (w ++ v ∷ []) place → SomeMeets item (slice_get item.bins place) w v
+    from_trans place m = from_kept m.machine place (is_plan.machines.from m.machine m.is_one) m.is_place m.kept
+
+    from_word : (place : ℕ) → EndsAt plan.words (w ++ v ∷ []) place → SomeMeets item (slice_get item.bins place) w v
+    from_word place e =
+        let o = is_plan.machines.words e.row e.is_one in
+        from_kept o.0 place o.1 (sym o.2.is_place ∙ e.is_place) ((kept_by_word (removed_by plan.removers o.0.kind) o.0.watcher e.row.word o.2.known (w ++ v ∷ [])).1 e.ends)
 
     from_value : (place : ℕ) → Contains (places_from value_test 0 item.bins) place → SomeMeets item (slice_get item.bins place) w v
     from_value place c =
@@ -176,13 +209,20 @@ module _ (item : ItemInfo) (plan : PointPlan) (is_plan : IsPlanOf item plan) whe
         let s = sequence_of place c in
         met_at place s.bin s.is_bin (subst (λ (r : BinRule). Meets item s.bin.kind r w v) (sym s.is_rule) (to_sequence n))
 
-    to_trans : (place : ℕ) (bin : BinInfo) (seqs : List Seq) → slice_get item.bins place ≡ Some bin → bin.rule ≡ Trans seqs → EndsKept seqs (removing_seqs item bin.kind) (w ++ v ∷ []) → MetBy plan.machines.items plan.removers (w ++ v ∷ []) place
-    to_trans place bin seqs is e kept = record {
-      machine = record { place = 0 + place; kind = bin.kind; watcher = seqs };
-      is_one = subst (λ (ms : List Machine). Contains ms (record { place = 0 + place; kind = bin.kind; watcher = seqs })) (sym is_plan.machines) (to_machines 0 item.bins place bin seqs is e);
-      is_place = omega arith;
-      kept = subst (λ (removing : List Seq). EndsKept seqs removing (w ++ v ∷ [])) (sym (removed bin.kind)) kept;
-    }
+    to_trans : (place : ℕ) (bin : BinInfo) (seqs : List Seq) → slice_get item.bins place ≡ Some bin → bin.rule ≡ Trans seqs → EndsKept seqs (removing_seqs item bin.kind) (w ++ v ∷ [])
+        → MetBy plan.machines.items plan.removers (w ++ v ∷ []) place ⊎ EndsAt plan.words (w ++ v ∷ []) place
+    to_trans place bin seqs is e kept =
+        let machine : Machine = record { place = 0 + place; kind = bin.kind; watcher = seqs } in
+        let own : EndsKept seqs (removed_by plan.removers bin.kind) (w ++ v ∷ []) = subst (λ (removing : List Seq). EndsKept seqs removing (w ++ v ∷ [])) (sym (removed bin.kind)) kept in
+        elim (is_plan.machines.each machine (to_machines 0 item.bins place bin seqs is e)) [
+          | inl mine ↦ inl (record { machine = machine; is_one = mine; is_place = omega arith; kept = own })
+          | inr r ↦ inr (record {
+            row = r.0;
+            is_one = r.1;
+            is_place = omega (arith, r.2.is_place);
+            ends = (kept_by_word (removed_by plan.removers bin.kind) seqs r.0.word r.2.known (w ++ v ∷ [])).0 own;
+          })
+        ]
 
     in_places : (test : BinInfo → Bool) (place : ℕ) (bin : BinInfo) → slice_get item.bins place ≡ Some bin → test bin ≡ true → Contains (places_from test 0 item.bins) place
     in_places test place bin is e = let z : 0 + place ≡ place = omega arith in subst (Contains (places_from test 0 item.bins)) z (to_places test 0 item.bins place bin is e)
@@ -192,11 +232,11 @@ module _ (item : ItemInfo) (plan : PointPlan) (is_plan : IsPlanOf item plan) whe
       unfolding MetHow
       met_how_at place bin is how = subst (λ (ps : List ℕ). Contains ps place) (sym is_met) (elim how [
         | inl value ↦ Contains-append_right trans (places_from value_test 0 item.bins) place (in_places value_test place bin is value)
-        | inr (inl t) ↦ Contains-append_left trans (places_from value_test 0 item.bins) place ((is_trans place).1 (inl (to_trans place bin t.0 is t.1 t.2)))
-        | inr (inr d) ↦ Contains-append_left trans (places_from value_test 0 item.bins) place ((is_trans place).1 (inr (
+        | inr (inl t) ↦ Contains-append_left trans (places_from value_test 0 item.bins) place ((is_trans place).1 (elim (to_trans place bin t.0 is t.1 t.2) [ inl m ↦ inl m | inr word ↦ inr (inl word) ]))
+        | inr (inr d) ↦ Contains-append_left trans (places_from value_test 0 item.bins) place ((is_trans place).1 (inr (inr (
           subst (λ (ps : List ℕ). Contains ps place) (sym is_plan.sequences) (in_places sequence_test place bin is (ap is_default_sequence d.0)),
           from_sequence d.1,
-        )))
+        ))))
       ])
 
       to_met : (place : ℕ) (o : Option BinInfo) → slice_get item.bins place ≡ o → SomeMeets item o w v → Contains met place
@@ -206,20 +246,20 @@ module _ (item : ItemInfo) (plan : PointPlan) (is_plan : IsPlanOf item plan) whe
       pub are_met : AreMet item w v met
       are_met = λ place. (
         (λ c. elim (Contains-append_cases trans (places_from value_test 0 item.bins) place (subst (λ (ps : List ℕ). Contains ps place) is_met c)) [
-          | inl t ↦ elim ((is_trans place).0 t) [ inl m ↦ from_trans place m | inr n ↦ from_next place n.0 n.1 ]
+          | inl t ↦ elim ((is_trans place).0 t) [ inl m ↦ from_trans place m | inr (inl e) ↦ from_word place e | inr (inr n) ↦ from_next place n.0 n.1 ]
           | inr x ↦ from_value place x
         ]),
         (λ m. to_met place (slice_get item.bins place) refl m),
       )
 
-  module _ (v : Value) (trans met : List ℕ) (among : (place : ℕ) → Contains trans place → IsTransPlace plan place) where
+  module _ (v : Value) (trans met : List ℕ) (among : (place : ℕ) → Contains trans place → IsTracePlace plan place) where
     abbrev test : BinInfo → Bool
     test bin = has_value item.bins v bin.rule
 
     pub met_within : met ≡ trans ++ places_from test 0 item.bins → All (λ place. place < length item.bins) met
     met_within is = λ k d lt. elim (Contains-append_cases trans (places_from test 0 item.bins) (get_or met k d) (subst (λ (ps : List ℕ). Contains ps (get_or met k d)) is (Contains-get_or met k d lt))) [
       | inl t ↦ elim (among (get_or met k d) t) [
-        | inl m ↦ let b = bin_of m.machine (get_or met k d) m.is_one m.is_place in slice_get_within item.bins (get_or met k d) b.bin b.is_bin
+        | inl p ↦ let b = (trans_bin (get_or met k d) p).1 in slice_get_within item.bins (get_or met k d) b.bin b.is_bin
         | inr c ↦ let s = sequence_of (get_or met k d) c in slice_get_within item.bins (get_or met k d) s.bin s.is_bin
       ]
       | inr x ↦ let p = from_places test 0 item.bins (get_or met k d) x in omega (arith, p.is_place, slice_get_within item.bins p.index p.element p.is_element)
@@ -231,7 +271,7 @@ module _ (item : ItemInfo) (plan : PointPlan) (is_plan : IsPlanOf item plan) whe
         let e : p.index ≡ place = omega (arith, p.is_place) in
         let at : slice_get item.bins place ≡ Some p.element = subst (λ (n : ℕ). slice_get item.bins n ≡ Some p.element) e p.is_element in
         elim (among place t) [
-          | inl m ↦ let b = bin_of m.machine place m.is_one m.is_place in
+          | inl q ↦ let b = (trans_bin place q).1 in
               false≢true (ap (has_value item.bins v) (sym b.is_rule) ∙ ap test (same_bin item.bins place b.bin p.element b.is_bin at) ∙ p.passes)
           | inr c ↦ let s = sequence_of place c in
               false≢true (ap (has_value item.bins v) (sym s.is_rule) ∙ ap test (same_bin item.bins place s.bin p.element s.is_bin at) ∙ p.passes)

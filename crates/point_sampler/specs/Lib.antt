@@ -2,3 +2,4 @@ pub mod Plans
 pub mod Points
 pub mod Met
 pub mod Keys
+pub mod Divided

@@ -9,6 +9,7 @@ use Rattle.design_data.specs.Bins.{is_coverage}
 use Rattle.design_data.specs.Laws.{Value}
 use Rattle.record_codec.specs.Samples.{Env}
 use Rattle.cov_counting.specs.Hits.{holds, Meets}
+use Rattle.word_table.specs.Placed.{HasPlace, StandOnce, EndsAt}
 use Rattle.point_sampler.specs.declared.plan.Removers.{Removers}
 use Rattle.point_sampler.specs.declared.plan.Entrance.{Entrance}
 use Rattle.point_sampler.specs.declared.plan.Machine.{Machine}
@@ -65,29 +66,38 @@ pub record SomeTaken (machines : List Machine) (removers : Removers) (w : List V
 abbrev pub Ascend : List Machine → Type 0
 Ascend machines = AllPairs (λ a b. a.place < b.place) machines
 
--- the places of automata and of default sequences stand apart
+-- the place is that of a transition bin
+abbrev pub IsTransPlace : PointPlan → ℕ → Type 0
+IsTransPlace plan place = IsPlaceOf plan.machines.items place ⊎ HasPlace plan.words place
+
+-- the places of automata, of words and of default sequences stand apart
 pub record StandApart (plan : PointPlan) : Type 0 where
   pub ascend : Ascend plan.machines.items
+  pub words_once : StandOnce plan.words
+  pub words : (place : ℕ) → IsPlaceOf plan.machines.items place → HasPlace plan.words place → ⊥
   pub once : AllPairs (λ a b. a ≢ b) plan.sequences.items
-  pub apart : (place : ℕ) → IsPlaceOf plan.machines.items place → Contains plan.sequences.items place → ⊥
+  pub apart : (place : ℕ) → IsTransPlace plan place → Contains plan.sequences.items place → ⊥
 
--- there are neither automata nor default sequences
+-- there are neither automata nor words nor default sequences
 abbrev pub IsStill : PointPlan → Type 0
-IsStill plan = (length plan.machines.items ≡ 0) × (length plan.sequences.items ≡ 0)
+IsStill plan = (length plan.machines.items ≡ 0) × (plan.words ≡ []) × (length plan.sequences.items ≡ 0)
 
-abbrev pub IsTransPlace : PointPlan → ℕ → Type 0
-IsTransPlace plan place = IsPlaceOf plan.machines.items place ⊎ Contains plan.sequences.items place
+-- the place is that of a transition bin or of a default sequence
+abbrev pub IsTracePlace : PointPlan → ℕ → Type 0
+IsTracePlace plan place = IsTransPlace plan place ⊎ Contains plan.sequences.items place
 
 -- a value came before, and no transition of the point ends here, ignored and illegal ones included
 pub record EndsNowhere (plan : PointPlan) (before : List Value) (now : Value) : Type 0 where
   pub later : 0 < length before
   pub machines : EndedBy plan.machines.items (before ++ now ∷ []) → ⊥
+  pub words : (place : ℕ) → EndsAt plan.words (before ++ now ∷ []) place → ⊥
   pub others : EndsWindow plan.others (before ++ now ∷ []) → ⊥
 
 -- the places of the transition bins and default sequences that are met
 abbrev pub AreTransMet : PointPlan → List Value → Value → List ℕ → Type 0
 AreTransMet plan before now met = (place : ℕ) → Contains met place
-    ↔ (MetBy plan.machines.items plan.removers (before ++ now ∷ []) place ⊎ (Contains plan.sequences.items place × EndsNowhere plan before now))
+    ↔ (MetBy plan.machines.items plan.removers (before ++ now ∷ []) place
+    ⊎ (EndsAt plan.words (before ++ now ∷ []) place ⊎ (Contains plan.sequences.items place × EndsNowhere plan before now)))
 
 -- ---- all bins
 

@@ -1,5 +1,5 @@
 -- What the plan of a point prepares.
-use Rattle.std.specs.Prelude.{◌≡◌, ◌⊎◌, ⊤, ℤ, pos, ◌+ℤ◌, ◌-ℤ◌, ◌≤ℤ◌, ℕ, min, ◌+◌, ◌-◌, ◌^◌, ◌<◌, ◌≤◌, nat_eq, bit_and, bit_xor, List, [], ◌∷◌, ◌++◌, length, filter, take, slice_get, slice_index_or, All, Option, Some, None, IfSome, Bool, true, false, not, if◌then◌else◌}
+use Rattle.std.specs.Prelude.{◌≡◌, ◌⊎◌, ⊤, ℤ, pos, ◌+ℤ◌, ◌-ℤ◌, ◌≤ℤ◌, ℕ, min, ◌+◌, ◌-◌, ◌^◌, ◌<◌, ◌≤◌, nat_eq, bit_and, bit_xor, List, [], ◌∷◌, ◌++◌, length, filter, take, reverse, slice_get, slice_index_or, All, AllPairs, Contains, Option, Some, None, IfSome, Bool, true, false, not, if◌then◌else◌}
 use Rattle.std.specs.List.{AllByRecursion}
 use Rattle.cov_ground.specs.Limits.{most_bins, most_cells}
 use Rattle.cov_base.specs.Sets.{is_within, least, natural}
@@ -10,7 +10,8 @@ use Rattle.const_eval.specs.Terms.{Term}
 use Rattle.trans_seq.specs.declared.seq.Seq.{Seq}
 use Rattle.trans_seq.specs.declared.seq.Item.{Item}
 use Rattle.trans_seq.specs.declared.seq.Repeat.TheVariants.{Once}
-use Rattle.trans_seq.specs.Windows.{is_known_in}
+use Rattle.trans_seq.specs.Windows.{is_known_in, SomeHasWord}
+use Rattle.trans_seq.specs.Words.{IsWordOf as IsOnlyListOf}
 use Rattle.trans_seq.specs.Cells.{cells_of_seqs}
 use Rattle.design_data.specs.declared.infos.ItemInfo.{ItemInfo}
 use Rattle.design_data.specs.declared.infos.BinInfo.{BinInfo}
@@ -24,6 +25,8 @@ use Rattle.design_data.specs.Limits.{IsPointRule}
 use Rattle.value_index.specs.declared.sets.Span.{Span}
 use Rattle.value_index.specs.Found.{places}
 use Rattle.value_index.specs.Finds.{Finds}
+use Rattle.word_table.specs.declared.row.PlacedWord.{PlacedWord}
+use Rattle.word_table.specs.Placed.{StandOnce, HasPlace}
 use Rattle.point_sampler.specs.declared.plan.Lookup.{Lookup}
 use Rattle.point_sampler.specs.declared.plan.PointPlan.{PointPlan}
 use Rattle.point_sampler.specs.declared.plan.Question.{Question}
@@ -120,7 +123,7 @@ AreEntries bins entries = AreEntriesOf bins (length bins) entries ⊎ ((entries 
 
 -- ---- transitions
 
--- the automaton of a transition bin; none of another
+-- the automaton of a transition bin, whether it gets one or not; none of another
 abbrev pub machine_of : (place : ℕ) → BinKind → BinRule → List Machine
 machine_of place kind (Values set) = []
 machine_of place kind (Patterns patterns) = []
@@ -131,10 +134,39 @@ machine_of place kind DefaultSequence = []
 machine_of place kind (Picked select) = []
 machine_of place kind (Product members) = []
 
--- the automata of the transition bins among bins, the first of which stands at this place
+-- those of the transition bins among bins, the first of which stands at this place
 abbrev pub machines_from : ℕ → List BinInfo → List Machine
 machines_from place [] = []
 machines_from place (bin ∷ bins) = machine_of place bin.kind bin.rule ++ machines_from (place + 1) bins
+
+-- the sequences whose windows a bin of this kind doesn't count
+abbrev pub removed_by : Removers → BinKind → List Seq
+removed_by removers CvgBin = removers.covering
+removed_by removers IllegalBin = removers.none
+removed_by removers IgnoreBin = removers.ignoring
+removed_by removers DefaultBin = removers.none
+
+-- The sequences have one list alone, which is the word from its last value to its first, and no sequence takes it away.
+pub record AreKnownBy (removed seqs : List Seq) (word : List ℤ) : Type 0 where
+  pub seq : Seq
+  pub is_only : seqs ≡ seq ∷ []
+  pub is_word : IsOnlyListOf (reverse word) seq
+  pub some : 0 < length word
+  pub kept : SomeHasWord removed (reverse word) → ⊥
+
+-- the bin of the automaton is known by the word
+pub record IsKnownBy (removers : Removers) (machine : Machine) (row : PlacedWord) : Type 0 where
+  pub is_place : row.place ≡ machine.place
+  pub known : AreKnownBy (removed_by removers machine.kind) machine.watcher row.word
+
+-- Of all these automata some are own ones; the bins of the others are known by their words.
+pub record AreDivided (removers : Removers) (all own : List Machine) (rows : List PlacedWord) : Type 0 where
+  pub from : (machine : Machine) → Contains own machine → Contains all machine
+  pub words : (row : PlacedWord) → Contains rows row → (machine : Machine) × Contains all machine × IsKnownBy removers machine row
+  pub each : (machine : Machine) → Contains all machine → Contains own machine ⊎ ((row : PlacedWord) × Contains rows row × IsKnownBy removers machine row)
+  pub ascend : AllPairs (λ a b. a.place < b.place) own
+  pub once : StandOnce rows
+  pub apart : (machine : Machine) → Contains own machine → HasPlace rows machine.place → ⊥
 
 -- how far a number stands above the least one of an `Int`, or the last number of 64 bits
 abbrev pub key : ℤ → ℕ
@@ -159,13 +191,6 @@ pub record AreEntrances (machines : List Machine) (entrances : List Entrance) : 
   pub same : length entrances ≡ length machines
   pub at : (k : ℕ) (machine : Machine) (entrance : Entrance) → k < length machines → IsEntrance (slice_index_or machines k machine).watcher (slice_index_or entrances k entrance)
 
--- the sequences whose windows a bin of this kind doesn't count
-abbrev pub removed_by : Removers → BinKind → List Seq
-removed_by removers CvgBin = removers.covering
-removed_by removers IllegalBin = removers.none
-removed_by removers IgnoreBin = removers.ignoring
-removed_by removers DefaultBin = removers.none
-
 abbrev pub is_default_sequence : BinRule → Bool
 is_default_sequence (Values set) = false
 is_default_sequence (Patterns patterns) = false
@@ -187,7 +212,7 @@ pub record AreRemovers (item : ItemInfo) (removers : Removers) : Type 0 where
 -- The plan is that of the point.
 pub record IsPlanOf (item : ItemInfo) (plan : PointPlan) : Type 0 where
   pub entries : AreEntries item.bins plan.entries.items
-  pub machines : plan.machines.items ≡ machines_from 0 item.bins
+  pub machines : AreDivided plan.removers (machines_from 0 item.bins) plan.machines.items plan.words
   pub entrances : AreEntrances plan.machines.items plan.entrances.items
   pub removers : AreRemovers item plan.removers
   pub others : plan.others ≡ item.ignored ++ item.illegal

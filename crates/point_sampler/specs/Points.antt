@@ -10,6 +10,8 @@ use Rattle.design_data.specs.Laws.{Value}
 use Rattle.record_codec.specs.Samples.{Env}
 use Rattle.cov_counting.specs.Hits.{trace, HitAt}
 use Rattle.cov_counting.specs.Crosses.{SomeHitAt}
+use Rattle.word_table.specs.declared.row.PlacedWord.{PlacedWord}
+use Rattle.word_table.specs.Recent.{AreLast}
 use Rattle.point_sampler.specs.declared.plan.PointPlan.{PointPlan}
 use Rattle.point_sampler.specs.declared.plan.Removers.{Removers}
 use Rattle.point_sampler.specs.declared.plan.Machine.{Machine}
@@ -37,11 +39,16 @@ RunsStand machines removers runs w = (k : ℕ) (machine : Machine) (run : List (
 abbrev pub OthersStand : PointPlan → List (ℕ × ℕ) → List Value → Type 0
 OthersStand plan others w = 0 < length plan.sequences.items → Stands plan.others plan.removers.none others w
 
+-- the values are the last ones, where there are words
+abbrev pub AreRecent : List PlacedWord → (recent w : List Value) → Type 0
+AreRecent rows recent w = 0 < length rows → AreLast recent w
+
 -- the state stands after these values of the point's trace
 pub record Remembers (plan : PointPlan) (state : PointState) (w : List Value) : Type 0 where
   pub begun : IsTrue state.begun ↔ (0 < length w)
   pub runs : RunsStand plan.machines.items plan.removers state.runs.items w
   pub others : OthersStand plan state.others w
+  pub recent : AreRecent plan.words state.ending.recent w
 
 -- the state stands after the first m samples of the instance
 abbrev pub StateStands : ItemInfo → Term → PointPlan → List Env → ℕ → PointState → Type 0

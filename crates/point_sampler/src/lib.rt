@@ -17,6 +17,7 @@ mod questions;
 mod rules;
 mod state;
 mod values;
+mod words;
 
 pub use plan::{Entrance, Entry, Lookup, Machine, PointPlan, Question, Questions, Removers};
-pub use state::{PointState, Steps};
+pub use state::{Ending, PointState, Steps};

@@ -4,13 +4,14 @@ ghost use Rattle.trans_seq.specs.Windows.{EndsKept, EndsWindow};
 ghost use Rattle.trans_auto.specs.State.{Stands, SaysKept, SaysWindow, TakesSample};
 ghost use Rattle.design_data.specs.Laws.{Value};
 ghost use Rattle.point_sampler.specs.Plans.{removed_by, AreEntrances};
-ghost use Rattle.point_sampler.specs.Points.{FitsPlan, RunsStand, OthersStand, Remembers};
-ghost use Rattle.point_sampler.specs.Met.{AreSteps, IsStill, Answered, Ascend, IsPlaceOf, StandApart, IsTransPlace, AreTransMet};
+ghost use Rattle.point_sampler.specs.Points.{FitsPlan, RunsStand, OthersStand, AreRecent, Remembers};
+ghost use Rattle.point_sampler.specs.Met.{AreSteps, IsStill, Answered, Ascend, IsPlaceOf, StandApart, IsTracePlace, AreTransMet};
 
 use crate::entrances::first_stirring;
 use crate::plan::{Entrance, Machine, PointPlan, Removers};
 use crate::rules::note;
-use crate::state::{PointState, Steps};
+use crate::state::{Ending, PointState, Steps};
+use crate::words::push_words;
 use cov_base::{Int, Memory};
 use design_data::BinKind;
 use trans_auto::{Answer, TransState, Watcher};
@@ -180,15 +181,16 @@ fn add_sequences(sequences: &[u32], is_met: bool, met: &mut Vec<u32>) -> Result<
 pub(crate) fn is_still(plan: &PointPlan) -> bool
     ensures { IsTrue result → IsStill plan.now }
 {
-    plan.machines.is_empty() && plan.sequences.is_empty()
+    plan.machines.is_empty() && plan.words.is_empty() && plan.sequences.is_empty()
 }
 
-/// Takes the automata of a point that has some over the next value of the trace.
+/// Takes the automata and words of a point that has some over the next value of the trace.
 fn push_all(
     plan: &PointPlan,
     steps: &mut Steps,
     runs: &mut [TransState],
     others: &mut TransState,
+    ending: &mut Ending,
     begun: bool,
     value: &Option<Int>,
     met: &mut Vec<u32>,
@@ -201,10 +203,12 @@ fn push_all(
         → RunsStand plan.now.machines.items plan.now.removers runs.new (w ++ value.now ∷ [])) }
     ensures others { OnOk result ((w : List Value) → OthersStand plan.now others.old w
         → OthersStand plan.now others.new (w ++ value.now ∷ [])) }
+    ensures recent { OnOk result ((w : List Value) → AreRecent plan.now.words ending.old.recent w
+        → AreRecent plan.now.words ending.new.recent (w ++ value.now ∷ [])) }
     ensures met { OnOk result ((w : List Value) → IsTrue begun ↔ (0 < length w)
         → RunsStand plan.now.machines.items plan.now.removers runs.old w → OthersStand plan.now others.old w
-        → AreTransMet plan.now w value.now met.new.items) }
-    ensures among { OnOk result ((place : ℕ) → Contains met.new.items place → IsTransPlace plan.now place) }
+        → AreRecent plan.now.words ending.old.recent w → AreTransMet plan.now w value.now met.new.items) }
+    ensures among { OnOk result ((place : ℕ) → Contains met.new.items place → IsTracePlace plan.now place) }
     ensures once { OnOk result (AllPairs (λ a b. a ≢ b) met.new.items) }
 {
     let mut is_ready = false;
@@ -218,6 +222,8 @@ fn push_all(
         value,
         met,
     )?;
+    let some = push_words(&plan.words, ending, value, met)?;
+    let ended = either(ended, some);
     let alone = push_others(plan, steps, &mut is_ready, others, begun, ended, value)?;
     add_sequences(plan.sequences.as_slice(), alone, met)?;
     Ok(())
@@ -229,6 +235,7 @@ fn push_some(
     steps: &mut Steps,
     runs: &mut [TransState],
     others: &mut TransState,
+    ending: &mut Ending,
     begun: bool,
     value: &Option<Int>,
     met: &mut Vec<u32>,
@@ -241,21 +248,23 @@ fn push_some(
         → RunsStand plan.now.machines.items plan.now.removers runs.new (w ++ value.now ∷ [])) }
     ensures others { OnOk result ((w : List Value) → OthersStand plan.now others.old w
         → OthersStand plan.now others.new (w ++ value.now ∷ [])) }
+    ensures recent { OnOk result ((w : List Value) → AreRecent plan.now.words ending.old.recent w
+        → AreRecent plan.now.words ending.new.recent (w ++ value.now ∷ [])) }
     ensures met { OnOk result ((w : List Value) → IsTrue begun ↔ (0 < length w)
         → RunsStand plan.now.machines.items plan.now.removers runs.old w → OthersStand plan.now others.old w
-        → AreTransMet plan.now w value.now met.new.items) }
-    ensures among { OnOk result ((place : ℕ) → Contains met.new.items place → IsTransPlace plan.now place) }
+        → AreRecent plan.now.words ending.old.recent w → AreTransMet plan.now w value.now met.new.items) }
+    ensures among { OnOk result ((place : ℕ) → Contains met.new.items place → IsTracePlace plan.now place) }
     ensures once { OnOk result (AllPairs (λ a b. a ≢ b) met.new.items) }
 {
     if is_still(plan) {
         return Ok(());
     }
-    push_all(plan, steps, runs, others, begun, value, met)?;
+    push_all(plan, steps, runs, others, ending, begun, value, met)?;
     Ok(())
 }
 
-/// Takes the automata of a point over the next value of the trace, and puts the places of the transition bins and
-/// default sequences that are met into `met`.
+/// Takes the automata and words of a point over the next value of the trace, and puts the places of the transition bins
+/// and default sequences that are met into `met`.
 pub(crate) fn push_value(
     plan: &PointPlan,
     state: &mut PointState,
@@ -269,7 +278,7 @@ pub(crate) fn push_value(
         → Remembers plan.now state.new (w ++ value.now ∷ [])) }
     ensures met { OnOk result ((w : List Value) → Remembers plan.now state.old w
         → AreTransMet plan.now w value.now state.new.met.items) }
-    ensures among { OnOk result ((place : ℕ) → Contains state.new.met.items place → IsTransPlace plan.now place) }
+    ensures among { OnOk result ((place : ℕ) → Contains state.new.met.items place → IsTracePlace plan.now place) }
     ensures once { OnOk result (AllPairs (λ a b. a ≢ b) state.new.met.items) }
 {
     state.met.clear();
@@ -278,6 +287,7 @@ pub(crate) fn push_value(
         &mut state.steps,
         state.runs.as_mut_slice(),
         &mut state.others,
+        &mut state.ending,
         state.begun,
         value,
         &mut state.met,

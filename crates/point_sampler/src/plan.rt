@@ -5,16 +5,19 @@ use cov_base::Int;
 use design_data::BinKind;
 use trans_auto::{Removing, Watcher};
 use value_index::Index;
+use word_table::PlacedWords;
 
 /// What is prepared of a point: its tables are linear in its bins and their intervals.
 #[derive(Drop)]
 pub struct PointPlan {
     /// One for each bin; none at all where each bin counts for coverage and has no guard.
     pub(crate) entries: Vec<Entry>,
-    /// The automata of the transition bins, in order.
+    /// The automata of the transition bins that aren't known by a word, in order.
     pub(crate) machines: Vec<Machine>,
     /// For each of them the values with which its windows may begin.
     pub(crate) entrances: Vec<Entrance>,
+    /// The words of the other transition bins, with the places of their bins.
+    pub(crate) words: PlacedWords,
     /// The sequences that take windows away.
     pub(crate) removers: Removers,
     /// The automaton of the ignored and illegal sequences, which a default sequence doesn't count either.

@@ -8,6 +8,7 @@ ghost use Rattle.design_data.specs.declared.infos.BinInfo.{BinInfo as Bin};
 ghost use Rattle.design_data.specs.Limits.{IsPointRule};
 ghost use Rattle.record_codec.specs.Samples.{Env};
 ghost use Rattle.point_sampler.specs.Plans.{IsPoint, IsPlanOf, IsLookupOf, IsGuardAt, IsPlain, AreEntriesOf, AreEntries, AreQuestionsOf, AreEntrances, AreRemovers, machine_of, machines_from, places_from, is_default_sequence as is_default_sequence_of};
+ghost use Rattle.point_sampler.specs.Divided.{BinDivided, BinsDivided};
 ghost use Rattle.point_sampler.specs.Points.{FitsPlan, StateStands, RunsStand};
 
 use crate::entrances::entrance_of;
@@ -15,7 +16,8 @@ use crate::lookups::lookup_of;
 use crate::plan::{Entrance, Entry, Lookup, Machine, PointPlan, Questions, Removers};
 use crate::questions::questions_of;
 use crate::rules::note;
-use crate::state::{PointState, Steps};
+use crate::state::{Ending, PointState, Steps};
+use crate::words::word_of_bin;
 use const_eval::Bound;
 use cov_base::Memory;
 use design_data::{BinInfo, BinRule, ItemInfo};
@@ -23,6 +25,7 @@ use std::alloc::Global;
 use trans_auto::{Removing, Step, TransState, Watcher};
 use trans_seq::laws::cells_of_joined_lists;
 use trans_seq::{Seq, append_copies};
+use word_table::{PlacedWord, PlacedWords, Recent};
 
 /// Whether the bin has the guard.
 fn has_guard(bin: &BinInfo, guard: &Bound) -> bool
@@ -124,6 +127,14 @@ fn entry_list(alloc: Global, bins: &[BinInfo]) -> Result<Vec<Entry>, Memory>
     Ok(entries)
 }
 
+/// What is prepared of transition bins: the automata of some, with their entrances, and the words of the others.
+#[derive(Drop)]
+struct Divided {
+    machines: Vec<Machine>,
+    entrances: Vec<Entrance>,
+    rows: Vec<PlacedWord>,
+}
+
 /// Appends the automaton of a transition bin, and its entrance.
 fn add_machine(
     alloc: Global,
@@ -151,22 +162,51 @@ fn add_machine(
     Ok(())
 }
 
-/// The automata of the transition bins; their entrances are put into `entrances`.
-fn machines_of(
+/// Prepares a transition bin: by its word, if it is known by one, or by an automaton.
+fn add_trans(
     alloc: Global,
     item: &ItemInfo,
-    entrances: &mut Vec<Entrance>,
-) -> Result<Vec<Machine>, Memory>
-    requires point { IsPoint item.now }
-    requires none { entrances.old.items ≡ [] }
-    ensures machines { IfOk result (λ machines. machines.items ≡ machines_from 0 item.now.bins) }
-    ensures entrances { IfOk result (λ machines. AreEntrances machines.items entrances.new.items) }
+    removers: &Removers,
+    place: u32,
+    bin: &BinInfo,
+    divided: &mut Divided,
+) -> Result<(), Memory>
+    requires { IsPointRule item.now bin.now.kind bin.now.rule }
+    ensures { OnOk result
+        (BinDivided removers.now place bin.now.kind bin.now.rule divided.old divided.new) }
 {
-    let mut machines = Vec::new(alloc);
-    for (place, bin) in item.bins.as_slice().iter().enumerate() {
-        add_machine(alloc, item, place as u32, bin, &mut machines, entrances)?;
+    if let BinRule::Trans(seqs) = &bin.rule {
+        if let Some(word) = word_of_bin(alloc, removers, bin.kind, seqs.as_slice())? {
+            divided.rows.push(PlacedWord { word, place })?;
+            return Ok(());
+        }
     }
-    Ok(machines)
+    add_machine(
+        alloc,
+        item,
+        place,
+        bin,
+        &mut divided.machines,
+        &mut divided.entrances,
+    )?;
+    Ok(())
+}
+
+/// What is prepared of the transition bins.
+fn divided_of(alloc: Global, item: &ItemInfo, removers: &Removers) -> Result<Divided, Memory>
+    requires point { IsPoint item.now }
+    requires removers { AreRemovers item.now removers.now }
+    ensures { IfOk result (BinsDivided removers.now (machines_from 0 item.now.bins)) }
+{
+    let mut divided = Divided {
+        machines: Vec::new(alloc),
+        entrances: Vec::new(alloc),
+        rows: Vec::new(alloc),
+    };
+    for (place, bin) in item.bins.as_slice().iter().enumerate() {
+        add_trans(alloc, item, removers, place as u32, bin, &mut divided)?;
+    }
+    Ok(divided)
 }
 
 fn is_default_sequence(rule: &BinRule) -> bool
@@ -229,7 +269,7 @@ fn removers_of(alloc: Global, item: &ItemInfo, removing_seqs: &[Seq]) -> Result<
     })
 }
 
-/// The automata of a point's transitions, the bins standing prepared.
+/// The automata and words of a point's transitions, the bins standing prepared.
 fn plan_with(
     alloc: Global,
     item: &ItemInfo,
@@ -245,15 +285,16 @@ fn plan_with(
     requires questions { AreQuestionsOf item.now.bins questions }
     ensures { IfOk result (λ plan. IsPlanOf item.now plan) }
 {
-    let mut entrances = Vec::new(alloc);
-    let machines = machines_of(alloc, item, &mut entrances)?;
-    let sequences = sequences_of(alloc, item.bins.as_slice())?;
     let removers = removers_of(alloc, item, removing_seqs)?;
+    let divided = divided_of(alloc, item, &removers)?;
+    let words = PlacedWords::new(alloc, divided.rows)?;
+    let sequences = sequences_of(alloc, item.bins.as_slice())?;
     let others = watcher(alloc, removing_seqs)?;
     Ok(PointPlan {
         entries,
-        machines,
-        entrances,
+        machines: divided.machines,
+        entrances: divided.entrances,
+        words,
         removers,
         others,
         lookup,
@@ -302,6 +343,10 @@ impl PointState {
             begun: false,
             runs,
             others: plan.others.start(),
+            ending: Ending {
+                recent: Recent::new(alloc),
+                hits: Vec::new(alloc),
+            },
             steps: Steps {
                 covering: Step::new(alloc),
                 ignoring: Step::new(alloc),

@@ -141,7 +141,8 @@ impl PointPlan {
     /// Takes the point with the value `expr` over a sample of its instance, whose values are `env`: raises the counts of
     /// the bins that are hit, and puts into `row` the numbers of those among its coverage bins. `counts` are those of the
     /// whole design. A sample takes memory only where more bins are met, or more windows are open, than at each sample
-    /// before. After want of memory the state and the counts are of no use.
+    /// before, and where the first values of the trace are kept, 240 of them at most. After want of memory the state and
+    /// the counts are of no use.
     #[inline(always)]
     pub fn sample(
         &self,

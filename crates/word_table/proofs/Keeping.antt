@@ -7,6 +7,9 @@ use Rattle.word_table.specs.Recent.{longest, AreLast}
 pub none_last : AreLast [] []
 none_last = record { fits = omega arith; same = refl; enough = inl refl }
 
+pub last_itself : (kept : List (Option ℤ)) → AreLast kept kept
+last_itself kept = record { fits = omega arith; same = ap (λ (n : ℕ). drop n kept) (let zero : length kept - length kept ≡ 0 = omega arith in zero); enough = inl refl }
+
 -- one more value
 pub last_more : (kept w : List (Option ℤ)) (v : Option ℤ) → AreLast kept w → AreLast (kept ++ v ∷ []) (w ++ v ∷ [])
 last_more kept w v h =

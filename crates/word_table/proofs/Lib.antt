@@ -2,3 +2,6 @@ pub mod Orders
 pub mod Finding
 pub mod Keeping
 mod Pieces
+mod Ascending
+pub mod Sorting
+mod Placing

@@ -4,8 +4,12 @@
 //! 1800-2017, 19.5.2) by the last values alone, without an automaton each.
 #![tactic(auto)]
 
+mod placed;
 mod recent;
+mod row;
 mod table;
 
+pub use placed::PlacedWords;
 pub use recent::Recent;
+pub use row::PlacedWord;
 pub use table::WordTable;

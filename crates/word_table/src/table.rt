@@ -1,12 +1,12 @@
 //! Which words a trace ends with.
-ghost use Rattle.std.specs.Prelude.{◌≡◌, ℕ, ℤ, ◌<◌, ◌≤◌, ◌+◌, ◌++◌, ◌∷◌, length, List, [], slice_index_or, OnOk, IfOk, not, ◌↔◌, ◌⊎◌};
+ghost use Rattle.std.specs.Prelude.{◌≡◌, ℕ, ℤ, ◌<◌, ◌≤◌, ◌+◌, ◌++◌, ◌∷◌, length, List, [], slice_index_or, AllPairs, OnOk, IfOk, not, ◌↔◌, ◌⊎◌};
 ghost use Rattle.std.specs.List.{Contains};
-ghost use Rattle.word_table.specs.Words.{is_before, has_ended, key, Ascends, IsSplit, Ends, back};
+ghost use Rattle.word_table.specs.Words.{is_before, has_ended, key, Ascends, IsSplit, Ends, back, AscendBelow};
 ghost use Rattle.word_table.specs.Tables.{AreWords, Holds};
 
 use crate::recent::Recent;
+use crate::row::PlacedWord;
 use cov_base::{Int, Memory};
-use cov_tree::List as Word;
 use std::alloc::Global;
 use std::marker::Model;
 
@@ -46,22 +46,22 @@ fn add_word(word: &[Int], values: &mut Vec<Int>, starts: &mut Vec<u32>) -> Resul
 }
 
 impl WordTable {
-    ghost use Rattle.std.specs.Prelude.{◌≡◌, ◌<◌, ◌≤◌, ◌↔◌, ℕ, ℤ, [], length, slice_index_or, List, Option, IfOk, OnOk};
+    ghost use Rattle.std.specs.Prelude.{◌≡◌, ◌<◌, ◌≤◌, ◌↔◌, ℕ, ℤ, [], length, map, slice_index_or, AllPairs, List, Option, IfOk, OnOk};
     ghost use Rattle.std.specs.List.{Contains};
     ghost use Rattle.word_table.specs.Words.{key, Ends};
     ghost use Rattle.word_table.specs.Recent.{AreLast};
     ghost use Rattle.word_table.specs.Tables.{AreWords};
 
     /// The table of these words.
-    pub fn new(alloc: Global, words: &[Word<Int>]) -> Result<WordTable, Memory>
-        requires { AreWords words.now }
-        ensures { IfOk result (λ table. table ≡ words.now) }
+    pub fn new(alloc: Global, rows: &[PlacedWord]) -> Result<WordTable, Memory>
+        requires { AreWords (map (λ row. row.word) rows.now) }
+        ensures { IfOk result (λ table. table ≡ map (λ row. row.word) rows.now) }
     {
         let mut values = Vec::new(alloc);
         let mut starts = Vec::new(alloc);
         starts.push(0)?;
-        for word in words {
-            add_word(word.as_slice(), &mut values, &mut starts)?;
+        for row in rows {
+            add_word(row.word.as_slice(), &mut values, &mut starts)?;
         }
         Ok(WordTable { values, starts })
     }
@@ -92,9 +92,10 @@ impl WordTable {
     /// Puts the places of the words that the trace ends with into `hits`. It takes no memory but for `hits`, and time by
     /// the length of the words that agree with the trace, and by the logarithm of how many words there are.
     pub fn ended(&self, recent: &Recent, hits: &mut Vec<u32>) -> Result<(), Memory>
-        ensures { OnOk result ((w : List (Option ℤ)) → AreLast recent.now w
+        ensures ended { OnOk result ((w : List (Option ℤ)) → AreLast recent.now w
             → (place : ℕ) → Contains hits.new.items place
             ↔ ((place < length self.now) × Ends (slice_index_or self.now place []) w)) }
+        ensures ascend { OnOk result (AllPairs (λ a b. a < b) hits.new.items) }
     {
         ended(self, recent.as_slice(), hits)?;
         Ok(())
@@ -164,6 +165,8 @@ fn take_ended(
         (λ cut. IsSplit (λ k. has_ended (key table.now depth k)) low high cut) }
     ensures hits { IfOk result (λ cut. (k : ℕ) → Contains hits.new.items k
         ↔ (Contains hits.old.items k ⊎ ((low ≤ k) × (k < cut)))) }
+    ensures ascend { IfOk result (λ cut. AscendBelow low hits.old.items
+        → AscendBelow cut hits.new.items) }
 {
     for k in low..high {
         if goes_on(&table.value_at(k, depth)) {
@@ -187,6 +190,7 @@ fn ended(table: &WordTable, trace: &[Option<Int>], hits: &mut Vec<u32>) -> Resul
     ensures words { AreWords table.now }
     ensures hits { OnOk result ((k : ℕ) → Contains hits.new.items k
         ↔ ((k < length table.now) × Ends (slice_index_or table.now k []) trace.now)) }
+    ensures ascend { OnOk result (AllPairs (λ a b. a < b) hits.new.items) }
 {
     hits.clear();
     let mut low = 0;

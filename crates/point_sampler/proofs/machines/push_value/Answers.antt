@@ -11,8 +11,9 @@ returns-clause-remembers c = λ w h. record {
       subst (λ (rs : List (List (ℕ × ℕ))). RunsStand c.args.plan.now.machines.items c.args.plan.now.removers rs (w ++ c.args.value.now ∷ [])) (sym (with_items_is c.args.state.now.runs c.push_some.new.runs len))
       (c.in_ok-push_some.ensures.runs w (subst (λ (rs : List (List (ℕ × ℕ))). RunsStand c.args.plan.now.machines.items c.args.plan.now.removers rs w) (sym c.as_mut_slice.ensures.value) h.runs));
   others = c.in_ok-push_some.ensures.others w h.others;
+  recent = c.in_ok-push_some.ensures.recent w h.recent;
 }
 
 pub returns-clause-met : goal.returns-clause-met
 returns-clause-met c = λ w h. c.in_ok-push_some.ensures.met w h.begun
-    (subst (λ (rs : List (List (ℕ × ℕ))). RunsStand c.args.plan.now.machines.items c.args.plan.now.removers rs w) (sym c.as_mut_slice.ensures.value) h.runs) h.others
+    (subst (λ (rs : List (List (ℕ × ℕ))). RunsStand c.args.plan.now.machines.items c.args.plan.now.removers rs w) (sym c.as_mut_slice.ensures.value) h.runs) h.others h.recent

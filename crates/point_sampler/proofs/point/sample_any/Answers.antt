@@ -13,7 +13,7 @@ pub count_met-requires-clause-once : goal.count_met-requires-clause-once
 count_met-requires-clause-once c = met_once c.args.item.now c.args.plan.now c.requires.plan c.args.value.now c.push_value.new.state.met.items c.as_slice-2.result.now c.in_ok-push_value.ensures.among (c.as_slice-2.ensures.value ∙ c.in_ok-add_values.ensures) c.in_ok-push_value.ensures.once
 
 pub returns-clause-remembers : goal.returns-clause-remembers
-returns-clause-remembers c = λ w h. let r = c.in_ok-push_value.ensures.remembers w h in record { begun = r.begun; runs = r.runs; others = r.others }
+returns-clause-remembers c = λ w h. let r = c.in_ok-push_value.ensures.remembers w h in record { begun = r.begun; runs = r.runs; others = r.others; recent = r.recent }
 
 pub returns-clause-taken : goal.returns-clause-taken
 returns-clause-taken c = λ w h. record {

@@ -2,8 +2,9 @@ use Rattle.std.proofs.Common.{◌≡◌, ◌⊎◌, ◌↔◌, ◌∙◌, ap, sy
 use Rattle.std.specs.List.{Contains}
 use Rattle.std.proofs.lemmas.List.Elements.{Contains-push, Contains-push_cases, Contains-append_left}
 use Rattle.std.proofs.lemmas.Bool.{cases_lt}
-use Rattle.word_table.specs.Words.{has_ended, key}
+use Rattle.word_table.specs.Words.{has_ended, key, AscendBelow}
 use Rattle.word_table.proofs.Orders.{ended_up, negated}
+use Rattle.word_table.proofs.Ascending.{ascend_more}
 use Rattle.word_table.proofs.table.take_ended.Goals as goal
 
 pub returns-then-goes_on-clause-cut : goal.returns-then-goes_on-clause-cut
@@ -46,9 +47,15 @@ loop-k-preserved c =
           ]
         ])),
       );
+      ascend = λ h. subst (AscendBelow (k + 1)) (sym pushed) (ascend_more k old (inv.ascend h));
     }
 
 pub returns-clause-hits : goal.returns-clause-hits
 returns-clause-hits c = λ k.
     let e : c.loop-k.k ≡ c.args.high = omega (arith, c.loop-k-test.false, c.loop-k.auto.k-end c.requires.range) in
     subst (λ (n : ℕ). Contains c.loop-k.hits.items k ↔ (Contains c.args.hits.now.items k ⊎ ((c.args.low ≤ k) × (k < n)))) e (c.loop-k.invariant.hits k)
+
+pub returns-clause-ascend : goal.returns-clause-ascend
+returns-clause-ascend c = λ h.
+    let e : c.loop-k.k ≡ c.args.high = omega (arith, c.loop-k-test.false, c.loop-k.auto.k-end c.requires.range) in
+    subst (λ (n : ℕ). AscendBelow n c.loop-k.hits.items) e (c.loop-k.invariant.ascend h)

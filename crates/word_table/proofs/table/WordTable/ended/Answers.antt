@@ -3,8 +3,8 @@ use Rattle.word_table.specs.Recent.{longest, AreLast}
 use Rattle.word_table.proofs.Keeping.{ends_last}
 use Rattle.word_table.proofs.table.WordTable.ended.Goals as goal
 
-pub returns : goal.returns
-returns c = λ w h place.
+pub returns-clause-ended : goal.returns-clause-ended
+returns-clause-ended c = λ w h place.
     let words = c.args.self.now in
     let kept = c.as_slice.result.now in
     let last : AreLast kept w = subst (λ (k : List (Option ℤ)). AreLast k w) (sym c.as_slice.ensures) h in
