@@ -46,6 +46,22 @@ def box(k):
     return f"([{min(ends[:2])}:{max(ends[:2])}]=>[{min(ends[2:])}:{max(ends[2:])}]),"
 
 
+def span(end):
+    """A range of numbers below the end."""
+    ends = [draw.randrange(end) for place in range(2)]
+    return f"[{min(ends)}:{max(ends)}]"
+
+
+def varied(k):
+    """A sequence with lists of two lengths."""
+    return f"(1[*1:2]=>{span(180)}=>{span(180)}),"
+
+
+def small_box(k):
+    """A sequence of ten small ranges."""
+    return "(" + "=>".join(span(3) for place in range(10)) + "),"
+
+
 texts = {
     # values
     "one_set": group("bit [63:0] v;", point("bins b = {[0:$]};")),
@@ -79,6 +95,8 @@ texts = {
         "bit [15:0] v;", point("bins b[] = " + many(lambda k: f"([{k % 65536}:65535]=>1),", LONGEST - 200) + "(0);")
     ),
     "boxes": group("bit [7:0] v;", point("bins b[] = " + many(box, LONGEST - 200) + "(0=>0);")),
+    "varied_lengths": group("bit [7:0] v;", point("bins b[] = " + many(varied, LONGEST - 200) + "(0=>0);")),
+    "small_boxes": group("bit [1:0] v;", point("bins b[] = " + many(small_box, LONGEST - 200) + "(3);")),
     "single_steps": group("bit [7:0] v;", point("bins b[] = (" + "1=>" * 118 + "[0:255]=>[0:255]);")),
     "two_lengths": group("bit [15:0] v;", point("bins b[] = (" + "5[*1:2]=>" * 59 + "[0:1000]=>6);")),
     # items of one list between items of several: the lists behind are not to be gone through for each of them

@@ -204,7 +204,7 @@ ahead-times item (suc n) ws =
     joined-each (written item.set) (choices (written item.set) n) ws
     ∙ ap (λ l. each (written item.set) l) (ahead-times item n ws)
 
-ahead-joined : (items : List Item) (ws : List Word) → ahead items ws ≡ joined (words items) ws
+pub ahead-joined : (items : List Item) (ws : List Word) → ahead items ws ≡ joined (words items) ws
 ahead-joined [] ws = sym (append-nil (map (λ o. [] ++ o) ws) ∙ map-same ws)
 ahead-joined (item ∷ items) ws = ap (λ l. each (written item.set) l) (ahead-joined items ws) ∙ sym (joined-each (written item.set) (words items) ws)
 
@@ -268,11 +268,11 @@ length-groups items (g ∷ gs) =
 
 -- ---- items in front that have lists of one length alone
 
-groups_next : (others more : List Item) (gs : List (List Word)) → groups_ahead others (groups_ahead more gs) ≡ groups_ahead (others ++ more) gs
+pub groups_next : (others more : List Item) (gs : List (List Word)) → groups_ahead others (groups_ahead more gs) ≡ groups_ahead (others ++ more) gs
 groups_next others more [] = refl
 groups_next others more (g ∷ gs) = ap (λ l. l ∷ groups_ahead others (groups_ahead more gs)) (sym (ahead-append others more g)) ∙ ap (λ l. ahead (others ++ more) g ∷ l) (groups_next others more gs)
 
-groups-times : (item : Item) (n : ℕ) (gs : List (List Word)) → map (λ g. joined (choices (written item.set) n) g) gs ≡ groups_ahead (replicate n (once item)) gs
+pub groups-times : (item : Item) (n : ℕ) (gs : List (List Word)) → map (λ g. joined (choices (written item.set) n) g) gs ≡ groups_ahead (replicate n (once item)) gs
 groups-times item n [] = refl
 groups-times item n (g ∷ gs) = ap (λ l. l ∷ map (λ g. joined (choices (written item.set) n) g) gs) (ahead-times item n g) ∙ ap (λ l. ahead (replicate n (once item)) g ∷ l) (groups-times item n gs)
 

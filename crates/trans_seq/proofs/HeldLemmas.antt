@@ -1,11 +1,10 @@
 -- Lists with one number of each of several sets, and those that are found already.
-use Rattle.std.proofs.Common.{◌≡◌, ℕ, ◌≤◌, List, [], ◌∷◌, ◌++◌, length, drop, map, filter, refl, ap, sym, ◌∙◌, subst, inl, inr, arith, append_assoc, append-nil, length-append, Result, Ok, Err, OnOk, Bool, true, false, cond}
+use Rattle.std.proofs.Common.{◌≡◌, ◌≤◌, List, [], ◌∷◌, ◌++◌, length, map, filter, refl, ap, sym, ◌∙◌, subst, inl, inr, arith, append_assoc, append-nil, length-append, Result, Ok, Err, OnOk, Bool, true, false, cond}
 use Rattle.std.specs.Prelude.{ℤ, ◌==◌, not, ◌||◌, Some, Option}
 use Rattle.std.specs.Ordering.{int_eq}
 use Rattle.std.specs.List.{flat_map, list_any}
 use Rattle.std.proofs.lemmas.Bool.{false≢true, true≢false, or_cases, or_left, or_right}
 use Rattle.std.proofs.lemmas.Bool.Decides.{Decides-int_eq}
-use Rattle.std.proofs.lemmas.List.{drop_all}
 use Rattle.cov_base.specs.Sets.{written, is_in, without}
 use Rattle.trans_seq.specs.declared.seq.Item.{Item}
 use Rattle.trans_seq.specs.declared.found.Found.{Found}
@@ -13,15 +12,14 @@ use Rattle.trans_seq.specs.declared.held.Held.{Held}
 use Rattle.trans_seq.specs.declared.held.Known.{Known}
 use Rattle.trans_seq.specs.declared.fault.ExpandFault.{ExpandFault}
 use Rattle.trans_seq.specs.declared.fault.ExpandFault.TheVariants.{Unbounded, TooLong, TooManyBins, Memory}
-use Rattle.trans_seq.specs.Lists.{is_among, news, all_of, listed, by_lengths, is_endless, RefusesToExpand}
+use Rattle.trans_seq.specs.Lists.{is_among, news, listed, is_endless, RefusesToExpand}
 use Rattle.trans_seq.specs.Cells.{cells_of_items}
 use Rattle.cov_ground.specs.Limits.{most_cells}
 use Rattle.trans_seq.specs.Found.{lists_of, Takes, FailsAfter}
-use Rattle.trans_seq.specs.Held.{words, begun, begun_by, AreSpread, HasAll, AreHeld}
-use Rattle.trans_seq.proofs.News.{Word, among_left, among_right, among_cases, among_news, news-append, news-map}
-use Rattle.trans_seq.specs.Alone.{behind, behind_by, groups_ahead}
-use Rattle.trans_seq.proofs.Ahead.{ahead-all}
-use Rattle.trans_seq.proofs.Counted.{map-append, map-same, no_more, listed-differ}
+use Rattle.trans_seq.specs.Held.{words, begun, begun_by, HasAll, AreHeld}
+use Rattle.trans_seq.proofs.News.{Word, among_left, among_right, among_cases, among_news, news-append}
+use Rattle.trans_seq.specs.Alone.{behind, behind_by}
+use Rattle.trans_seq.proofs.Counted.{map-append, no_more, listed-differ}
 use Rattle.trans_seq.proofs.FoundLemmas.{lists_after}
 use Rattle.trans_seq.proofs.MetLemmas.{news_none}
 use Rattle.trans_seq.proofs.Numbers.{none_written}
@@ -134,23 +132,6 @@ unfolding without
 passed-known before first set known items had =
     passed (λ v. not (is_in (written known) v)) (λ v. begun (first ++ v ∷ []) items) (written set) before
     (λ v e w h. had w (by-from first (written known) items v w (not-false (is_in (written known) v) e) h))
-
--- ---- items of one length
-
-pub spread-all : (items others : List Item) (size : ℕ) → length items ≤ size → by_lengths items ≡ groups_ahead others (by_lengths (drop size items)) → AreSpread items others
-spread-all items others size le is =
-    is ∙ ap (λ l. groups_ahead others (by_lengths l)) (drop_all size items le) ∙ ap (λ l. l ∷ []) (ahead-all others)
-
--- the lists of such a sequence
-pub spread-listed : (items others : List Item) (first : Word) (before : List Word) → first ≡ [] → AreSpread items others → news before (begun first others) ≡ news before (listed items)
-unfolding listed
-spread-listed items others first before none are =
-    let xs = all_of (by_lengths items) in
-    let whole : xs ≡ words others = ap all_of are ∙ append-nil (words others) in
-    let once_more : news before (map (λ w. [] ++ w) (news [] xs)) ≡ news before (map (λ w. [] ++ w) xs) = news-map (λ w. [] ++ w) [] xs before (λ w k. absurd (false≢true k)) in
-    ap (λ f. news before (begun f others)) none
-    ∙ ap (λ l. news before l) (map-same (words others) ∙ sym whole)
-    ∙ sym (sym (ap (λ l. news before l) (map-same (news [] xs))) ∙ once_more ∙ ap (λ l. news before l) (map-same xs))
 
 -- ---- what is kept
 

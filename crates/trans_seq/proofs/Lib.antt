@@ -16,3 +16,4 @@ pub mod Ahead
 pub mod HeldLemmas
 pub mod AloneLemmas
 pub mod RunLemmas
+pub mod ChosenLemmas

@@ -206,7 +206,7 @@ joined-none : (firsts : List Word) → joined firsts [] ≡ []
 joined-none [] = refl
 joined-none (f ∷ fs) = joined-none fs
 
-packed-joined : (firsts : List Word) (gs : List (List Word)) → packed (map (λ g. joined firsts g) gs) ≡ packed (map (λ g. joined firsts g) (packed gs))
+pub packed-joined : (firsts : List Word) (gs : List (List Word)) → packed (map (λ g. joined firsts g) gs) ≡ packed (map (λ g. joined firsts g) (packed gs))
 packed-joined firsts [] = refl
 packed-joined firsts ([] ∷ gs) = ap (λ g. packed (g ∷ map (λ g. joined firsts g) gs)) (joined-none firsts) ∙ packed-joined firsts gs
 packed-joined firsts ((w ∷ ws) ∷ gs) = packed_one (joined firsts (w ∷ ws)) _ _ (packed-joined firsts gs)

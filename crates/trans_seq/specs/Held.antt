@@ -11,7 +11,7 @@ use Rattle.trans_seq.specs.declared.seq.Item.{Item}
 use Rattle.trans_seq.specs.declared.seq.Repeat.TheVariants.{Once}
 use Rattle.trans_seq.specs.declared.held.Held.{Held}
 use Rattle.trans_seq.specs.declared.held.Known.{Known}
-use Rattle.trans_seq.specs.Lists.{is_among, by_lengths}
+use Rattle.trans_seq.specs.Lists.{is_among}
 
 -- each list with one number of each item's set, the last one running fastest
 abbrev pub words : List Item → List (List ℤ)
@@ -29,10 +29,6 @@ begun_by first numbers items = flat_map (λ v. begun (first ++ v ∷ []) items) 
 -- the same values, once
 abbrev pub once : Item → Item
 once item = record { set = item.set; repeat = Once }
-
--- the items have lists of one length alone, with one number of each set of the others
-abbrev pub AreSpread : List Item → List Item → Type 0
-AreSpread items others = by_lengths items ≡ words others ∷ []
 
 -- some lists are all among others
 abbrev pub HasAll : List (List ℤ) → List (List ℤ) → Type 0

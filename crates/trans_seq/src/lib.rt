@@ -4,6 +4,7 @@
 #![tactic(auto)]
 
 mod alone;
+mod chosen;
 mod fault;
 mod found;
 mod held;

@@ -2,20 +2,21 @@
 ghost use Rattle.std.specs.Prelude.{◌≡◌, ◌+◌, ◌-◌, ◌<◌, ◌≤◌, ◌↔◌, ℤ, Contains, List, [], false, map, length, IsTrue, IfOk, IfErr, IfSome, IfNone, OnOk, All};
 ghost use Rattle.std.specs.List.{list_any};
 ghost use Rattle.cov_ground.specs.Limits.{most_bins, most_cells};
-ghost use Rattle.trans_seq.specs.Held.{AreSpread, AreHeld};
+ghost use Rattle.trans_seq.specs.Held.{AreHeld};
 ghost use Rattle.trans_seq.specs.Found.{lists_of, Holds, Takes, FailsAfter, Merges, Extends, HasList, NoList, AllHaveList, SomeNoList, in_front, new_groups, packed};
 ghost use Rattle.trans_seq.specs.Cells.{cells_of_repeat, cells_of_items};
 ghost use Rattle.trans_seq.specs.Windows.{HasWord, SomeHasWord};
 ghost use Rattle.trans_seq.specs.Lists.{lengths, by_lengths, from_on, all_of, listed, is_endless, has_endless as seq_has_endless, IsShort, IsFirstLong, HasEndless, Expands, RefusesToExpand, ExpandsAll, RefusesToExpandAll, lists_by_all, listed_by_all};
 
 use crate::alone::groups_before;
+use crate::chosen::{has_few_choices, take_each};
 use crate::fault::ExpandFault;
 use crate::found::{Found, none_found, take_all, take_length};
 use crate::held::{Known, none_known};
 use crate::met::{Met, is_held, none_met};
 use crate::seq::{Item, Repeat, Seq, same_values};
 use crate::size::cells;
-use crate::spread::{front_of, spread, take_items};
+use crate::spread::front_of;
 use cov_base::{Int, Memory, ValueSet};
 use cov_ground::limits::MOST_CELLS;
 use cov_tree::List;
@@ -96,11 +97,17 @@ fn with_lengths(
 
 /// Behind `low` to `high` numbers of a set, passes over the items of the same set: how many numbers there are with
 /// theirs, and the items behind them.
-fn run_of<'a>(set: &ValueSet, low: u32, high: u32, items: &'a [Item]) -> (u32, u32, &'a [Item])
+pub(crate) fn run_of<'a>(
+    set: &ValueSet,
+    low: u32,
+    high: u32,
+    items: &'a [Item],
+) -> (u32, u32, &'a [Item])
     requires order { low ≤ high }
     requires lists { AllHaveList items.now }
     requires short { high + cells_of_items items.now ≤ most_cells }
     ensures order { result.0 ≤ result.1 }
+    ensures most { result.1 ≤ most_cells }
     ensures lists { AllHaveList result.2.now }
     ensures short { cells_of_items result.2.now ≤ most_cells }
     ensures fewer { length result.2.now ≤ length items.now }
@@ -230,7 +237,9 @@ fn first_too_long(seqs: &[Seq]) -> Option<u64>
 /// order of `expand`, then those of the next, of which one that was there before is left out.
 ///
 /// It is refused where an item has `[->` or `[=`; else where a sequence has more than `MOST_CELLS` cells, the first such
-/// one being told; else where more than `MOST_BINS` lists are distinct over all sequences.
+/// one being told; else where more than `MOST_BINS` lists are distinct over all sequences. A sequence with few choices of
+/// its items' lengths is gone through number by number for each of them, and what an earlier one is known to have is
+/// passed over without being written out.
 pub fn expand_all(alloc: Global, seqs: &[Seq]) -> Result<Vec<List<Int>>, ExpandFault>
     ensures lists { IfOk result (λ lists. ExpandsAll seqs.now lists.items) }
     ensures windows { IfOk result
@@ -336,30 +345,11 @@ fn take_lists(
     if is_empty {
         return Ok(());
     }
-    match spread(alloc, items)? {
-        Some(others) => take_spread(alloc, items, others.as_slice(), known, found),
-        None => take_expanded(alloc, seq, found),
+    if has_few_choices(items) {
+        take_each(alloc, items, known, found)
+    } else {
+        take_expanded(alloc, seq, found)
     }
-}
-
-/// Takes the lists of items that have lists of one length alone, with one number of each set of the others.
-fn take_spread(
-    alloc: Global,
-    items: &[Item],
-    others: &[Item],
-    known: &mut Known,
-    found: &mut Found,
-) -> Result<(), ExpandFault>
-    requires spread { AreSpread items.now others.now }
-    requires holds { Holds found.old }
-    requires held { AreHeld known.old (lists_of found.old) }
-    ensures ok { OnOk result (Takes found.old found.new (listed items.now)) }
-    ensures held { OnOk result (AreHeld known.new (lists_of found.new)) }
-    ensures err { IfErr result (FailsAfter (lists_of found.old) (listed items.now)) }
-{
-    let mut first = Vec::new(alloc);
-    take_items(alloc, others, &mut first, known, found)?;
-    Ok(())
 }
 
 /// Takes the lists of a sequence as they are written out.

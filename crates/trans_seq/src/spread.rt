@@ -1,10 +1,9 @@
-//! Sequences whose lists have one length: their lists are taken number by number, and what is known to be found is
-//! passed over.
-ghost use Rattle.std.specs.Prelude.{◌≡◌, [], ◌++◌, ℕ, replicate, IsTrue, IfOk, IfErr, OnOk, IfSome};
+//! Items of which each stands once: their lists are taken number by number, and what is known to be found is passed over.
+ghost use Rattle.std.specs.Prelude.{◌≡◌, [], ◌++◌, ℕ, replicate, IsTrue, IfOk, IfErr, OnOk};
 ghost use Rattle.cov_base.specs.Sets.{written, without};
 ghost use Rattle.trans_seq.specs.Found.{Holds, Takes, FailsAfter, lists_of};
 ghost use Rattle.trans_seq.specs.Alone.{IsFront};
-ghost use Rattle.trans_seq.specs.Held.{begun, begun_by, once as item_once, AreSpread, AreHeld};
+ghost use Rattle.trans_seq.specs.Held.{begun, begun_by, once as item_once, AreHeld};
 
 use crate::fault::ExpandFault;
 use crate::found::{Found, list_of, take_list};
@@ -17,7 +16,13 @@ use std::alloc::Global;
 /// Numbers of a set that are gone through without a look at what is known of them.
 const FEW_NUMBERS: u128 = 3;
 
-fn add_once(alloc: Global, item: &Item, times: u32, items: &mut Vec<Item>) -> Result<(), Memory>
+/// Adds an item that stands once, so many times.
+pub(crate) fn add_once(
+    alloc: Global,
+    item: &Item,
+    times: u32,
+    items: &mut Vec<Item>,
+) -> Result<(), Memory>
     ensures { OnOk result
         (items.new.items ≡ items.old.items ++ replicate times (item_once item.now)) }
 {
@@ -54,17 +59,6 @@ pub(crate) fn front_of(alloc: Global, items: &[Item]) -> Result<Front, Memory>
         once,
         size: items.len(),
     })
-}
-
-/// Where each item has lists of one length alone, an item that stands once for each of their values.
-pub(crate) fn spread(alloc: Global, items: &[Item]) -> Result<Option<Vec<Item>>, Memory>
-    ensures { IfOk result (λ spread. IfSome spread (λ others. AreSpread items.now others.items)) }
-{
-    let front = front_of(alloc, items)?;
-    if front.size < items.len() {
-        return Ok(None);
-    }
-    Ok(Some(front.once))
 }
 
 /// The numbers of the set that aren't among those that are known.

@@ -12,6 +12,6 @@ returns-then-is_empty-clause-ok c =
     let none : listed items ≡ [] = none_listed items (subst SomeNoList c.as_slice-items.ensures (c.all_have_list-is_empty.ensures.some c.if-is_empty.true)) in
     subst (λ ws. Takes c.args.found.now c.args.found.now ws) (sym none) (takes_none c.args.found.now c.requires.holds)
 
-pub returns-in-None-clause-held : goal.returns-in-None-clause-held
-returns-in-None-clause-held c =
+pub returns-else-has_few_choices-clause-held : goal.returns-else-has_few_choices-clause-held
+returns-else-has_few_choices-clause-held c =
     on-ok _ _ (λ took. held-more c.args.known.now c.args.found.now c.take_expanded.new.found (listed c.args.seq.now.items) took c.requires.held) c.take_expanded.result c.take_expanded.ensures.ok
