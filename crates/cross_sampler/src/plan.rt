@@ -22,7 +22,7 @@ pub struct CrossPlan {
 pub enum Table {
     /// The bins of each product, by its number: the bins of the last point run fastest.
     Rows(Rows),
-    /// A product's bins are worked out where it is hit.
+    /// A product's bins are worked out where it is hit, and then kept with the record's state as long as there is room.
     Scan,
     /// There are no products: one of the points has no coverage bin.
     Nothing,
