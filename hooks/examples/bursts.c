@@ -1,5 +1,5 @@
 /* Bursts sampled by a call with arguments: a record of version 2. `cc -o bursts bursts.c && ./bursts calls.rec`. The
- * covergroup stands in crates/covd_runs/data/calls.sv. */
+ * covergroup stands in crates/covd_rows/data/calls.sv. */
 #define COVREC_IMPLEMENTATION
 #include "../covrec.h"
 

@@ -1,5 +1,5 @@
 /* A model of a queue of four entries writes the record of a short test: `cc -o fifo fifo.c && ./fifo fifo.rec`. The
- * covergroup stands in crates/covd_runs/data/fifo.sv. */
+ * covergroup stands in crates/covd_rows/data/fifo.sv. */
 #define COVREC_IMPLEMENTATION
 #include "../covrec.h"
 

@@ -1,5 +1,6 @@
 //! Commands of which some calls fail.
-use crate::{Files, all_files, words_of};
+use crate::files::{Files, all_files};
+use crate::words_of;
 use cov_base::{MemLink, MemShelf, Memory};
 use covd_core::{Status, run};
 use std::alloc::Global;

@@ -1,69 +1,38 @@
 //! Street: worked rows.
 //!
-//! Worked rows of whole commands. A line `design TEXT` makes the file `d`, where `\n` stands for a newline; a line
-//! `record HEX` makes the file `r`, and a line `with FROM TO HEX` that record with other bytes in place of those from
-//! FROM up to TO. A line `as NAME` keeps the record as the file NAME too, and a line `blanks NAME COUNT` keeps a file of so
-//! many blanks. A line `failing READS WRITES WORDS` runs the words where these reads of files and these writes fail, each
-//! a list of numbers of calls, counted from 0 and separated by commas, or `-`. Every other line is the words of a `covd`
-//! over these files. Each line is written again; behind a command follow its text and its status.
+//! Worked rows of whole commands. A line `design TEXT` makes the file `d` and a line `dump TEXT` the file `v`, where `\n`
+//! stands for a newline; a line `files NAME` takes for them NAME.cov and NAME.vcd, which a simulator wrote. A line
+//! `bytes HEX` makes the file `r`, and a line `with FROM TO HEX` that record with other bytes in place of those from FROM
+//! up to TO. A line `as NAME` keeps the record as the file NAME too, and a line `blanks NAME COUNT` keeps a file of so many
+//! blanks. A line `failing READS WRITES WORDS` runs the words where these reads of files and these writes fail, each a list
+//! of numbers of calls, counted from 0 and separated by commas, or `-`. What a command behind `keep` or `digest` writes is
+//! the file `r` from then on, and is shown in hexadecimal, or by its length and SHA-256. A line `run WORDS` runs the words
+//! over the files of the folder, and the program ends with the last of their statuses. Every other line is the words of a
+//! `covd` over the files of the lines before. Each line is written again; behind a command follow its text and its status.
 #![tactic(auto)]
 
 mod failing;
+mod files;
 mod hex;
+mod keeping;
 
 use cov_base::{Memory, Pair, SureShelf, SureSource};
-use cov_net::StdSink;
+use cov_net::{FileShelf, StdSink, StdSource};
 use covd_core::{Status, run};
 use failing::failing;
+use files::{Files, all_files, blanks, changed, file, take_files, text_of};
 use hex::bytes_of;
+use keeping::{keep_bytes, keep_digest};
 use std::alloc::Global;
 use std::io;
 use std::io::{Input, Print};
 use std::process::ExitCode;
+use std::rt::Files as System;
 use std::thread::Threads;
 
-/// The two files, the record before other bytes were put in, and the files that are kept.
-#[derive(Drop)]
-pub(crate) struct Files {
-    design: Vec<u8>,
-    record: Vec<u8>,
-    whole: Vec<u8>,
-    kept: Vec<(String, Vec<u8>)>,
-}
-
 /// Why a row isn't done.
-fn out_of_memory(_: Memory) -> io::Error {
+pub(crate) fn out_of_memory(_: Memory) -> io::Error {
     io::Error::from(io::ErrorKind::OutOfMemory)
-}
-
-/// A text with its newlines.
-fn text_of(alloc: Global, row: &str) -> Result<Vec<u8>, Memory> {
-    let mut text = Vec::new(alloc);
-    for (place, part) in row.split("\\n").enumerate() {
-        if place > 0 {
-            text.push(b'\n')?;
-        }
-        text.extend_from_slice(part.as_bytes())?;
-    }
-    Ok(text)
-}
-
-fn file(alloc: Global, name: &str, bytes: &[u8]) -> Result<(String, Vec<u8>), Memory> {
-    Ok((
-        String::from_str(alloc, name)?,
-        Vec::from_slice(alloc, bytes)?,
-    ))
-}
-
-/// A copy of all files.
-pub(crate) fn all_files(alloc: Global, files: &Files) -> Result<Vec<(String, Vec<u8>)>, Memory> {
-    let mut all = Vec::new(alloc);
-    all.push(file(alloc, "d", &files.design)?)?;
-    all.push(file(alloc, "r", &files.record)?)?;
-    for (name, bytes) in &files.kept {
-        all.push(file(alloc, name.as_str(), bytes)?)?;
-    }
-    Ok(all)
 }
 
 pub(crate) fn words_of(alloc: Global, row: &str) -> Result<Vec<String>, Memory> {
@@ -74,32 +43,11 @@ pub(crate) fn words_of(alloc: Global, row: &str) -> Result<Vec<String>, Memory> 
     Ok(words)
 }
 
-/// The record with other bytes in place of some of its own; the record itself where the row can't be read.
-fn changed(alloc: Global, whole: &[u8], row: &str) -> Result<Vec<u8>, Memory> {
-    let mut words = row.split_whitespace();
-    let from = words
-        .next()
-        .and_then(place_of)
-        .unwrap_or(0)
-        .min(whole.len());
-    let to = words
-        .next()
-        .and_then(place_of)
-        .unwrap_or(0)
-        .clamp(from, whole.len());
-    let mut bytes = Vec::from_slice(alloc, &whole[..from])?;
-    if let Some(text) = words.next() {
-        bytes.append(&mut bytes_of(alloc, text)?)?;
-    }
-    bytes.extend_from_slice(&whole[to..])?;
-    Ok(bytes)
+pub(crate) fn show_status<R: Print>(rt: &R, status: Status) -> io::Result<()> {
+    println!(rt; "status {}", status.number())
 }
 
-fn place_of(word: &str) -> Option<usize> {
-    word.parse().ok()
-}
-
-/// Runs the words over the files.
+/// Runs the words over the files of the lines before.
 fn status_of<R: Threads + Sync + Print>(
     rt: &R,
     alloc: Global,
@@ -116,6 +64,21 @@ fn status_of<R: Threads + Sync + Print>(
     Ok(run(rt, alloc, words, &mut shelf, &mut link))
 }
 
+/// Runs the words over the files of the folder.
+fn real_status_of<R: Threads + Sync + System + Print + AllocGlobal>(
+    rt: &R,
+    words: &[String],
+) -> Status {
+    let mut shelf = FileShelf::new(rt);
+    let mut source = StdSource::new(io::empty());
+    let mut sink = StdSink::new(io::writer(rt));
+    let mut link = Pair {
+        source: &mut source,
+        sink: &mut sink,
+    };
+    run(rt, rt.alloc(), words, &mut shelf, &mut link)
+}
+
 /// Writes the row of a command with its answer.
 fn command<R: Threads + Sync + Print>(
     rt: &R,
@@ -126,49 +89,62 @@ fn command<R: Threads + Sync + Print>(
     println!(rt; "$ {row}")?;
     let words = words_of(alloc, row).map_err(out_of_memory)?;
     match status_of(rt, alloc, files, &words) {
-        Ok(status) => println!(rt; "status {}", status.number()),
+        Ok(status) => show_status(rt, status),
         Err(_) => println!(rt; "no answer"),
     }
 }
 
-/// The name of a file and its blanks.
-fn blanks(alloc: Global, row: &str) -> Result<(String, Vec<u8>), Memory> {
-    let (name, count) = row.split_once(' ').unwrap_or((row, "0"));
-    let bytes = vec![in alloc; b' '; place_of(count).unwrap_or(0)]?;
-    Ok((String::from_str(alloc, name)?, bytes))
+/// Writes the row of a command over the files of the folder with its answer.
+fn real_command<R: Threads + Sync + System + Print + AllocGlobal>(
+    rt: &R,
+    row: &str,
+) -> io::Result<Status> {
+    println!(rt; "$ covd {row}")?;
+    let words = words_of(rt.alloc(), row).map_err(out_of_memory)?;
+    let status = real_status_of(rt, &words);
+    println!(rt; "status {}", status.number())?;
+    Ok(status)
 }
 
-/// Takes a row: a file, or a command, whose answer is written.
-fn row<R: Threads + Sync + Print>(
+/// Takes a row of files, if it is one.
+fn file_row<R: System + AllocGlobal>(
+    rt: &R,
+    files: &mut Files,
+    line: &str,
+) -> Result<bool, Memory> {
+    let alloc = rt.alloc();
+    match line.split_once(' ') {
+        Some(("design", text)) => files.design = text_of(alloc, text)?,
+        Some(("dump", text)) => files.dump = text_of(alloc, text)?,
+        Some(("files", name)) => take_files(rt, files, name)?,
+        Some(("bytes", text)) => {
+            files.whole = bytes_of(alloc, text)?;
+            files.record = changed(alloc, &files.whole, "")?;
+        }
+        Some(("with", text)) => files.record = changed(alloc, &files.whole, text)?,
+        Some(("as", name)) => {
+            let kept = file(alloc, name, &files.record)?;
+            files.kept.push(kept)?;
+        }
+        Some(("blanks", row)) => {
+            let kept = blanks(alloc, row)?;
+            files.kept.push(kept)?;
+        }
+        _ => return Ok(false),
+    }
+    Ok(true)
+}
+
+/// Takes a row of a command, whose answer is written.
+fn command_row<R: Threads + Sync + Print>(
     rt: &R,
     alloc: Global,
     files: &mut Files,
     line: &str,
 ) -> io::Result<()> {
     match line.split_once(' ') {
-        Some(("design", text)) => {
-            files.design = text_of(alloc, text).map_err(out_of_memory)?;
-            println!(rt; "{line}")
-        }
-        Some(("record", text)) => {
-            files.whole = bytes_of(alloc, text).map_err(out_of_memory)?;
-            files.record = changed(alloc, &files.whole, "").map_err(out_of_memory)?;
-            println!(rt; "{line}")
-        }
-        Some(("with", text)) => {
-            files.record = changed(alloc, &files.whole, text).map_err(out_of_memory)?;
-            println!(rt; "{line}")
-        }
-        Some(("as", name)) => {
-            let kept = file(alloc, name, &files.record).map_err(out_of_memory)?;
-            files.kept.push(kept)?;
-            println!(rt; "{line}")
-        }
-        Some(("blanks", row)) => {
-            let kept = blanks(alloc, row).map_err(out_of_memory)?;
-            files.kept.push(kept)?;
-            println!(rt; "{line}")
-        }
+        Some(("keep", words)) => keep_bytes(rt, alloc, files, words),
+        Some(("digest", words)) => keep_digest(rt, alloc, files, words),
         Some(("failing", row)) => {
             println!(rt; "{line}")?;
             failing(rt, alloc, files, row)
@@ -177,20 +153,35 @@ fn row<R: Threads + Sync + Print>(
     }
 }
 
-/// Takes all rows.
-fn rows<R: Threads + Sync + Input + Print>(rt: &R, alloc: Global) -> io::Result<()> {
-    let mut files = Files {
-        design: Vec::new(alloc),
-        record: Vec::new(alloc),
-        whole: Vec::new(alloc),
-        kept: Vec::new(alloc),
-    };
-    for line in rt.lines(alloc) {
-        row(rt, alloc, &mut files, line?.as_str())?;
+/// Takes a row: files, or a command.
+fn row<R: Threads + Sync + System + Print + AllocGlobal>(
+    rt: &R,
+    files: &mut Files,
+    line: &str,
+) -> io::Result<()> {
+    if file_row(rt, files, line).map_err(out_of_memory)? {
+        return println!(rt; "{line}");
     }
-    Ok(())
+    command_row(rt, rt.alloc(), files, line)
+}
+
+/// Takes all rows, and answers the status of the last one over the files of the folder.
+fn rows<R: Threads + Sync + System + Input + Print + AllocGlobal>(rt: &R) -> io::Result<Status> {
+    let mut last = Status::Done;
+    let mut files = Files::new(rt.alloc());
+    for line in rt.lines(rt.alloc()) {
+        let line = line?;
+        match line.split_once(' ') {
+            Some(("run", words)) => last = real_command(rt, words)?,
+            _ => row(rt, &mut files, line.as_str())?,
+        }
+    }
+    Ok(last)
 }
 
 fn main(rt: HostRuntime) -> ExitCode {
-    ExitCode::from(if rows(&rt, rt.alloc()).is_ok() { 0 } else { 1 })
+    match rows(&rt) {
+        Ok(status) => ExitCode::from(status.number()),
+        Err(_) => ExitCode::from(1),
+    }
 }
