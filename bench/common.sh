@@ -13,6 +13,12 @@ build_ours() {
     ours=../../crates/$name/out/$name
 }
 
+# Proves and builds crates/bench by a first run of a measurement with these words, and sets `ours` to the command of it.
+build_bench() {
+    build_ours bench "$@"
+    ours=("$ours" "$1")
+}
+
 # Compiles a plain Rust program, and sets `plain` to it.
 build_plain() {
     plain=$room/plain

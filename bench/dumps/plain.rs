@@ -1,4 +1,4 @@
-//! The same as `bench_dumps` in plain Rust, with the same checks, refusals and counts of events, for the designs of
+//! The same as `bench dumps` in plain Rust, with the same checks, refusals and counts of events, for the designs of
 //! dumps.py alone: `plain DESIGN DUMP SCOPE READS RECORDS`.
 use std::collections::HashMap;
 use std::env;

@@ -1,5 +1,5 @@
 #!/usr/bin/env bash
-# Builds the programs and prints what a dump of 32 MiB costs, at crates/vcd_reader (by crates/bench_dumps) and at a plain
+# Builds the programs and prints what a dump of 32 MiB costs, at crates/vcd_reader (by crates/bench) and at a plain
 # Rust program with the same checks and the same counts of events (plain.rs): the time of reading it, and of making a record
 # of it, which reads it too; and the most memory of a run that makes a record, the file's own bytes with it, in sizes of the
 # file. The dumps are of scalars, of vectors, of a clock with a few signals, and of one step of changes.
@@ -10,7 +10,7 @@ cd "$(dirname "$0")"
 source ../common.sh
 runs=${1:-5}
 
-build_ours bench_dumps data/small.sv data/small.vcd top 1 1
+build_bench dumps data/levels.sv data/levels.vcd top 1 1
 build_plain plain.rs
 
 # The most memory of a run, in KiB.
@@ -22,12 +22,12 @@ print(resource.getrusage(resource.RUSAGE_CHILDREN).ru_maxrss)' "$@"
 
 # Milliseconds that reading takes and that a record takes, and the memory of a record in sizes of the dump.
 cost() {
-    local program=$1 text=$2 dump=$3
+    local text=$1 dump=$2 program=("${@:3}")
     local load read made most
-    load=$(least "$runs" "$program" "$text" "$dump" top 0 0)
-    read=$(($(least "$runs" "$program" "$text" "$dump" top 1 0) - load))
-    made=$(($(least "$runs" "$program" "$text" "$dump" top 0 1) - load))
-    most=$(peak "$program" "$text" "$dump" top 0 1)
+    load=$(least "$runs" "${program[@]}" "$text" "$dump" top 0 0)
+    read=$(($(least "$runs" "${program[@]}" "$text" "$dump" top 1 0) - load))
+    made=$(($(least "$runs" "${program[@]}" "$text" "$dump" top 0 1) - load))
+    most=$(peak "${program[@]}" "$text" "$dump" top 0 1)
     awk -v r="$read" -v m="$made" -v k="$most" -v s="$(stat -c %s "$dump")" 'BEGIN {
         printf "read %5.0f ms, record %5.0f ms, %.2f times its size", r / 1e6, m / 1e6, k * 1024 / s
     }'
@@ -37,9 +37,9 @@ for kind in scalars vectors bench changes; do
     text=$room/$kind.sv
     dump=$room/$kind.vcd
     python3 dumps.py "$kind" 33554432 "$dump" "$text"
-    proved=$(cost "$ours" "$text" "$dump")
+    proved=$(cost "$text" "$dump" "${ours[@]}")
     count=$(cat "$room/printed")
-    baseline=$(cost "$plain" "$text" "$dump")
+    baseline=$(cost "$text" "$dump" "$plain")
     [ "$count" = "$(cat "$room/printed")" ] || echo "$kind: $count events here, $(cat "$room/printed") there"
     printf '%-8s %7d events: %s; plain %s\n' "$kind" "$count" "$proved" "$baseline"
 done

@@ -1,4 +1,4 @@
-// The guards and points of crates/bench_expressions in plain Rust: the same trees, walked in the same way.
+// The guards and points of crates/bench in plain Rust: the same trees, walked in the same way.
 #[derive(Clone, Copy)]
 struct Typ {
     width: u8,

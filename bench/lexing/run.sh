@@ -1,12 +1,12 @@
 #!/usr/bin/env bash
 # Builds both programs and prints what lexing costs on texts of 1 MiB of several shapes, at crates/cov_lexer (by
-# crates/bench_lexing) and at a plain Rust scan of the same bytes (scan.rs). Needs rt, rustc and python3.
+# crates/bench) and at a plain Rust scan of the same bytes (scan.rs). Needs rt, rustc and python3.
 # A word, if there is one, is the number of rounds of each run. Run it on a machine with nothing else to do.
 cd "$(dirname "$0")"
 source ../common.sh
 rounds=${1:-20}
 
-build_ours bench_lexing data/small.sv 1
+build_bench lexing data/points.sv 1
 build_plain scan.rs
 
 python3 - "$room" <<'TEXTS'
@@ -24,7 +24,7 @@ keep("design", design * (size // len(design)))
 TEXTS
 
 for shape in comment operators names literals design; do
-    proved=$(least 7 "$ours" "$room/$shape.sv" "$rounds")
+    proved=$(least 7 "${ours[@]}" "$room/$shape.sv" "$rounds")
     count=$(cat "$room/printed")
     baseline=$(least 7 "$plain" "$room/$shape.sv" "$rounds")
     other=$(cat "$room/printed")

@@ -1,4 +1,4 @@
-//! The same as `bench_lexing` in plain Rust, with the same tokens and the same checks of keywords, names and literals, the
+//! The same as `bench lexing` in plain Rust, with the same tokens and the same checks of keywords, names and literals, the
 //! form of each literal included:
 //! `scan FILE ROUNDS`.
 use std::env;

@@ -1,4 +1,4 @@
-//! The same as `bench_messages` in plain Rust, with the same checks: `plain ROWS WRITES READS`.
+//! The same as `bench messages` in plain Rust, with the same checks: `plain ROWS WRITES READS`.
 use std::env;
 
 #[derive(Clone, Copy)]

@@ -1,5 +1,5 @@
 #!/usr/bin/env bash
-# Builds crates/bench_parsing and prints what lexing and parsing of design texts cost: the time on texts of 64 KiB,
+# Builds crates/bench and prints what lexing and parsing of design texts cost: the time on texts of 64 KiB,
 # 256 KiB and 1 MiB, how it grows from one to the next, the peak of memory for each byte of the text, and the
 # instructions a token at each length. The last four texts are made to be dear: long types of many variables, 1,024
 # operators in each expression, 64 levels in each, and one declaration of as many variables as there is room for. Needs
@@ -9,7 +9,7 @@ cd "$(dirname "$0")"
 source ../common.sh
 rounds=${1:-20}
 
-build_ours bench_parsing data/small.sv 1 1
+build_bench parsing data/points.sv 1 1
 
 python3 - "$room" <<'TEXTS'
 import sys
@@ -40,17 +40,17 @@ peak() {
     echo $(($(cat "$room/peak") * 1024))
 }
 
-least_peak=$(peak "$ours" ../../crates/bench_parsing/data/small.sv 1 1)
+least_peak=$(peak "${ours[@]}" ../../crates/bench/data/points.sv 1 1)
 
 for shape in bins values expressions crosses spans operators levels variables; do
     before=0
     for size in 65536 262144 1048576; do
         text="$room/$shape$size.sv"
-        once=$(least 5 "$ours" "$text" 1 1)
-        lexing=$(($(least 5 "$ours" "$text" $((rounds + 1)) 1) - once))
-        parsing=$(($(least 5 "$ours" "$text" 1 $((rounds + 1))) - once))
+        once=$(least 5 "${ours[@]}" "$text" 1 1)
+        lexing=$(($(least 5 "${ours[@]}" "$text" $((rounds + 1)) 1) - once))
+        parsing=$(($(least 5 "${ours[@]}" "$text" 1 $((rounds + 1))) - once))
         tokens=$(awk '{ print $1 }' "$room/printed")
-        memory=$(($(peak "$ours" "$text" 1 1) - least_peak))
+        memory=$(($(peak "${ours[@]}" "$text" 1 1) - least_peak))
         awk -v shape="$shape" -v size="$size" -v a="$lexing" -v b="$parsing" -v n="$rounds" -v c="$tokens" -v before="$before" -v memory="$memory" 'BEGIN {
             printf "%-12s %8d bytes %7d tokens: lexing %7.2f ms, parsing %7.2f ms, memory %4.0f bytes a byte", shape, size, c, a / n / 1e6, b / n / 1e6, memory / size
             if (before > 0) printf ", %.2f times the one before", b / before
@@ -61,9 +61,9 @@ for shape in bins values expressions crosses spans operators levels variables; d
     if command -v valgrind >/dev/null; then
         for size in 65536 262144 1048576; do
             text="$room/$shape$size.sv"
-            one=$(instructions "$ours" "$text" 1 1)
-            lexed=$(instructions "$ours" "$text" 2 1)
-            parsed=$(instructions "$ours" "$text" 1 2)
+            one=$(instructions "${ours[@]}" "$text" 1 1)
+            lexed=$(instructions "${ours[@]}" "$text" 2 1)
+            parsed=$(instructions "${ours[@]}" "$text" 1 2)
             tokens=$(awk '{ print $1 }' "$room/printed")
             awk -v size="$size" -v a="$((lexed - one))" -v b="$((parsed - one))" -v c="$tokens" 'BEGIN {
                 printf "%12s %8d bytes, instructions a token: lexing %.0f, parsing %.0f\n", "", size, a / c, b / c

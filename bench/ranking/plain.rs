@@ -1,5 +1,5 @@
-// The plain double loop: `plain TESTS ENTRIES SPAN WANT ROUNDS` makes the tests of bench_ranking and asks each test that
-// isn't taken for its gain, for each row. It prints what bench_ranking does.
+// The plain double loop: `plain TESTS ENTRIES SPAN WANT ROUNDS` makes the tests of bench ranking and asks each test that
+// isn't taken for its gain, for each row. It prints what bench ranking does.
 
 struct Plan {
     tests: u16,

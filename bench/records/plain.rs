@@ -1,4 +1,4 @@
-//! The same as `bench_records` in plain Rust, with the same checks and refusals: `plain FILE READS WRITES`.
+//! The same as `bench records` in plain Rust, with the same checks and refusals: `plain FILE READS WRITES`.
 use std::env;
 use std::fs;
 

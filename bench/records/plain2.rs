@@ -1,4 +1,4 @@
-//! The same as `bench_records` in plain Rust at records of version 2, with the same checks, refusals and lists:
+//! The same as `bench records` in plain Rust at records of version 2, with the same checks, refusals and lists:
 //! `plain FILE READS WRITES`.
 use std::env;
 use std::fs;

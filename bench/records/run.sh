@@ -1,13 +1,13 @@
 #!/usr/bin/env bash
 # Builds the programs and prints what reading and writing a record of 8 MiB cost, at crates/record_codec (by
-# crates/bench_records) and at a plain Rust reader and writer with the same checks (plain.rs, for version 2 plain2.rs), in
+# crates/bench) and at a plain Rust reader and writer with the same checks (plain.rs, for version 2 plain2.rs), in
 # time and in instructions for each event. Needs rt, rustc, python3 and valgrind. A word, if there is one, is the number
 # of rounds of each run. Run it on a machine with nothing else to do.
 cd "$(dirname "$0")"
 source ../common.sh
 rounds=${1:-20}
 
-build_ours bench_records data/t1.rec 1 1
+build_bench records data/t1.rec 1 1
 
 # For version 1 one signal of 64 bits and one instance; each Sample stands behind two Sets. For version 2 the instance has
 # two arguments, so each Sample has a list of its own.
@@ -40,15 +40,15 @@ RECORD
 
 # The time of the rounds alone: less that of a run that makes none.
 cost() {
-    local program=$1 file=$2 reads=$3 writes=$4
-    echo $(($(least 7 "$program" "$file" "$reads" "$writes") - $(least 7 "$program" "$file" 0 0)))
+    local file=$1 reads=$2 writes=$3 program=("${@:4}")
+    echo $(($(least 7 "${program[@]}" "$file" "$reads" "$writes") - $(least 7 "${program[@]}" "$file" 0 0)))
 }
 
 # The instructions for an event that one more reading, or writing, takes.
 for_event() {
-    local program=$1 file=$2 reads=$3 writes=$4
-    local more=$(($(instructions "$program" "$file" $((reads * 2)) $((writes * 2))) - $(instructions "$program" "$file" "$reads" "$writes")))
-    awk -v more="$more" -v c="$("$program" "$file" 0 0)" 'BEGIN { printf "%.1f", more / c }'
+    local file=$1 reads=$2 writes=$3 program=("${@:4}")
+    local more=$(($(instructions "${program[@]}" "$file" $((reads * 2)) $((writes * 2))) - $(instructions "${program[@]}" "$file" "$reads" "$writes")))
+    awk -v more="$more" -v c="$("${program[@]}" "$file" 0 0)" 'BEGIN { printf "%.1f", more / c }'
 }
 
 for version in 1 2; do
@@ -57,13 +57,13 @@ for version in 1 2; do
     for work in reading writing; do
         reads=1 writes=0
         [ "$work" = reading ] || { reads=0 writes=1; }
-        proved=$(cost "$ours" "$file" $((reads * rounds)) $((writes * rounds)))
+        proved=$(cost "$file" $((reads * rounds)) $((writes * rounds)) "${ours[@]}")
         count=$(cat "$room/printed")
-        baseline=$(cost "$plain" "$file" $((reads * rounds)) $((writes * rounds)))
+        baseline=$(cost "$file" $((reads * rounds)) $((writes * rounds)) "$plain")
         [ "$count" = "$(cat "$room/printed")" ] || echo "$work: the programs count other events"
         awk -v version="$version" -v work="$work" -v a="$proved" -v b="$baseline" -v n="$rounds" -v c="$count" 'BEGIN {
             printf "version %d, %s %d events: %.2f ms, plain %.2f ms, ratio %.2f\n", version, work, c, a / n / 1e6, b / n / 1e6, a / b
         }'
-        echo "version $version, $work: $(for_event "$ours" "$file" $reads $writes) instructions an event, plain $(for_event "$plain" "$file" $reads $writes)"
+        echo "version $version, $work: $(for_event "$file" $reads $writes "${ours[@]}") instructions an event, plain $(for_event "$file" $reads $writes "$plain")"
     done
 done

@@ -1,4 +1,4 @@
-//! The same as `bench_sampling` in plain Rust: `plain BINS RECORD WORD ROUNDS`. The bins stand in a plain file (cases.py);
+//! The same as `bench sampling` in plain Rust: `plain BINS RECORD WORD ROUNDS`. The bins stand in a plain file (cases.py);
 //! a point has an index of cuts with a table of buckets, or its bins are asked one after another where an index would be
 //! large; lists of two values are rows of a sorted table; a cross has a row for each product, or, where its bins pick
 //! products, keeps the bins of each product that was hit.

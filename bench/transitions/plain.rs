@@ -1,5 +1,5 @@
 // The automata of crates/trans_auto in plain Rust: the same masks, cells and order of work, with bounds checks and
-// wrapping sums as rustc writes them. Its words and what it prints are those of crates/bench_transitions.
+// wrapping sums as rustc writes them. Its words and what it prints are those of crates/bench.
 use std::env;
 
 #[derive(Clone, Copy)]

@@ -1,4 +1,4 @@
-//! The same as `bench_turns` with a plain mutex: `mutex THREADS TURNS`.
+//! The same as `bench turns` with a plain mutex: `mutex THREADS TURNS`.
 use std::sync::Mutex;
 use std::{env, thread};
 

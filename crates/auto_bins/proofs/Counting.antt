@@ -4,7 +4,7 @@ use Rattle.std.specs.Option.{SomeIff}
 use Rattle.std.proofs.lemmas.Int.{ints}
 use Rattle.std.proofs.lemmas.List.{map-append}
 use Rattle.std.proofs.Math.Nat.{mul-le-mul_right, mul-div-le, suc-mul, le-div_iff_mul-le}
-use Rattle.auto_bins.specs.Automatic.{automatic_parts, automatic_ranges, first_number, last_number, ends_of, AllInOrder}
+use Rattle.auto_bins.specs.Automatic.{automatic_parts, automatic_ranges, last_number, ends_of, AllInOrder}
 use Rattle.cov_base.specs.Sets.{count_from, size, span, natural}
 use Rattle.cov_base.proofs.Members.{size_of_some}
 use Rattle.bin_spec.specs.Parts.{share, part, parts, places}

@@ -1,6 +1,6 @@
 -- From the answers of the steps to that of compiling.
-use Rattle.std.proofs.Common.{◌≡◌, ◌≢◌, ℕ, List, ap}
-use Rattle.std.specs.Prelude.{Result, Ok, Err}
+use Rattle.std.proofs.Common.{◌≢◌, ℕ, List}
+use Rattle.std.specs.Prelude.{Ok, Err}
 use Rattle.cov_tree.specs.declared.declarations.Decl.{Decl}
 use Rattle.cov_lexer.specs.declared.token.Token.{Token}
 use Rattle.cov_lexer.specs.declared.token.LexFault.{LexFault}
@@ -15,9 +15,8 @@ use Rattle.design_data.specs.declared.design.Design.{Design}
 use Rattle.elab_base.specs.declared.fault.ElabFault.{ElabFault}
 use Rattle.elab_base.specs.declared.fault.ElabFault.TheVariants as elaborating
 use Rattle.cov_design.specs.Elaboration.{Elaborates, GivesDesign}
-use Rattle.cov_compile.specs.declared.fault.CompileFault.{CompileFault}
 use Rattle.cov_compile.specs.declared.fault.CompileFault.TheVariants.{Lex, Parse, Elab}
-use Rattle.cov_compile.specs.Compiling.{IsDesignFault, Compiles}
+use Rattle.cov_compile.specs.Compiling.{Compiles}
 
 pub unlexed : (text : List ℕ) (fault : LexFault) → (fault ≢ lexing.Memory → IsLexFault text fault) → Compiles text (Err (Lex fault))
 unlexed text lexing.Memory h = λ some. absurd (some tt)

@@ -1,5 +1,5 @@
 -- A text has one design or one fault.
-use Rattle.std.proofs.Common.{◌≡◌, ℕ, List, length, true, false, refl, sym, ap, subst, ◌∙◌}
+use Rattle.std.proofs.Common.{◌≡◌, ℕ, List, true, false, sym, ap, subst, ◌∙◌}
 use Rattle.std.specs.Prelude.{Result, Ok, Err}
 use Rattle.std.proofs.lemmas.Bool.{false≢true}
 use Rattle.cov_tree.specs.declared.declarations.Decl.{Decl}

@@ -17,7 +17,7 @@ use Rattle.elab_base.specs.declared.fault.ElabKind.TheVariants as kind
 use Rattle.elab_base.specs.Gives.{needs, each_at}
 use Rattle.elab_base.proofs.Keeps.{bind_ok, ok_is, needs_ok, and_first, and_second}
 use Rattle.elab_values.specs.declared.made.Made.{Made}
-use Rattle.elab_transitions.specs.Removal.{removing_of}
+use Rattle.elab_points.specs.Removal.{removing_of}
 use Rattle.elab_points.specs.Left.{has_some}
 use Rattle.elab_points.proofs.Sequences.{HasSeq, MadeHasSeq}
 use Rattle.cov_design.specs.declared.counts.Counts.{Counts}

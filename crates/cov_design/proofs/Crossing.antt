@@ -1,9 +1,8 @@
 -- What is known where a point or a cross is made: no item has more bins than it may have, and a cross has no more names
 -- and products than it may have.
-use Rattle.std.proofs.Common.{◌≡◌, ◌∙◌, ℕ, ◌+◌, ◌≤◌, List, [], ◌∷◌, ◌++◌, length, map, refl, sym, ap, subst, arith, Option, Some, None, Ok}
-use Rattle.std.specs.Prelude.{nat_lt}
+use Rattle.std.proofs.Common.{◌≡◌, ℕ, ◌+◌, ◌≤◌, List, [], ◌∷◌, ◌++◌, length, sym, subst, arith, Ok}
 use Rattle.std.proofs.lemmas.List.Elements.{All-push, All-nil}
-use Rattle.cov_ground.specs.Limits.{most_items, most_bins, most_points, most_products}
+use Rattle.cov_ground.specs.Limits.{most_bins, most_points, most_products}
 use Rattle.cov_tree.specs.declared.groups.PointDecl.{PointDecl}
 use Rattle.cov_tree.specs.declared.groups.CrossDecl.{CrossDecl}
 use Rattle.cov_tree.specs.declared.groups.Member.{Member}
@@ -14,7 +13,6 @@ use Rattle.cross_select.specs.Products.{product_of}
 use Rattle.design_data.specs.declared.infos.ItemInfo.{ItemInfo}
 use Rattle.design_data.specs.Tested.{HaveFewBins}
 use Rattle.elab_base.specs.declared.fault.ElabKind.TheVariants as kind
-use Rattle.elab_base.specs.Gives.{needs, each_at}
 use Rattle.elab_base.specs.Steps.{unused}
 use Rattle.elab_base.proofs.Keeps.{bind_ok, ok_is, each_keeps}
 use Rattle.elab_decls.specs.declared.outside.Outside.{Outside}

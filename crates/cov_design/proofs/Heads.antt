@@ -1,5 +1,5 @@
 -- What is known at the head of a point: the ranges of its options.
-use Rattle.std.proofs.Common.{◌≡◌, ℕ, List, ap, sym, subst, Option, Some, None, Ok}
+use Rattle.std.proofs.Common.{◌≡◌, ℕ, List, ap, sym, subst, Ok}
 use Rattle.name_map.specs.Names.{Pairs}
 use Rattle.cov_tree.specs.declared.groups.Member.{Member}
 use Rattle.cov_tree.specs.declared.groups.PointDecl.{PointDecl}

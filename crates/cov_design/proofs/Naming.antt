@@ -1,5 +1,5 @@
 -- Names with their places, one after the other.
-use Rattle.std.proofs.Common.{◌≡◌, ◌∙◌, ℕ, ◌+◌, ◌<◌, ◌≤◌, List, [], ◌∷◌, length, drop, get_or, ap, sym}
+use Rattle.std.proofs.Common.{◌≡◌, ◌∙◌, ℕ, ◌+◌, ◌<◌, ◌≤◌, List, ◌∷◌, length, drop, get_or, ap, sym}
 use Rattle.std.proofs.lemmas.List.{drop_all, drop_more}
 use Rattle.name_map.specs.Names.{Pairs, with_name, with_names}
 use Rattle.cov_design.specs.Items.{places_from}

@@ -1,8 +1,8 @@
 -- The items of an instance have distinct names.
-use Rattle.std.proofs.Common.{◌≡◌, ◌∙◌, ℕ, ◌+◌, List, [], ◌∷◌, ◌++◌, length, refl, sym, ap, subst, Bool, true, false, cond, arith, Option, Some, None, Ok}
+use Rattle.std.proofs.Common.{◌≡◌, ◌∙◌, ℕ, ◌+◌, List, [], ◌∷◌, ◌++◌, length, refl, sym, ap, subst, Bool, true, false, cond, arith, Option, Ok}
 use Rattle.std.specs.Prelude.{not, is_some, nat_lt}
 use Rattle.std.specs.List.{AllByRecursion}
-use Rattle.cov_ground.specs.Limits.{most_instances, most_items}
+use Rattle.cov_ground.specs.Limits.{most_instances}
 use Rattle.name_map.specs.Names.{Pairs, meaning_of, with_name}
 use Rattle.cov_tree.specs.declared.expr.Expr.{Expr}
 use Rattle.cov_tree.specs.declared.groups.Member.{Member}
@@ -15,9 +15,7 @@ use Rattle.cov_tree.specs.declared.declarations.Decl.TheVariants as decls
 use Rattle.const_eval.specs.Scopes.{Levels}
 use Rattle.const_eval.specs.Terms.{typ_of}
 use Rattle.const_eval.specs.Binding.{has_width}
-use Rattle.cov_options.specs.declared.options.Options.{Options}
 use Rattle.cov_options.specs.declared.values.Level.TheVariants as levels
-use Rattle.design_data.specs.declared.infos.InstInfo.{InstInfo}
 use Rattle.design_data.specs.declared.infos.ItemInfo.{ItemInfo}
 use Rattle.elab_base.specs.declared.fault.ElabKind.TheVariants as kind
 use Rattle.elab_base.specs.declared.names.What.{What}

@@ -1,12 +1,12 @@
 -- The bins and intervals of a design, counted over the bins that are left.
-use Rattle.std.specs.Prelude.{ℕ, ◌+◌, ℤ, List, length, nat_le, nat_lt, Bool, true, ◌&&◌, Result, Ok, Err}
+use Rattle.std.specs.Prelude.{ℕ, ◌+◌, ℤ, List, length, nat_le, nat_lt, Bool, true, ◌&&◌, Result, Ok}
 use Rattle.std.specs.List.{list_all}
 use Rattle.cov_ground.specs.Limits.{most_ranges, most_design_bins, most_design_ranges}
 use Rattle.design_data.specs.declared.infos.BinRule.{BinRule}
 use Rattle.design_data.specs.declared.infos.BinRule.TheVariants.{Values, Patterns, Trans, Default, DefaultValues, DefaultSequence, Picked, Product}
 use Rattle.design_data.specs.Limits.{ranges_of}
 use Rattle.elab_base.specs.declared.fault.ElabKind.TheVariants as kind
-use Rattle.elab_base.specs.Gives.{Refusal, ◌>>=◌, needs, each}
+use Rattle.elab_base.specs.Gives.{Refusal, needs, each}
 use Rattle.elab_values.specs.declared.made.Made.{Made}
 use Rattle.cov_design.specs.declared.counts.Counts.{Counts}
 

@@ -1,5 +1,5 @@
 -- The crosses of an instance, and the implicit points of their signals (IEEE 1800-2017, 19.6).
-use Rattle.std.specs.Prelude.{ℕ, List, [], ◌∷◌, ◌++◌, length, map, codes, Option, Some, None, Result, Ok}
+use Rattle.std.specs.Prelude.{ℕ, List, [], ◌∷◌, ◌++◌, length, codes, Option, Some, None, Result, Ok}
 use Rattle.std.specs.Fmt.{decimal}
 use Rattle.name_map.specs.Names.{Pairs}
 use Rattle.cov_tree.specs.Exprs.{named}
@@ -10,7 +10,7 @@ use Rattle.cov_options.specs.declared.values.Level.TheVariants as levels
 use Rattle.design_data.specs.declared.infos.ItemInfo.{ItemInfo}
 use Rattle.design_data.specs.declared.infos.ItemShape.TheVariants.{Cross}
 use Rattle.elab_base.specs.declared.names.What.{What}
-use Rattle.elab_base.specs.Gives.{Refusal, ◌>>=◌, each}
+use Rattle.elab_base.specs.Gives.{Refusal, each}
 use Rattle.elab_base.specs.Steps.{unused, guard_in}
 use Rattle.elab_decls.specs.declared.outside.Outside.{Outside}
 use Rattle.elab_decls.specs.Options.{options_set, cross_defaults}

@@ -1,6 +1,6 @@
 -- What is known of what was declared: all limits hold, each bin has something left, and the counts are those of what was
 -- declared.
-use Rattle.std.specs.Prelude.{◌≡◌, ℕ, ◌<◌, ◌≤◌, List, length}
+use Rattle.std.specs.Prelude.{◌≡◌, ℕ, ◌<◌, ◌≤◌, length}
 use Rattle.std.specs.List.{AllByRecursion}
 use Rattle.cov_ground.specs.Limits.{most_instances, most_items, most_design_bins, most_design_ranges}
 use Rattle.design_data.specs.declared.infos.InstInfo.{InstInfo}

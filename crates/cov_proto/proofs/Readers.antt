@@ -4,7 +4,7 @@ use Rattle.std.proofs.Common.{◌≡◌, ◌⊎◌, ℕ, ◌+◌, ◌^◌, ◌<�
 use mathlib.Core.Bool.{◌&&◌}
 use Rattle.std.specs.Prelude.{replicate}
 use Rattle.std.specs.Int.{Width, w32, w64, byte_len, from_be_bytes, to_be_bytes}
-use Rattle.std.proofs.lemmas.Bool.{eqb-true, ltb-false, ltb-true, leb-true, le-ltb, le-leb, lt-ltb, ne_eqb}
+use Rattle.std.proofs.lemmas.Bool.{eqb-true, ltb-false, ltb-true, leb-true, le-ltb, le-leb, ne_eqb}
 use Rattle.std.proofs.lemmas.List.{append-nil, nil_from_length, take_at, drop_at, take-append-drop, length-take}
 use Rattle.cov_proto.specs.Reading.{◌>>=◌, Reader, Form, number_at, number_within, digest_at, ended, nothing, only, before, pair, shaped, any_bytes}
 use Rattle.record_codec.specs.Reading.{AreBytes}

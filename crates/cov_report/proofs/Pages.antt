@@ -1,5 +1,5 @@
 -- Tests that are read page by page.
-use Rattle.std.proofs.Common.{◌≡◌, ℕ, ◌+◌, ◌-◌, ◌<◌, ◌≤◌, List, ◌++◌, length, map, take, drop, inl, inr, refl, sym, ap, ◌∙◌, arith}
+use Rattle.std.proofs.Common.{◌≡◌, ℕ, ◌+◌, ◌-◌, ◌≤◌, List, ◌++◌, length, map, take, drop, inl, inr, sym, ap, ◌∙◌, arith}
 use Rattle.std.proofs.lemmas.List.{take-append-drop, take-take, drop-take, take_all, map-append}
 use Rattle.ucis_model.specs.declared.answers.Answer.TheVariants as answers
 use Rattle.ucis_model.specs.declared.answers.HistoryNode.{HistoryNode}

@@ -1,11 +1,11 @@
 -- The rows of a ranking have tests that exist.
-use Rattle.std.proofs.Common.{◌≡◌, ℕ, ◌<◌, List, [], ◌∷◌, ◌++◌, length, map, inl, inr, sym, subst}
+use Rattle.std.proofs.Common.{◌≡◌, ℕ, ◌<◌, List, [], ◌∷◌, length, map, inl, inr, subst}
 use Rattle.std.specs.Prelude.{All}
 use Rattle.std.proofs.lemmas.List.Elements.{All-nil, All-cons, All-append}
 use Rattle.std.proofs.lemmas.List.{length-map}
 use Rattle.tally.specs.Rows.{rows_from}
 use Rattle.tally.specs.declared.ranked.Ranked.{Ranked}
-use Rattle.rank_report.specs.Ranking.{Test, IsNext, IsGreedy}
+use Rattle.rank_report.specs.Ranking.{Test, IsGreedy}
 use Rattle.rank_report.specs.Ranking.IsGreedy.{none, then}
 use Rattle.ucis_model.specs.declared.answers.Answer.TheVariants as answers
 use Rattle.design_data.specs.declared.design.Design.{Design}

@@ -1,6 +1,6 @@
 -- The report of a history: how many tests it has and which, the coverage of all, of each type, of its instances and of
 -- their items, the illegal bins that were hit, and the ranking of the tests.
-use Rattle.std.specs.Prelude.{ℕ, List, [], ◌∷◌, ◌++◌, codes, length, map, filter, Bool, ◌&&◌, if◌then◌else◌, nat_lt, bytes_eq}
+use Rattle.std.specs.Prelude.{ℕ, List, [], ◌++◌, codes, length, map, Bool, ◌&&◌, if◌then◌else◌, nat_lt, bytes_eq}
 use Rattle.std.specs.List.{flat_map, list_any}
 use Rattle.tally.specs.Rows.{rows_from}
 use Rattle.tally.specs.declared.ranked.Ranked.{Ranked}
@@ -13,7 +13,7 @@ use Rattle.ucis_model.specs.Paths.{node_at, path_of}
 use Rattle.cov_history.specs.declared.entry.Entry.{Entry}
 use Rattle.cov_history.specs.Tallies.{tally}
 use Rattle.cov_history.specs.Nodes.{children, bins_under, kind_of_bin, is_illegal}
-use Rattle.cov_history.specs.Coverage.{count_at, coverage}
+use Rattle.cov_history.specs.Coverage.{count_at}
 use Rattle.cov_history.specs.Ranking.{ranking}
 use Rattle.cov_history.specs.History.{Test, design_of, tests_of, count_of}
 use Rattle.cov_history.specs.Answers.{cover_row, nodes_at, excluded_at, wanted_at}

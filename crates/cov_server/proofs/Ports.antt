@@ -8,14 +8,14 @@ use Rattle.cov_history.specs.declared.entry.Entry.{Entry}
 use Rattle.cov_history.specs.declared.entry.Event.TheVariants as event
 use Rattle.cov_history.specs.declared.asks.Ask.{Ask as At}
 use Rattle.cov_history.specs.declared.asks.Ask.TheVariants as at
-use Rattle.cov_history.specs.Answers.{by, is_made, entries_of, made}
+use Rattle.cov_history.specs.Answers.{by, is_made, entries_of}
 use Rattle.cov_history.specs.History.{design_of, contents}
 use Rattle.cov_history.specs.Turns.{PortTurn, PortTurns, PortWants, Grown, ServesOrStops}
 use Rattle.store_core.specs.declared.asks.Ask.{Ask}
 use Rattle.store_core.specs.declared.asks.Ask.TheVariants as ask
 use Rattle.store_core.specs.Asks.{Meets}
 use Rattle.turn_lock.specs.History.{AtMostOneMore}
-use Rattle.session_table.proofs.Single.{Owns, served_turn, served_grown}
+use Rattle.cov_session.proofs.Single.{served_turn, served_grown}
 
 -- ---- histories that begin with one another
 

@@ -6,7 +6,7 @@ ghost use Rattle.turn_lock.specs.Seats.{IsSeatOf, IsSame, seen, own, home};
 
 use crate::SharedPort;
 use cov_base::Memory;
-use session_table::Port;
+use cov_session::Port;
 use std::sync::Wait;
 use std::thread::Threads;
 use store_core::{Ask, Basis, Core};

@@ -1,8 +1,8 @@
 -- One part of a session after the other.
-use Rattle.std.proofs.Common.{◌≡◌, ◌⊎◌, inl, inr, ℕ, ◌+◌, ◌≤◌, List, [], ◌∷◌, ◌++◌, length, take, refl, sym, ap, ◌∙◌, subst, append_assoc, append-nil, arith, length-append, Option, Some, None, Bool, true, false, rules}
+use Rattle.std.proofs.Common.{◌≡◌, ℕ, ◌+◌, List, [], ◌∷◌, ◌++◌, take, refl, sym, ap, ◌∙◌, subst, append_assoc, append-nil, arith, length-append, Option, Some, None, Bool, true, false, rules}
 use Rattle.std.specs.Prelude.{All}
 use Rattle.std.specs.List.{flat_map}
-use Rattle.std.proofs.lemmas.Grind.{flat_map-append, common_steps}
+use Rattle.std.proofs.lemmas.Grind.{flat_map-append}
 use Rattle.std.proofs.lemmas.List.Elements.{All-append}
 use Rattle.cov_spec.specs.Told.{Grows, Shrinks}
 use Rattle.design_data.specs.declared.design.Design.{Design}
@@ -12,7 +12,7 @@ use Rattle.cov_proto.specs.Frames.{IsBody, frame, frames}
 use Rattle.session_table.specs.Table.{is_bye}
 use Rattle.session_table.proofs.Growing.{grown_then}
 use Rattle.session_table.proofs.Later.{serves_later, serves_then}
-use Rattle.cov_session.specs.Streams.{NoBye, LastBye, NoByeBefore, WritesFront, reply_frame}
+use Rattle.cov_session.specs.Streams.{reply_frame}
 use Rattle.cov_session.specs.Moments.{World, Goes, Ran, RanToBye, RanToFault, Frame, Whole, Front}
 
 pub shrinks_then : (a b c : Option (List ℕ)) (x y : List ℕ) → Shrinks a b x → Shrinks b c y → Shrinks a c (x ++ y)

@@ -1,20 +1,19 @@
 -- The end of a session, and one read.
-use Rattle.std.proofs.Common.{◌≡◌, ℕ, ◌+◌, ◌-◌, ◌<◌, ◌≤◌, List, [], ◌∷◌, ◌++◌, length, take, drop, refl, sym, ap, ◌∙◌, subst, append_assoc, append-nil, arith, length-append, Option, Some, None, Bool, false, rules, inl, inr}
-use Rattle.std.specs.Io.KnownBytes.{IsAtEnd}
-use Rattle.cov_spec.specs.Told.{Grows, Shrinks, Stays}
+use Rattle.std.proofs.Common.{◌≡◌, ℕ, ◌+◌, ◌-◌, ◌<◌, ◌≤◌, List, [], ◌∷◌, ◌++◌, length, refl, sym, ap, ◌∙◌, subst, append-nil, arith, length-append, Option, Some, None, false, inl, inr}
+use Rattle.cov_spec.specs.Told.{Shrinks, Stays}
 use Rattle.design_data.specs.declared.design.Design.{Design}
 use Rattle.cov_history.specs.declared.entry.Entry.{Entry}
 use Rattle.cov_proto.specs.declared.replies.Reply.{Reply}
-use Rattle.cov_proto.specs.Frames.{IsBody, frames, IsTorn, HasBadLength}
+use Rattle.cov_proto.specs.Frames.{IsBody, IsTorn, HasBadLength}
 use Rattle.session_table.specs.Table.{is_bye}
-use Rattle.session_table.specs.Serves.{Place, Serves}
+use Rattle.session_table.specs.Serves.{Serves}
 use Rattle.session_table.proofs.Growing.{grown_refl}
 use Rattle.cov_session.specs.declared.ended.Ended.{Ended}
 use Rattle.cov_session.specs.declared.ended.Ended.TheVariants as ended
-use Rattle.cov_session.specs.Streams.{Rest, Out, Took, Cut, Outside, Session, NoBye, begins_at}
+use Rattle.cov_session.specs.Streams.{Rest, Out, Took, Outside, Session, begins_at}
 use Rattle.cov_session.specs.Moments.{World, Goes, Ran, RanToBye, RanToFault}
 use Rattle.cov_session.specs.Fills.{longest_frame, Filled}
-use Rattle.cov_session.proofs.Chain.{one_all, none_all, ran_then, bye_then, fault_then}
+use Rattle.cov_session.proofs.Chain.{none_all, ran_then, bye_then, fault_then}
 use Rattle.cov_session.proofs.Parts.{grows_none, shrinks_none}
 
 abbrev pub outside : World → Outside

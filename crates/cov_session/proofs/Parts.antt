@@ -1,23 +1,21 @@
 -- One frame of a stream.
-use Rattle.std.proofs.Common.{◌≡◌, ℕ, ◌+◌, ◌-◌, ◌<◌, ◌≤◌, List, [], ◌∷◌, ◌++◌, length, take, drop, refl, sym, ap, ◌∙◌, subst, append_assoc, append-nil, arith, length-append, Option, Some, None, Bool, false, rules}
+use Rattle.std.proofs.Common.{◌≡◌, ℕ, ◌+◌, ◌-◌, ◌≤◌, List, [], ◌∷◌, ◌++◌, length, take, drop, refl, sym, ap, ◌∙◌, subst, append-nil, arith, length-append, Option, Some, None, false}
 use Rattle.std.proofs.lemmas.List.{take-append-le, take_all}
 use Rattle.std.specs.Int.{w64, to_be_bytes}
 use Rattle.cov_spec.specs.Told.{Grows, Shrinks}
 use Rattle.design_data.specs.declared.design.Design.{Design}
 use Rattle.cov_history.specs.declared.entry.Entry.{Entry}
 use Rattle.cov_proto.specs.declared.replies.Reply.{Reply}
-use Rattle.cov_proto.specs.Frames.{IsBody, frame, frames, HasFrame, longest_body}
+use Rattle.cov_proto.specs.Frames.{IsBody, frame, HasFrame, longest_body}
 use Rattle.cov_proto.specs.Limits.{IsReply}
 use Rattle.cov_proto.specs.Spelled.{reply_spelled, body_fields}
 use Rattle.session_table.specs.declared.bodies.Said.{Said}
 use Rattle.upload_stage.specs.Uploads.{Upload}
 use Rattle.session_table.specs.Says.{Says, IsWritable}
 use Rattle.session_table.specs.Table.{is_bye}
-use Rattle.session_table.specs.Serves.{Place}
 use Rattle.session_table.proofs.Growing.{grown_refl}
 use Rattle.cov_session.specs.Fills.{longest_frame}
-use Rattle.cov_session.specs.Streams.{NoBye, reply_frame}
-use Rattle.cov_session.specs.Moments.{World, Goes, Ran, Frame}
+use Rattle.cov_session.specs.Moments.{World, Ran, Frame}
 use Rattle.cov_session.proofs.Chain.{one_all, none_all}
 
 take_front : (xs ys : List ℕ) → take (length xs) (xs ++ ys) ≡ xs

@@ -1,5 +1,5 @@
 -- How the parts of a session end. Public contracts cite none of it.
-use Rattle.std.specs.Prelude.{◌≡◌, ℕ, Result, Ok, Err, Bool}
+use Rattle.std.specs.Prelude.{ℕ, Result, Ok, Err, Bool}
 use Rattle.cov_base.specs.declared.failed.Failed.{Failed}
 use Rattle.cov_spec.specs.Causes.{Rose}
 use Rattle.design_data.specs.declared.design.Design.{Design}

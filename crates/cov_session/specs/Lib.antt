@@ -7,6 +7,7 @@ pub use Rattle.cov_proto.specs.Frames
 pub use Rattle.cov_proto.specs.Spelled
 pub use Rattle.cov_spec.specs.Told
 pub use Rattle.session_table.specs.Contents
-pub use Rattle.cov_compile.specs.Faults
+pub use Rattle.session_table.specs.Faults
 pub use Rattle.session_table.specs.Serves
 pub use Rattle.session_table.specs.Table
+pub use Rattle.session_table.specs.Alone

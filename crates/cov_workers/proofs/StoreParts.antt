@@ -1,5 +1,5 @@
 -- Stores cross threads.
-use denote.Param.Send.{IsSend, IsSync, sendable}
+use denote.Param.Send.{IsSend, sendable}
 use Rattle.std.proofs.Crossing.{crosses}
 use Rattle.indexmap.proofs.map.IndexMap.TheSendSync as map
 use Rattle.cov_tree.proofs.name.Name.TheSendSync as name

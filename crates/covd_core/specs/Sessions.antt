@@ -1,12 +1,12 @@
 -- What `session DESIGN` leaves. A design that can't be had is refused as by the other commands. Over a design that is had,
 -- the requests that come over the link are answered, as those of the one caller of a store that begins without entries.
-use Rattle.std.specs.Prelude.{◌≡◌, ◌⊎◌, ℕ, ◌^◌, List, [], ◌∷◌, Some, Bool, true, false, codes}
+use Rattle.std.specs.Prelude.{◌≡◌, ◌⊎◌, ℕ, ◌^◌, List, [], ◌∷◌, Some, true, false, codes}
 use Rattle.cov_spec.specs.Causes.{Rose}
 use Rattle.cov_spec.specs.Told.{Grows, GrowsByFront, Stays}
 use Rattle.design_data.specs.declared.design.Design.{Design}
 use Rattle.cov_history.specs.declared.entry.Entry.{Entry}
 use Rattle.cov_history.specs.History.{is_legal, has_stop}
-use Rattle.session_table.specs.Alone.{own_from, others}
+use Rattle.cov_session.specs.Alone.{own_from, others}
 use Rattle.cov_session.specs.declared.ended.Ended.{Ended}
 use Rattle.cov_session.specs.declared.ended.Ended.TheVariants as ended
 use Rattle.cov_session.specs.Streams.{Session}

@@ -7,14 +7,17 @@
 //! blanks. A line `failing READS WRITES WORDS` runs the words where these reads of files and these writes fail, each a list
 //! of numbers of calls, counted from 0 and separated by commas, or `-`. What a command behind `keep` or `digest` writes is
 //! the file `r` from then on, and is shown in hexadecimal, or by its length and SHA-256. A line `run WORDS` runs the words
-//! over the files of the folder, and the program ends with the last of their statuses. Every other line is the words of a
-//! `covd` over the files of the lines before. Each line is written again; behind a command follow its text and its status.
+//! over the files of the folder, and the program ends with the last of their statuses. A line `session ROW` is a row of
+//! sessions (`sessions`). Every other line is the words of a `covd` over the files of the lines before. Each line is written
+//! again, a row of sessions without its first word; behind a command follow its text and its status. The file `stdout` has
+//! the replies of sessions written from the form and not by the program.
 #![tactic(auto)]
 
 mod failing;
 mod files;
 mod hex;
 mod keeping;
+mod sessions;
 
 use cov_base::{Memory, Pair, SureShelf, SureSource};
 use cov_net::{FileShelf, StdSink, StdSource};
@@ -23,11 +26,13 @@ use failing::failing;
 use files::{Files, all_files, blanks, changed, file, take_files, text_of};
 use hex::bytes_of;
 use keeping::{keep_bytes, keep_digest};
+use sessions::{Table, session};
 use std::alloc::Global;
 use std::io;
 use std::io::{Input, Print};
 use std::process::ExitCode;
 use std::rt::Files as System;
+use std::sync::Wait;
 use std::thread::Threads;
 
 /// Why a row isn't done.
@@ -166,13 +171,17 @@ fn row<R: Threads + Sync + System + Print + AllocGlobal>(
 }
 
 /// Takes all rows, and answers the status of the last one over the files of the folder.
-fn rows<R: Threads + Sync + System + Input + Print + AllocGlobal>(rt: &R) -> io::Result<Status> {
+fn rows<R: Threads + Wait + Sync + System + Input + Print + AllocGlobal>(
+    rt: &R,
+) -> io::Result<Status> {
     let mut last = Status::Done;
     let mut files = Files::new(rt.alloc());
+    let mut table = Table::new(rt.alloc());
     for line in rt.lines(rt.alloc()) {
         let line = line?;
         match line.split_once(' ') {
             Some(("run", words)) => last = real_command(rt, words)?,
+            Some(("session", words)) => session(rt, rt.alloc(), &mut table, words),
             _ => row(rt, &mut files, line.as_str())?,
         }
     }

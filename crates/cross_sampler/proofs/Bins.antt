@@ -1,15 +1,13 @@
 -- The bins of products.
-use Rattle.std.proofs.Common.{◌≡◌, ◌≢◌, ◌⊎◌, ℕ, zero, suc, ◌+◌, ◌*◌, ◌/◌, ◌%◌, ◌<◌, ◌≤◌, List, [], ◌∷◌, ◌++◌, length, get_or, set, take, drop, Bool, true, false, cond, Option, None, Some, refl, ap, sym, subst, ◌∙◌, inl, inr, arith, length-append, append_assoc}
-use Rattle.std.specs.Prelude.{filter, map, slice_get, nat_eq, ◌==◌, ◌&&◌, not}
-use Rattle.std.specs.List.{All, AllByRecursion, list_all, range_with_len}
+use Rattle.std.proofs.Common.{◌≡◌, ◌≢◌, ℕ, zero, suc, ◌+◌, ◌<◌, ◌≤◌, List, [], ◌∷◌, ◌++◌, length, get_or, set, take, Bool, true, false, cond, Option, None, Some, refl, ap, sym, subst, ◌∙◌, inl, inr, arith, length-append, append_assoc}
+use Rattle.std.specs.Prelude.{filter, slice_get, nat_eq, ◌==◌, ◌&&◌, not}
+use Rattle.std.specs.List.{All, range_with_len}
 use Rattle.std.specs.Cmp.Lexicographic.{pointwise}
-use Rattle.std.proofs.Math.Nat.{div-lt_iff_lt-mul}
-use Rattle.std.proofs.lemmas.Nat.{div-add-mod'}
 use Rattle.std.proofs.lemmas.Bool.{cases_lt, eqb-true, eqb-false, eq-eqb, false≢true}
 use Rattle.std.proofs.lemmas.List.{length-set, get_or-set_same, get_or-set_other, get_or_default, get_or_append_left, append-nil}
 use Rattle.std.proofs.lemmas.List.Elements.{filter-append, All-filter}
 use Rattle.std.proofs.lemmas.List.FromFn.{length-range_with_len, get_or-range_with_len}
-use Rattle.std.proofs.lemmas.Option.{slice_get_within, slice_get_read, slice_get-get_or}
+use Rattle.std.proofs.lemmas.Option.{slice_get_read}
 use Rattle.cross_select.specs.Selections.{is_selected}
 use Rattle.cross_select.specs.Products.{product_of}
 use Rattle.design_data.specs.declared.infos.BinInfo.{BinInfo}
@@ -18,7 +16,7 @@ use Rattle.design_data.specs.declared.infos.BinRule.{BinRule}
 use Rattle.design_data.specs.declared.infos.BinRule.TheVariants.{Values, Patterns, Trans, Default, DefaultValues, DefaultSequence, Picked, Product}
 use Rattle.design_data.specs.Crosses.{IsProduct, picks, takes_from, leaves, is_left, has}
 use Rattle.cross_sampler.specs.Numbers.{number_of, product_at}
-use Rattle.cov_ground.specs.Limits.{most_bins, most_products}
+use Rattle.cov_ground.specs.Limits.{most_bins}
 use Rattle.cross_sampler.specs.declared.plan.CrossPlan.{CrossPlan}
 use Rattle.cross_sampler.specs.declared.plan.Table.{Table}
 use Rattle.cross_sampler.specs.declared.plan.Table.TheVariants.{Nothing}

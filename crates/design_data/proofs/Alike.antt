@@ -1,5 +1,5 @@
 -- Sequences that are written alike are the same.
-use Rattle.std.proofs.Common.{◌≡◌, ◌↔◌, ◌⊎◌, ℕ, ◌&&◌, ◌||◌, eqb, List, [], ◌∷◌, ◌++◌, Bool, true, false, refl, ap, sym, ◌∙◌}
+use Rattle.std.proofs.Common.{◌≡◌, ◌↔◌, ℕ, ◌&&◌, ◌||◌, eqb, List, ◌++◌, Bool, true, refl}
 use Rattle.std.specs.Prelude.{ℤ}
 use Rattle.std.specs.Bool.{Decides, one_answer}
 use Rattle.std.specs.Ordering.{int_eq}

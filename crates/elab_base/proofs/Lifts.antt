@@ -4,7 +4,7 @@ use Rattle.const_eval.specs.declared.fault.BindFault.{BindFault}
 use Rattle.const_eval.specs.declared.fault.BindFault.TheVariants as bind_fault
 use Rattle.const_eval.specs.Binding as binding
 use Rattle.elab_base.specs.declared.fault.ElabFault.{ElabFault}
-use Rattle.elab_base.specs.Gives.{Refusal, Fails, Gives, lifted, fault_of}
+use Rattle.elab_base.specs.Gives.{Fails, Gives, lifted, fault_of}
 
 -- the answer with its fault as one of the design
 abbrev pub as_fault : {X : Type 0} → Result X BindFault → Result X ElabFault

@@ -1,5 +1,5 @@
 -- Steps that several constructs have in common: a new name, and expressions where they stand.
-use Rattle.std.specs.Prelude.{ℕ, ℤ, List, not, Option, Some, None, is_some, Result, Ok, Err}
+use Rattle.std.specs.Prelude.{ℕ, ℤ, List, not, Option, Some, None, is_some, Result, Ok}
 use Rattle.cov_tree.specs.declared.expr.Expr.{Expr}
 use Rattle.const_eval.specs.Terms.{Term}
 use Rattle.const_eval.specs.Scopes.{Levels, names_of}
@@ -7,7 +7,7 @@ use Rattle.const_eval.specs.Binding.{bound_of, constant_of, place_of}
 use Rattle.elab_base.specs.declared.fault.ElabKind.TheVariants as kind
 use Rattle.name_map.specs.Names.{Pairs, meaning_of}
 use Rattle.elab_base.specs.declared.names.What.{What}
-use Rattle.elab_base.specs.Gives.{Refusal, ◌>>=◌, needs, lifted}
+use Rattle.elab_base.specs.Gives.{Refusal, needs, lifted}
 
 -- a name that its scope doesn't have yet
 unfoldable pub unused : Pairs What → List ℕ → ℕ → Result (Unit {0}) Refusal

@@ -1,5 +1,5 @@
 -- A type has 1 to 64 bits.
-use Rattle.std.proofs.Common.{◌≡◌, ℕ, ◌+◌, ◌<◌, ◌≤◌, subst, arith, true, Option, Some, None, Ok}
+use Rattle.std.proofs.Common.{◌≡◌, ℕ, ◌+◌, ◌<◌, subst, arith, true, Option, Some, None, Ok}
 use Rattle.std.specs.Prelude.{ℤ, pos, negsuc, ◌-ℤ◌, int_le, int_lt, unsigned_abs, nat_le, ◌&&◌, slice_get}
 use Rattle.name_map.specs.Names.{meaning_of}
 use Rattle.cov_tree.specs.Widths.{bits_of}

@@ -1,7 +1,6 @@
 -- Numbered instances have their bins in the order of the nodes, without a gap.
-use Rattle.std.proofs.Common.{◌≡◌, ◌∙◌, ℕ, zero, suc, ◌+◌, ◌<◌, List, [], ◌∷◌, ◌++◌, length, map, take, drop, refl, sym, subst, ap, Bool, true, false, cond, arith, append_assoc, add-one}
-use Rattle.std.specs.Prelude.{◌==◌, nat_lt, filter, if◌then◌else◌}
-use Rattle.std.specs.List.{flat_map}
+use Rattle.std.proofs.Common.{◌≡◌, ◌∙◌, ℕ, suc, ◌+◌, List, [], ◌∷◌, ◌++◌, length, map, drop, refl, sym, subst, ap, Bool, true, false, cond, arith, add-one}
+use Rattle.std.specs.Prelude.{◌==◌, nat_lt, if◌then◌else◌}
 use Rattle.design_data.specs.declared.infos.GroupInfo.{GroupInfo}
 use Rattle.design_data.specs.declared.infos.InstInfo.{InstInfo}
 use Rattle.design_data.specs.declared.infos.ItemInfo.{ItemInfo}

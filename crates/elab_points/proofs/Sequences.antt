@@ -44,7 +44,7 @@ use Rattle.elab_points.proofs.Literals.{some_first}
 use Rattle.elab_transitions.specs.declared.plans.Before.{Before}
 use Rattle.elab_transitions.specs.declared.bins.TransBins.{TransBins}
 use Rattle.elab_values.specs.Words.{is_array}
-use Rattle.elab_transitions.specs.Bins.{list_bin, made_bin, default_bin_of, trans_bins_of, removed_by}
+use Rattle.elab_transitions.specs.Bins.{list_bin, default_bin_of, trans_bins_of, removed_by}
 use Rattle.elab_transitions.specs.Bins as trans
 use Rattle.elab_transitions.specs.Removal.{removing_of, is_seq_left, is_rule_left, is_trans_left}
 use Rattle.elab_transitions.proofs.Declared.{made_of}

@@ -7,3 +7,4 @@ pub mod Made
 pub mod Rest
 pub mod Transitions
 pub mod Wildcards
+pub use Rattle.elab_transitions.specs.Removal

@@ -1,16 +1,16 @@
 -- What a bin that is dropped would have counted.
-use Rattle.std.proofs.Common.{◌≡◌, ◌∙◌, ◌⊎◌, ℕ, ◌+◌, ◌<◌, ℤ, List, [], ◌∷◌, length, get_or, Bool, true, false, Option, Some, refl, sym, ap, subst, inl, inr, Result, Ok}
-use Rattle.std.specs.Prelude.{◌&&◌, not, Any, Contains}
-use Rattle.std.specs.List.{AllByRecursion, list_any}
-use Rattle.std.proofs.lemmas.Bool.{or_parts, false≢true, true≢false}
-use Rattle.std.proofs.lemmas.List.Folds.{Any-from_list_any, list_any-from_Any}
+use Rattle.std.proofs.Common.{◌≡◌, ◌∙◌, ◌⊎◌, ℕ, ℤ, List, [], ◌∷◌, Bool, true, false, Option, refl, sym, subst, inl, inr}
+use Rattle.std.specs.Prelude.{◌&&◌, not, Contains}
+use Rattle.std.specs.List.{list_any}
+use Rattle.std.proofs.lemmas.Bool.{or_parts}
+use Rattle.std.proofs.lemmas.List.Folds.{Any-from_list_any}
 use Rattle.cov_tree.specs.declared.bins.BinsDecl.{BinsDecl}
 use Rattle.const_eval.specs.Terms.{Term}
 use Rattle.trans_seq.specs.declared.seq.Seq.{Seq}
 use Rattle.trans_seq.specs.Windows.{InSeq, InSome}
 use Rattle.trans_seq.specs.Words.{known}
 use Rattle.trans_seq.specs.Lists.{listed_by_all}
-use Rattle.trans_seq.proofs.Members.{none_in, first_in, later_in, cases_in}
+use Rattle.trans_seq.proofs.Members.{none_in, cases_in}
 use Rattle.trans_seq.proofs.WordLemmas.{in_seq_word}
 use Rattle.design_data.specs.Bins.{seqs_of}
 use Rattle.design_data.specs.Laws.{AddsNoWindow}

@@ -1,5 +1,5 @@
 -- Where no sequence takes lists away.
-use Rattle.std.proofs.Common.{◌≡◌, List, [], ◌∷◌, length, refl, ap, sym, ◌∙◌, arith, Bool, true, false, not}
+use Rattle.std.proofs.Common.{◌≡◌, List, [], ◌∷◌, length, refl, ap, sym, ◌∙◌, arith, true, false, not}
 use Rattle.std.specs.Prelude.{ℤ, Option, Some, None, ◌==◌}
 use Rattle.std.proofs.lemmas.Bool.{false≢true}
 use Rattle.trans_seq.specs.declared.seq.Seq.{Seq}

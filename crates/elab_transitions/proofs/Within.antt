@@ -1,11 +1,11 @@
 -- The limits within which a declaration's bins are, and that a bin left has a sequence left.
-use Rattle.std.proofs.Common.{◌≡◌, ◌∙◌, ℕ, ◌+◌, ◌≤◌, ℤ, List, [], ◌∷◌, length, map, take, drop, Bool, true, false, Option, Some, refl, sym, ap, subst, inl, inr, arith, length-drop, length-take, Result, Ok}
-use Rattle.std.specs.Prelude.{nat_le, ◌&&◌, ◌||◌, not, Any, Contains, IsTrue, if◌then◌else◌}
-use Rattle.std.specs.List.{All, AllByRecursion, list_all, list_any}
+use Rattle.std.proofs.Common.{◌≡◌, ◌∙◌, ℕ, ◌+◌, ◌≤◌, ℤ, List, [], ◌∷◌, length, map, take, drop, Bool, true, false, Option, Some, refl, sym, ap, subst, inl, inr, arith, length-drop, length-take}
+use Rattle.std.specs.Prelude.{nat_le, ◌&&◌, not, Contains}
+use Rattle.std.specs.List.{AllByRecursion, list_all, list_any}
 use Rattle.std.proofs.lemmas.Bool.{and_parts, and_from, or_parts, or_left, false≢true, true≢false}
 use Rattle.std.proofs.lemmas.List.{length-map}
 use Rattle.std.proofs.lemmas.List.Folds.{Any-from_list_any}
-use Rattle.cov_ground.specs.Limits.{most_bins, most_cells}
+use Rattle.cov_ground.specs.Limits.{most_cells}
 use Rattle.cov_tree.specs.declared.bins.BinsDecl.{BinsDecl}
 use Rattle.cov_tree.specs.declared.bins.Word.{Word}
 use Rattle.cov_tree.specs.declared.bins.Word.TheVariants as words
@@ -24,10 +24,10 @@ use Rattle.design_data.specs.Left.{is_same_seq, has_lists, has_numbers, has_seq_
 use Rattle.elab_values.specs.declared.made.Made.{Made}
 use Rattle.elab_transitions.specs.Lists.{item_once, seq_of_list}
 use Rattle.elab_values.specs.Words.{is_array, kind_of}
-use Rattle.elab_transitions.specs.Bins.{is_short, is_within, is_removing, removing_after, removing_in, removed_by, plan_of, plan_in, bins_in, fitted, list_bin, bins_made, trans_made, seqs_binned, trans_bins_of}
+use Rattle.elab_transitions.specs.Bins.{is_short, is_within, removing_after, removed_by, plan_of, bins_in, list_bin, bins_made}
 use Rattle.elab_transitions.specs.Tests.{in_some}
-use Rattle.elab_transitions.specs.Removal.{removing_of, is_seq_left, is_trans_left}
-use Rattle.elab_transitions.specs.Laws.{IsWithin, MadeIsWithin, LeftHasSeq}
+use Rattle.elab_transitions.specs.Removal.{removing_of, is_trans_left}
+use Rattle.elab_transitions.specs.Laws.{MadeIsWithin, LeftHasSeq}
 use Rattle.elab_transitions.proofs.Words.{some_back}
 use Rattle.elab_transitions.proofs.OneList.{word_of_list, some_once}
 use Rattle.elab_transitions.proofs.Same.{seq_same}

@@ -1,6 +1,6 @@
 -- The tests of lists of known values decide the relations of windows.
-use Rattle.std.proofs.Common.{◌≡◌, ◌∙◌, ℕ, zero, suc, ◌+◌, ◌-◌, ◌<◌, ◌≤◌, ◌↔◌, ℤ, List, [], ◌∷◌, length, map, take, drop, Option, Some, Bool, true, false, refl, sym, ap, subst, inl, inr, arith}
-use Rattle.std.specs.Prelude.{◌&&◌, ◌||◌, ◌==◌, not, nat_le, Any, Contains, IsTrue}
+use Rattle.std.proofs.Common.{◌≡◌, ◌∙◌, ℕ, zero, suc, ◌+◌, ◌-◌, ◌<◌, ◌≤◌, ◌↔◌, ℤ, List, [], ◌∷◌, length, map, take, drop, Option, Some, Bool, true, false, refl, sym, subst, inl, inr, arith}
+use Rattle.std.specs.Prelude.{◌&&◌, ◌==◌, not, nat_le, IsTrue}
 use Rattle.std.specs.Bool.{Decides}
 use Rattle.std.specs.List.{All, list_all, list_any}
 use Rattle.std.proofs.lemmas.Bool.{and_parts, and_from, or_cases, or_left, or_right, true≢false, false≢true}
@@ -14,7 +14,7 @@ use Rattle.trans_seq.specs.declared.seq.Seq.{Seq}
 use Rattle.trans_seq.specs.declared.seq.Repeat.{Repeat}
 use Rattle.trans_seq.specs.declared.seq.Repeat.TheVariants.{Once, Consec, Goto, NonConsec}
 use Rattle.trans_seq.specs.Lists.{from_on}
-use Rattle.trans_seq.specs.Windows.{Then, AllInside, AllOutside, IsOne, IsBlock, IsBlocks, IsGoto, InBlocks, InRepeat, InSeq, InSome, SomeHasWord, is_end, is_known_in}
+use Rattle.trans_seq.specs.Windows.{Then, AllInside, AllOutside, IsOne, IsBlock, IsBlocks, IsGoto, InBlocks, InRepeat, InSeq, SomeHasWord, is_end, is_known_in}
 use Rattle.elab_transitions.specs.Tests.{is_then, are_inside, are_outside, is_one, is_block, are_blocks, is_goto, in_blocks, in_repeat, in_seq, in_some}
 
 -- the test says which lists of known values have the property

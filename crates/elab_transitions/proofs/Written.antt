@@ -1,11 +1,11 @@
 -- The repetitions that steps give have each value at least once, so that a sequence with an empty set has no window.
-use Rattle.std.proofs.Common.{◌≡◌, ◌∙◌, ℕ, zero, suc, ◌≤◌, ◌+◌, ℤ, pos, negsuc, List, [], ◌∷◌, ◌++◌, length, take, drop, Bool, true, false, Option, Some, None, refl, sym, ap, subst, arith, int_le, Result, Ok}
-use Rattle.std.specs.Prelude.{◌&&◌, ◌||◌, not, min, ◌-◌, ◌^◌}
+use Rattle.std.proofs.Common.{◌≡◌, ℕ, zero, suc, ◌≤◌, ◌+◌, ℤ, pos, negsuc, List, [], ◌∷◌, ◌++◌, length, take, drop, Bool, true, false, Option, Some, None, refl, subst, arith, int_le, Ok}
+use Rattle.std.specs.Prelude.{◌&&◌, ◌||◌, ◌-◌}
 use Rattle.std.specs.List.{All, AllByRecursion, list_all, list_any}
 use Rattle.std.proofs.lemmas.Bool.{or_parts, false≢true, true≢false}
 use Rattle.std.proofs.lemmas.Int.{ints}
 use Rattle.std.proofs.lemmas.List.Elements.{All-head}
-use Rattle.cov_base.specs.Sets.{written, set_of}
+use Rattle.cov_base.specs.Sets.{written}
 use Rattle.cov_tree.specs.declared.expr.Expr.{Expr}
 use Rattle.cov_tree.specs.declared.bins.Step.{Step}
 use Rattle.cov_tree.specs.declared.bins.Times.{Times}
@@ -16,8 +16,8 @@ use Rattle.trans_seq.specs.declared.seq.Seq.{Seq}
 use Rattle.trans_seq.specs.declared.seq.Repeat.{Repeat}
 use Rattle.trans_seq.specs.declared.seq.Repeat.TheVariants.{Once, Consec, Goto, NonConsec}
 use Rattle.trans_seq.specs.Lists.{goes_on, is_endless, has_endless}
-use Rattle.trans_seq.specs.Windows.{Then, IsOne, IsBlocks, IsGoto, InRepeat, InSeq, is_known_in, is_end}
-use Rattle.design_data.specs.Left.{has_numbers, has_lists}
+use Rattle.trans_seq.specs.Windows.{IsOne, IsBlocks, IsGoto, InRepeat, InSeq, is_known_in, is_end}
+use Rattle.design_data.specs.Left.{has_numbers}
 use Rattle.elab_base.specs.declared.fault.ElabKind.TheVariants as kind
 use Rattle.elab_base.specs.Gives.{needs, each_at}
 use Rattle.elab_base.specs.Steps.{number_in}

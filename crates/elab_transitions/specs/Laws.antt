@@ -1,5 +1,5 @@
 -- Laws: what the bins of a declaration of transitions and their removal mean (IEEE 1800-2017, 19.5.2, 19.5.5, 19.5.6).
-use Rattle.std.specs.Prelude.{◌≡◌, ◌≢◌, ◌↔◌, ℕ, ◌+◌, ◌≤◌, ℤ, List, [], ◌∷◌, length, Bool, true, false, Option, Ok, IsTrue, All, Any, Contains}
+use Rattle.std.specs.Prelude.{◌≡◌, ◌≢◌, ◌↔◌, ℕ, ◌+◌, ◌≤◌, ℤ, List, length, Bool, true, false, Option, Ok, IsTrue, All, Any, Contains}
 use Rattle.std.specs.List.{AllByRecursion, AllPairs, filter, list_any}
 use Rattle.cov_ground.specs.Limits.{most_bins, most_cells}
 use Rattle.cov_tree.specs.declared.bins.BinsDecl.{BinsDecl}

@@ -1,5 +1,5 @@
 -- The bins of the lists of an array (IEEE 1800-2017, 19.5.2): each has a list of values of its own.
-use Rattle.std.specs.Prelude.{◌≡◌, ℕ, ℤ, List, [], ◌∷◌, ◌++◌, map}
+use Rattle.std.specs.Prelude.{ℕ, ℤ, List, [], ◌∷◌, ◌++◌, map}
 use Rattle.std.specs.List.{flat_map}
 use Rattle.std.specs.Fmt.{signed_decimal}
 use Rattle.cov_base.specs.Sets.{written, set_of}

@@ -1,5 +1,5 @@
 -- The steps and sequences of a declaration of transition bins (IEEE 1800-2017, 19.5.2).
-use Rattle.std.specs.Prelude.{ℕ, ◌-◌, ◌^◌, min, ℤ, pos, int_le, unsigned_abs, List, [], ◌∷◌, ◌++◌, Bool, ◌&&◌, Result, Ok, Err}
+use Rattle.std.specs.Prelude.{ℕ, ◌-◌, ◌^◌, min, ℤ, pos, int_le, unsigned_abs, List, [], ◌∷◌, ◌++◌, Bool, ◌&&◌, Result, Ok}
 use Rattle.cov_base.specs.Sets.{set_of}
 use Rattle.cov_tree.specs.declared.expr.Expr.{Expr}
 use Rattle.cov_tree.specs.declared.bins.Step.{Step}
@@ -11,7 +11,7 @@ use Rattle.trans_seq.specs.declared.seq.Seq.{Seq}
 use Rattle.trans_seq.specs.declared.seq.Repeat.{Repeat}
 use Rattle.trans_seq.specs.declared.seq.Repeat.TheVariants.{Once, Consec, Goto, NonConsec}
 use Rattle.elab_base.specs.declared.fault.ElabKind.TheVariants as kind
-use Rattle.elab_base.specs.Gives.{Refusal, ◌>>=◌, needs, each}
+use Rattle.elab_base.specs.Gives.{Refusal, needs, each}
 use Rattle.elab_base.specs.Steps.{number_in}
 use Rattle.elab_values.specs.declared.domain.Domain.{Domain}
 use Rattle.elab_values.specs.Listed.{listed_in, numbers_listed}

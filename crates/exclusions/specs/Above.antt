@@ -1,5 +1,5 @@
 -- Nodes that are out, in a tree in which each node but node 0, the root, has a parent of a smaller number.
-use Rattle.std.specs.Prelude.{◌≡◌, ◌==◌, ℕ, zero, suc, ◌<◌, ◌||◌, List, [], ◌∷◌, length, filter, count_by, slice_index, slice_index_or, Bool, true, false, if◌then◌else◌}
+use Rattle.std.specs.Prelude.{◌≡◌, ◌==◌, ℕ, zero, suc, ◌<◌, ◌||◌, List, [], ◌∷◌, length, filter, count_by, slice_index, slice_index_or, Bool, false, if◌then◌else◌}
 use Rattle.std.specs.List.{list_any, range_with_len}
 
 -- the node and those above it, up to so many

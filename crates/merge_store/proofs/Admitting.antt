@@ -15,7 +15,7 @@ use Rattle.ucis_model.specs.Nodes.{nodes_of}
 use Rattle.cov_history.specs.declared.entry.Event.TheVariants.{Admit}
 use Rattle.cov_history.specs.declared.entry.Entry.{Entry}
 use Rattle.cov_history.specs.Tallies.{tally}
-use Rattle.cov_history.specs.History.{Test, design_of, tests_of, contents, hits, count_of, is_revise, amount, most, passed, suits, kept}
+use Rattle.cov_history.specs.History.{Test, design_of, tests_of, contents, hits, count_of, is_revise, amount, most, suits, kept}
 use Rattle.cov_history.specs.Answers.{admit_at, by, stands_since, change}
 use Rattle.cov_history.proofs.Snoc.{design_snoc, tests_snoc, out_snoc, counts_snoc}
 use Rattle.cov_history.proofs.Legal.{within_of}

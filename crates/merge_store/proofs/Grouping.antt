@@ -1,5 +1,5 @@
 -- Bins by name: what the code makes is what the definition says.
-use Rattle.std.proofs.Common.{◌≡◌, ℕ, zero, suc, ◌+◌, ◌<◌, ◌≤◌, Bool, true, false, cond, List, [], ◌∷◌, ◌++◌, length, map, take, refl, sym, ap, subst, ◌∙◌, arith, Option, Some, None, nat_eq, ◌||◌, true≢false, append_assoc}
+use Rattle.std.proofs.Common.{◌≡◌, ℕ, suc, ◌+◌, ◌<◌, ◌≤◌, true, false, List, [], ◌∷◌, ◌++◌, length, map, take, refl, sym, ap, subst, ◌∙◌, arith, Option, Some, None, true≢false, append_assoc}
 use Rattle.std.specs.Prelude.{slice_index_or, slice_set, fold, filter, bytes_eq, is_some, if◌then◌else◌, ◌-◌, IfSome}
 use Rattle.std.specs.List.{list_any}
 use Rattle.std.specs.declared.vec.Vec.{Vec}
@@ -8,10 +8,9 @@ use Rattle.std.proofs.lemmas.List.{map-append, length-map, map-set, get_or-map, 
 use Rattle.std.proofs.lemmas.List.Folds.{list_any-append}
 use Rattle.std.proofs.lemmas.List.Elements.{filter-append}
 use Rattle.std.proofs.lemmas.List.Sums.{fold-append}
-use Rattle.std.specs.Cmp.Lexicographic.{pointwise}
 use Rattle.name_map.specs.Names.{Pairs, meaning_of, with_name}
 use Rattle.cov_history.proofs.Bools.{by_bool, or_none}
-use Rattle.merge_store.proofs.Walks.{take_step, take_all}
+use Rattle.merge_store.proofs.Walks.{take_step}
 use Rattle.merge_store.proofs.Ranges.{at_any}
 use Rattle.name_map.proofs.Named.{same_names, same_as_itself}
 use Rattle.merge_store.specs.Groups.{put_at, Group, with_bin, groups_of, places_from, HasGroups}

@@ -1,6 +1,6 @@
 -- The point after the last entry of a kind.
-use Rattle.std.proofs.Common.{◌≡◌, ℕ, zero, suc, ◌+◌, ◌-◌, ◌≤◌, Bool, true, false, ◌&&◌, ◌||◌, List, [], ◌∷◌, ◌++◌, length, drop, refl, sym, ap, subst, ◌∙◌, arith, nat_lt, nat_le, Option, Some, None, length-append}
-use Rattle.std.specs.Prelude.{max, slice_get, option_map}
+use Rattle.std.proofs.Common.{◌≡◌, ℕ, ◌+◌, ◌-◌, ◌≤◌, Bool, true, false, ◌||◌, List, [], ◌∷◌, ◌++◌, length, drop, refl, sym, ap, subst, ◌∙◌, arith, nat_lt, nat_le, Option, Some, length-append}
+use Rattle.std.specs.Prelude.{max, slice_get}
 use Rattle.std.specs.List.{list_any}
 use Rattle.std.specs.Option.{option_map_or}
 use Rattle.std.proofs.lemmas.Bool.{ltb-false}
@@ -11,7 +11,6 @@ use Rattle.cov_history.specs.declared.entry.Event.{Event}
 use Rattle.cov_history.specs.declared.entry.Event.TheVariants.{Admit, Exclude, Include, Revise, Stop}
 use Rattle.cov_history.specs.declared.entry.Entry.{Entry}
 use Rattle.cov_history.specs.History.{Test, tests_of, tests_in, is_legal, is_revise, is_test_or_revise}
-use Rattle.cov_history.specs.Answers.{stands_since}
 use Rattle.cov_history.proofs.Bools.{and_true}
 use Rattle.cov_history.proofs.Snoc.{tests_snoc, since_snoc}
 use Rattle.cov_history.proofs.Legal.{kept_along}

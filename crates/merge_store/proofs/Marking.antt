@@ -1,8 +1,7 @@
 -- What the marks of a design's bins say, and how they stay right.
-use Rattle.std.proofs.Common.{◌≡◌, ◌≢◌, ℕ, zero, suc, ◌+◌, ◌-◌, ◌<◌, ◌≤◌, Bool, true, false, cond, not, ◌&&◌, ◌||◌, List, [], ◌∷◌, ◌++◌, length, map, take, drop, min, refl, sym, ap, subst, ◌∙◌, arith, inl, inr, nat_lt, lt-ltb, true≢false, Option, None, is_some, if◌then◌else◌}
+use Rattle.std.proofs.Common.{◌≡◌, ◌≢◌, ℕ, zero, suc, ◌+◌, ◌-◌, ◌<◌, ◌≤◌, Bool, true, false, cond, not, ◌&&◌, ◌||◌, List, [], ◌∷◌, ◌++◌, length, map, take, drop, refl, sym, ap, subst, ◌∙◌, arith, inl, inr, nat_lt, lt-ltb, true≢false, Option, None, is_some}
 use Rattle.std.specs.Prelude.{filter, count_by, slice_index, slice_index_or, slice_set, ◌==◌, nat_le}
-use Rattle.std.specs.List.{list_any}
-use Rattle.std.proofs.lemmas.Bool.{eqb-true, eq-eqb, ne_eqb, cases_lt, cases_eq, ltb-true}
+use Rattle.std.proofs.lemmas.Bool.{eq-eqb, ne_eqb, cases_lt, cases_eq, ltb-true}
 use Rattle.std.proofs.Math.ListN.{get_or-eq_default}
 use Rattle.std.proofs.lemmas.List.{get_or-set_same, get_or-set_other, length-set, length-map, length-replicate}
 use Rattle.std.proofs.lemmas.List.Sums.{sum_by-cons, sum_by-append, length-filter, count_by-le-length}
@@ -17,7 +16,7 @@ use Rattle.cov_history.specs.Coverage.{is_out, is_excluded, is_live, is_covered,
 use Rattle.cov_history.proofs.Bools.{by_bool, and_false}
 use Rattle.merge_store.specs.Runs.{Marks, marks_in, with_marks, unmarked, remarked, stands, stands_covered, bin_at, has_row, HasMarks, live_in, covered_in}
 use Rattle.merge_store.specs.Branches.{part}
-use Rattle.merge_store.proofs.Numbers.{bin_number, no_root, passes, map_at}
+use Rattle.merge_store.proofs.Numbers.{bin_number, passes, map_at}
 use Rattle.merge_store.proofs.Ranges.{at_any}
 use Rattle.merge_store.proofs.Walks.{goes_up, is_up}
 

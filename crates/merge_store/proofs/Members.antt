@@ -1,7 +1,6 @@
 -- Lists of paths that have the same members, each once.
-use Rattle.std.proofs.Common.{◌≡◌, ℕ, zero, suc, ◌+◌, ◌≤◌, Bool, true, false, not, cond, List, [], ◌∷◌, length, refl, sym, ap, ◌∙◌, arith, true≢false, Option, Some, None, is_some}
-use Rattle.std.specs.Prelude.{count_by, find, filter, bytes_eq, ◌||◌}
-use Rattle.std.specs.List.{list_any}
+use Rattle.std.proofs.Common.{◌≡◌, ℕ, ◌+◌, ◌≤◌, Bool, true, false, not, cond, List, [], ◌∷◌, refl, sym, ap, ◌∙◌, arith, true≢false, Option, Some, None, is_some}
+use Rattle.std.specs.Prelude.{count_by, find, filter, bytes_eq}
 use Rattle.std.proofs.lemmas.List.Sums.{sum_by-cons}
 use Rattle.cov_history.specs.History.{has, without}
 use Rattle.cov_history.proofs.Bools.{by_bool}

@@ -1,7 +1,6 @@
 -- What is out in a new design.
 use Rattle.std.proofs.Common.{◌≡◌, ℕ, zero, suc, ◌+◌, ◌<◌, ◌≤◌, Bool, true, false, cond, List, [], ◌∷◌, ◌++◌, length, map, take, drop, refl, sym, ap, subst, ◌∙◌, add-zero, arith, true≢false, Option, Some, None, is_some, get_or, replicate}
-use Rattle.std.specs.Prelude.{count_by, find, filter, bytes_eq, slice_index_or, slice_set, option_to_list}
-use Rattle.std.specs.List.{flat_map}
+use Rattle.std.specs.Prelude.{find, filter, bytes_eq, slice_index_or, slice_set, option_to_list}
 use Rattle.std.proofs.lemmas.List.{append-nil, take-append-drop, length-replicate, length-map}
 use Rattle.std.proofs.lemmas.List.Concat.{flat_map-append}
 use Rattle.std.proofs.lemmas.List.Elements.{filter-append}

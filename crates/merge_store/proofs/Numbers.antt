@@ -1,5 +1,5 @@
 -- The bins of a design are numbered in the order of their nodes.
-use Rattle.std.proofs.Common.{◌≡◌, ℕ, zero, suc, ◌+◌, ◌<◌, Bool, true, false, List, [], ◌∷◌, ◌++◌, length, map, refl, sym, ap, subst, ◌∙◌, arith, append_assoc}
+use Rattle.std.proofs.Common.{◌≡◌, ℕ, zero, suc, ◌+◌, ◌<◌, Bool, true, false, List, [], ◌∷◌, ◌++◌, length, map, refl, sym, ap, subst, ◌∙◌, arith}
 use Rattle.std.specs.Prelude.{filter, slice_index, slice_index_or}
 use Rattle.std.specs.List.{range_with_len}
 use Rattle.std.proofs.Math.ListN.{get_or-append}
@@ -12,7 +12,7 @@ use Rattle.design_data.specs.declared.infos.ItemShape.TheVariants.{Point, Cross}
 use Rattle.design_data.specs.declared.infos.InstInfo.{InstInfo}
 use Rattle.design_data.specs.declared.infos.GroupInfo.{GroupInfo}
 use Rattle.design_data.specs.declared.design.Design.{Design}
-use Rattle.design_data.specs.Bins.{bins_in, total}
+use Rattle.design_data.specs.Bins.{bins_in}
 use Rattle.ucis_model.specs.declared.node.Node.{Node}
 use Rattle.ucis_model.specs.Nodes.{bins_of, own_of, kind_of, root_node, bin_node, item_node, instance_node, group_node, with_bins, with_item, with_items, with_instance, with_instances, with_group, with_groups, nodes_of}
 use Rattle.ucis_model.specs.Paths.{node_at}

@@ -1,7 +1,7 @@
 -- Paths that stand at the nodes which they find.
-use Rattle.std.proofs.Common.{◌≡◌, ℕ, zero, suc, ◌+◌, ◌<◌, ◌≤◌, Bool, true, false, not, cond, ◌&&◌, List, [], ◌∷◌, ◌++◌, length, take, refl, sym, ap, ◌∙◌, add-zero, arith, true≢false, Option, Some, None, is_some, get_or}
-use Rattle.std.specs.Prelude.{count_by, find, filter, bytes_eq, slice_index_or, option_to_list}
-use Rattle.std.specs.List.{list_any, flat_map}
+use Rattle.std.proofs.Common.{◌≡◌, ℕ, zero, suc, ◌+◌, ◌<◌, ◌≤◌, Bool, true, false, cond, List, [], ◌∷◌, ◌++◌, length, take, refl, sym, ap, ◌∙◌, add-zero, arith, true≢false, Option, Some, None, is_some, get_or}
+use Rattle.std.specs.Prelude.{bytes_eq, slice_index_or, option_to_list}
+use Rattle.std.specs.List.{flat_map}
 use Rattle.std.specs.Option.{option_map_or}
 use Rattle.std.proofs.lemmas.List.{take_more}
 use Rattle.std.proofs.lemmas.List.Concat.{flat_map-append}

@@ -1,5 +1,5 @@
 -- What a revision answers, from what stands against it.
-use Rattle.std.proofs.Common.{◌≡◌, ℕ, ◌+◌, ◌<◌, ◌≤◌, List, [], ◌∷◌, ◌++◌, length, refl, sym, ap, ◌∙◌, inl, inr}
+use Rattle.std.proofs.Common.{◌≡◌, ℕ, List, refl, sym, inl, inr}
 use Rattle.std.proofs.lemmas.List.{append-nil}
 use Rattle.design_data.specs.declared.design.Design.{Design}
 use Rattle.ucis_model.specs.declared.answers.Answer.TheVariants as answer
@@ -12,7 +12,7 @@ use Rattle.cov_history.specs.declared.amounts.Amounts.{Amounts}
 use Rattle.merge_store.specs.declared.faults.ReviseFault.{ReviseFault}
 use Rattle.merge_store.specs.declared.faults.ReviseFault.TheVariants as revises
 use Rattle.merge_store.specs.Remakes.{MayRevise, IsRefused}
-use Rattle.merge_store.specs.Told.{Gives, Wants, Makes, not_revised}
+use Rattle.merge_store.specs.Told.{Makes, not_revised}
 use Rattle.merge_store.proofs.Revising.{revise_made}
 
 pub refused_so : (opening : Design) (h : List Entry) (r : Redone) (fault : ReviseFault) (caller : ℕ) → IsRefused opening h r fault

@@ -1,6 +1,6 @@
 -- A store after a revision.
-use Rattle.std.proofs.Common.{◌≡◌, ℕ, zero, suc, ◌+◌, ◌<◌, ◌≤◌, Bool, true, false, List, [], ◌∷◌, ◌++◌, length, map, take, drop, refl, sym, ap, subst, ◌∙◌, arith, Option, Some, None, nat_lt, lt-ltb, le-ltb, append_assoc, true≢false, ◌||◌}
-use Rattle.std.specs.Prelude.{slice_index, sum_by, filter}
+use Rattle.std.proofs.Common.{◌≡◌, ℕ, zero, suc, ◌+◌, ◌<◌, ◌≤◌, true, false, List, [], ◌∷◌, ◌++◌, length, map, take, drop, refl, sym, ap, subst, ◌∙◌, arith, Option, Some, None, lt-ltb, le-ltb, append_assoc, true≢false}
+use Rattle.std.specs.Prelude.{sum_by, filter}
 use Rattle.std.specs.List.{list_any}
 use Rattle.std.proofs.lemmas.List.{map-append, append-nil, length-map}
 use Rattle.std.proofs.lemmas.Simd.{map-map}
@@ -9,7 +9,7 @@ use Rattle.design_data.specs.declared.design.Design.{Design}
 use Rattle.record_codec.specs.declared.record.Record.{Record}
 use Rattle.ucis_model.specs.declared.node.Node.{Node}
 use Rattle.ucis_model.specs.declared.answers.Which.{Which}
-use Rattle.ucis_model.specs.declared.answers.Which.TheVariants.{Tests, Bytes, Entries, History}
+use Rattle.ucis_model.specs.declared.answers.Which.TheVariants.{Entries}
 use Rattle.ucis_model.specs.declared.answers.Answer.TheVariants as answer
 use Rattle.ucis_model.specs.Nodes.{nodes_of}
 use Rattle.cov_history.specs.declared.entry.Event.{Event}
@@ -18,10 +18,10 @@ use Rattle.cov_history.specs.declared.entry.Entry.{Entry}
 use Rattle.cov_history.specs.Tallies.{tally}
 use Rattle.cov_history.specs.Sums.{all_hits}
 use Rattle.cov_history.specs.Steps.{admitted}
-use Rattle.cov_history.specs.History.{Test, design_of, tests_of, tests_from, tests_in, contents, hits_of, count_of, out_of, is_found, has_stop, is_revise, is_test_or_revise, bins_hit, amount, most, passed, suits}
+use Rattle.cov_history.specs.History.{Test, design_of, tests_of, tests_from, tests_in, contents, hits_of, out_of, is_found, has_stop, is_revise, is_test_or_revise, bins_hit, amount}
 use Rattle.cov_history.specs.Answers.{revise_at, by, stands_since, change}
 use Rattle.cov_history.proofs.Bools.{or_none}
-use Rattle.cov_history.proofs.Snoc.{design_snoc, tests_snoc, contents_snoc, out_snoc, test_count_snoc, bytes_snoc, entries_snoc, history_snoc, admitted_is}
+use Rattle.cov_history.proofs.Snoc.{design_snoc, tests_snoc, out_snoc, test_count_snoc, bytes_snoc, history_snoc, admitted_is}
 use Rattle.cov_history.proofs.Legal.{within_of}
 use Rattle.cov_history.proofs.Summing.{all_hits_at, all_hits_length}
 use Rattle.store_core.specs.Rebins.{Redone, tallies_of}

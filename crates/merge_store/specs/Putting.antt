@@ -1,5 +1,5 @@
 -- Paths put at the nodes that they find.
-use Rattle.std.specs.Prelude.{ℕ, List, Option, Some, None, slice_set, Bool, true, false, is_some}
+use Rattle.std.specs.Prelude.{ℕ, List, Option, Some, None, slice_set, Bool, false, is_some}
 use Rattle.ucis_model.specs.declared.node.Node.{Node}
 use Rattle.ucis_model.specs.Paths.{find_in}
 

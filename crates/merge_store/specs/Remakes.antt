@@ -1,6 +1,5 @@
 -- What a revision makes of a store.
-use Rattle.std.specs.Prelude.{◌≡◌, ℕ, List, ◌++◌, ◌∷◌, [], map, filter, option_map, None, Option, true, false, ⊤}
-use Rattle.std.specs.Arc.{arc_value}
+use Rattle.std.specs.Prelude.{◌≡◌, ℕ, List, ◌++◌, ◌∷◌, [], filter, None, Option, false, ⊤}
 use Rattle.design_data.specs.declared.design.Design.{Design}
 use Rattle.ucis_model.specs.Nodes.{nodes_of}
 use Rattle.ucis_model.specs.declared.node.Node.{Node}

@@ -1,5 +1,5 @@
 -- Bits of one word.
-use Rattle.std.proofs.Common.{◌≡◌, ℕ, zero, suc, ◌+◌, ◌-◌, ◌*◌, ◌/◌, ◌%◌, ◌^◌, ◌<◌, ◌≤◌, ◌&&◌, ◌||◌, refl, sym, ap, ◌∙◌, arith, inl, inr, true, false, Bool, leb, ltb}
+use Rattle.std.proofs.Common.{◌≡◌, ℕ, zero, suc, ◌+◌, ◌-◌, ◌*◌, ◌/◌, ◌%◌, ◌^◌, ◌<◌, ◌≤◌, ◌&&◌, ◌||◌, refl, sym, ap, ◌∙◌, arith, inl, inr, false, leb, ltb}
 use Rattle.std.specs.Prelude.{nat_eq, eqb, not, max, min, bit_or, bit_and}
 use Rattle.std.specs.Int.{bit_at, w64}
 use Rattle.std.proofs.lemmas.Bool.{cases_lt, lt-ltb, le-ltb, le-leb, lt-leb}

@@ -1,8 +1,8 @@
 -- Sets of products as bits.
-use Rattle.std.proofs.Common.{◌≡◌, ℕ, zero, suc, ◌+◌, ◌-◌, ◌*◌, ◌/◌, ◌%◌, ◌<◌, ◌≤◌, ◌&&◌, ◌||◌, ◌⊎◌, List, [], ◌∷◌, ◌++◌, length, length-append, get_or, drop, map, filter, refl, sym, subst, ap, ◌∙◌, arith, inl, inr, true, false, Bool, leb, ltb, cond, add-one, Option, Some, None, append_assoc}
+use Rattle.std.proofs.Common.{◌≡◌, ℕ, zero, suc, ◌+◌, ◌-◌, ◌*◌, ◌<◌, ◌≤◌, ◌&&◌, ◌||◌, ◌⊎◌, List, [], ◌∷◌, ◌++◌, length, length-append, get_or, drop, map, filter, refl, sym, subst, ap, ◌∙◌, arith, inl, inr, true, false, Bool, ltb, cond, Some, None}
 use Rattle.std.specs.Prelude.{not, replicate}
 use Rattle.std.specs.List.{list_any, range_with_len}
-use Rattle.std.proofs.lemmas.Bool.{cases_lt, cases_eq, lt-ltb, le-ltb, le-leb, lt-leb}
+use Rattle.std.proofs.lemmas.Bool.{cases_eq, lt-ltb, le-ltb, le-leb, lt-leb}
 use Rattle.std.proofs.lemmas.List.{append-nil}
 use Rattle.cross_select.specs.Products.{product_of}
 use Rattle.design_data.specs.Crosses.{products}

@@ -1,10 +1,10 @@
 -- Bits of words.
 use Rattle.std.proofs.Common.{◌≡◌, ℕ, zero, suc, ◌+◌, ◌-◌, ◌*◌, ◌/◌, ◌%◌, ◌^◌, ◌<◌, ◌≤◌, ◌&&◌, ◌||◌, List, length, get_or, set, refl, sym, ap, ◌∙◌, arith, inl, inr, true, false, Bool, leb, ltb}
-use Rattle.std.specs.Prelude.{bit_and, bit_or, replicate, not}
+use Rattle.std.specs.Prelude.{bit_and, bit_or, replicate}
 use Rattle.std.proofs.lemmas.Bool.{cases_lt, cases_eq, lt-ltb, le-ltb, le-leb, lt-leb}
 use Rattle.std.proofs.lemmas.List.{get_or-set_same, get_or-set_other, get_or_past}
 use Rattle.product_bits.specs.Marks.{has_bit, is_marked}
-use Rattle.product_bits.proofs.BitLemmas.{has-or, has-and, has-shr, has-zero, has-above, has-shl, has-shl_below, has-not}
+use Rattle.product_bits.proofs.BitLemmas.{has-or, has-and, has-shr, has-zero, has-above, has-shl, has-shl_below}
 
 pub or-false : (a b : Bool) → b ≡ false → (a || b) ≡ a
 or-false true b e = refl

@@ -1,5 +1,5 @@
 -- The order of the wanted pairs makes no difference to a ranking.
-use Rattle.std.proofs.Common.{◌≡◌, ℕ, ◌-◌, min, List, ◌∷◌, ◌++◌, [], refl, arith}
+use Rattle.std.proofs.Common.{◌≡◌, ℕ, ◌-◌, min, List, ◌∷◌, ◌++◌, [], arith}
 use Rattle.std.specs.List.Sorted.{IsPermutation}
 use Rattle.std.proofs.lemmas.List.Sorted.{sum_by-IsPermutation}
 use Rattle.tally.specs.declared.ranked.Ranked.{Ranked}

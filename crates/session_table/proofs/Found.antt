@@ -1,10 +1,9 @@
 -- What bytes are, from what their reading says.
-use Rattle.std.proofs.Common.{◌≡◌, ◌⊎◌, inl, inr, ⊎_elim, ℕ, ◌<◌, ◌≤◌, List, length, refl, sym, ap, ◌∙◌, subst, arith}
-use Rattle.std.specs.Prelude.{Option, Some, None, Result, Ok, Err}
+use Rattle.std.proofs.Common.{◌≡◌, inl, inr, ℕ, ◌<◌, ◌≤◌, List, length, refl, sym, ap, ◌∙◌, subst}
+use Rattle.std.specs.Prelude.{Some, None, Ok, Err}
 use Rattle.cov_ground.specs.Limits.{longest_design}
 use Rattle.design_data.specs.declared.design.Design.{Design}
 use Rattle.record_codec.specs.declared.record.Record.{Record}
-use Rattle.record_codec.specs.declared.record.Fields.{Fields}
 use Rattle.record_codec.specs.declared.fault.RecordFault.{RecordFault}
 use Rattle.record_codec.specs.declared.fault.RecordFault.TheVariants as no_record
 use Rattle.record_codec.specs.Reading.{HasRead, reading}
@@ -14,11 +13,11 @@ use Rattle.cov_compile.specs.Compiling.{Compiles}
 use Rattle.cov_compile.specs.Texts.{Declared}
 use Rattle.cov_proto.specs.declared.replies.Body.{Body}
 use Rattle.cov_proto.specs.declared.replies.Body.TheVariants as body
-use Rattle.session_table.specs.Contents.{Content, NoRecord, OtherShape, Holds, IsContent, Text, LongText, NoDesign, OtherTables, IsTextContent, tables_apart}
+use Rattle.session_table.specs.Contents.{NoRecord, OtherShape, Holds, IsContent, LongText, NoDesign, OtherTables, IsTextContent, tables_apart}
 use Rattle.session_table.specs.Table.{record_refusal, said_to, said_to_text}
 use Rattle.cov_compile.specs.declared.refusals.Refusal.{Refusal}
 use Rattle.cov_compile.specs.Refusals.{IsRefusal}
-use Rattle.session_table.specs.Says.{IsFaultBody, Refuses, FindsText, FindsRecord, IsWritable}
+use Rattle.session_table.specs.Says.{IsFaultBody, Refuses, FindsText}
 
 pub no_record_refuses : (opening : Design) (bytes : List ℕ) (fault : RecordFault) (b : Body) → HasRead (Err fault) (reading bytes) → b ≡ record_refusal fault → Refuses (IsContent opening bytes) said_to b
 no_record_refuses opening bytes (no_record.Short at) b read is = inl (NoRecord (no_record.Short at), read, ap inl (sym is))

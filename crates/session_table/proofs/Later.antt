@@ -1,6 +1,6 @@
 -- What was said at a history stays said at a longer one, and one part of a session follows another.
-use Rattle.std.proofs.Common.{◌≡◌, ◌⊎◌, inl, inr, ⊎_elim, ℕ, ◌+◌, ◌≤◌, List, [], ◌∷◌, ◌++◌, length, take, refl, sym, ap, ◌∙◌, subst, append_assoc, arith}
-use Rattle.std.specs.Prelude.{Option, Result}
+use Rattle.std.proofs.Common.{◌≡◌, ◌⊎◌, inl, inr, ⊎_elim, ℕ, ◌+◌, ◌≤◌, List, [], ◌∷◌, ◌++◌, length, take, sym, ap, ◌∙◌, subst, append_assoc, arith}
+use Rattle.std.specs.Prelude.{Option}
 use Rattle.design_data.specs.declared.design.Design.{Design}
 use Rattle.ucis_model.specs.declared.answers.Answer.{Answer}
 use Rattle.cov_history.specs.declared.entry.Entry.{Entry}
@@ -9,8 +9,8 @@ use Rattle.upload_stage.specs.Uploads.{Upload}
 use Rattle.cov_proto.specs.declared.replies.Body.{Body}
 use Rattle.cov_proto.specs.declared.replies.Reply.{Reply}
 use Rattle.cov_proto.specs.Requests.{request_read}
-use Rattle.session_table.specs.Table.{Row, lost}
-use Rattle.session_table.specs.Serves.{Place, Told, Turned, Lacks, BySaid, Replied, Step, Serves}
+use Rattle.session_table.specs.Table.{lost}
+use Rattle.session_table.specs.Serves.{Place, Lacks, BySaid, Replied, Step, Serves}
 use Rattle.session_table.proofs.Growing.{grown_long, take_later}
 
 turns_later : {opening : Design} {h after : List Entry} {caller from : ℕ} {w : Wish} {a : Answer} {added : List (ℕ × Entry)} {to : ℕ} → Grown h after → TurnsAt opening h caller from w a added to → TurnsAt opening after caller from w a added to

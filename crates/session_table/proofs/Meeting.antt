@@ -1,6 +1,5 @@
 -- What a record and a text that were made ready for a basis come with.
-use Rattle.std.proofs.Common.{◌≡◌, ◌≤◌, ℕ, List, length, take, map, refl, sym, ap, ◌∙◌, subst, arith, true}
-use Rattle.std.specs.Arc.{arc_value}
+use Rattle.std.proofs.Common.{◌≡◌, ◌≤◌, ℕ, List, length, take, sym, ap, ◌∙◌, arith, true}
 use Rattle.std.specs.Prelude.{None}
 use Rattle.std.proofs.Math.Seq.{take-length}
 use Rattle.design_data.specs.declared.design.Design.{Design}

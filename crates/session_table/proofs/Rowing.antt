@@ -1,22 +1,22 @@
 -- Replies to what is said by itself or by a turn.
-use Rattle.std.proofs.Common.{◌≡◌, ◌⊎◌, inl, inr, ⊎_elim, ℕ, ◌+◌, ◌≤◌, List, [], ◌∷◌, ◌++◌, length, take, map, Bool, true, false, refl, sym, ap, ◌∙◌, subst, append-nil, arith, length-append}
-use Rattle.std.specs.Prelude.{Option, Some, None, if◌then◌else◌}
+use Rattle.std.proofs.Common.{◌≡◌, ◌⊎◌, inl, inr, ⊎_elim, ℕ, ◌+◌, ◌≤◌, List, [], ◌++◌, length, take, map, true, refl, sym, ap, ◌∙◌, subst, append-nil, arith}
+use Rattle.std.specs.Prelude.{Option, Some, if◌then◌else◌}
 use Rattle.design_data.specs.declared.design.Design.{Design}
 use Rattle.ucis_model.specs.declared.answers.Answer.{Answer}
 use Rattle.ucis_model.specs.declared.answers.Answer.TheVariants as answer
 use Rattle.cov_history.specs.declared.entry.Entry.{Entry}
 use Rattle.cov_history.specs.declared.asks.Ask.{Ask}
-use Rattle.cov_history.specs.Answers.{answer_at, is_made, entries_of, may_want}
-use Rattle.cov_history.specs.Turns.{Wish, wish_of, ask_of, made_by, Answers, TurnsAt, PortTurns, PortWants, PortTurn, Grown, IsFrom}
+use Rattle.cov_history.specs.Answers.{answer_at, entries_of, may_want}
+use Rattle.cov_history.specs.Turns.{Wish, wish_of, ask_of, Answers, TurnsAt, PortTurns, PortWants, PortTurn, Grown, IsFrom}
 use Rattle.upload_stage.specs.Uploads.{Upload}
 use Rattle.cov_proto.specs.declared.replies.Body.{Body}
 use Rattle.cov_proto.specs.declared.replies.Body.TheVariants as body
 use Rattle.cov_proto.specs.declared.replies.Reply.{Reply}
 use Rattle.store_core.specs.declared.asks.Ask.{Ask as Call}
 use Rattle.store_core.specs.Asks.{asked, Meets}
-use Rattle.session_table.specs.Serves.{Place, Told, Turned, Lacks, BySaid}
+use Rattle.session_table.specs.Serves.{Place, Lacks, BySaid}
 use Rattle.session_table.specs.Says.{Rowed, IsWritable, IsKept, is_long}
-use Rattle.session_table.proofs.Growing.{grown_refl, grown_then, grown_long}
+use Rattle.session_table.proofs.Growing.{grown_then, grown_long}
 use Rattle.session_table.proofs.Wishing.{port_turned, since_high, long_makes_none, stopped_is_short, long_wants}
 
 -- an answer that is too long to be written came with no entry, to an ask that may want memory

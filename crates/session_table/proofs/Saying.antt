@@ -1,11 +1,11 @@
 -- From what is said to a request to what is replied to a body.
-use Rattle.std.proofs.Common.{◌≡◌, ◌⊎◌, inl, inr, ⊎_elim, ℕ, ◌+◌, ◌≤◌, List, [], ◌∷◌, ◌++◌, length, Bool, true, false, refl, sym, ap, ◌∙◌, subst, append-nil, arith}
-use Rattle.std.specs.Prelude.{Option, Some, None, Result, Ok, Err}
+use Rattle.std.proofs.Common.{◌≡◌, ◌⊎◌, inl, inr, ⊎_elim, ℕ, ◌≤◌, List, [], length, true, false, refl, sym, ap, ◌∙◌, subst, append-nil, arith}
+use Rattle.std.specs.Prelude.{Some, Result, Ok}
 use Rattle.design_data.specs.declared.design.Design.{Design}
 use Rattle.ucis_model.specs.declared.answers.Answer.TheVariants as answer
 use Rattle.cov_history.specs.declared.entry.Entry.{Entry}
 use Rattle.cov_history.specs.declared.asks.Ask.{Ask}
-use Rattle.cov_history.specs.Turns.{Wish, Plain, Grown}
+use Rattle.cov_history.specs.Turns.{Plain}
 use Rattle.upload_stage.specs.Uploads.{Upload}
 use Rattle.cov_proto.specs.declared.requests.Request.{Request}
 use Rattle.cov_proto.specs.declared.requests.Request.TheVariants as request
@@ -15,7 +15,7 @@ use Rattle.cov_proto.specs.declared.replies.Reply.{Reply}
 use Rattle.cov_proto.specs.Requests.{request_read, has_text, WantsMemory}
 use Rattle.session_table.specs.declared.bodies.Said.{Said}
 use Rattle.session_table.specs.Table.{Row, IsRow, lost, is_bye_request}
-use Rattle.session_table.specs.Serves.{Place, Told, Lacks, BySaid, Answered, Step}
+use Rattle.session_table.specs.Serves.{Place, BySaid, Answered, Step}
 use Rattle.session_table.specs.Says.{Rowed, Local, Replies, Says, IsWritable}
 use Rattle.session_table.proofs.Growing.{grown_refl}
 

@@ -1,13 +1,13 @@
 -- Records that fit, and designs of the same tables.
-use Rattle.std.proofs.Common.{◌≡◌, ℕ, zero, suc, ◌+◌, ◌<◌, ◌≤◌, Bool, true, false, ◌&&◌, List, [], ◌∷◌, length, map, refl, sym, ap, ◌∙◌, subst, arith, eq-eqb}
-use Rattle.std.specs.Prelude.{Option, Some, None, option_map, slice_get, ◌==◌, bytes_eq, if◌then◌else◌, is_none}
+use Rattle.std.proofs.Common.{◌≡◌, ℕ, ◌+◌, Bool, true, false, ◌&&◌, List, [], ◌∷◌, length, map, refl, ap, ◌∙◌, eq-eqb}
+use Rattle.std.specs.Prelude.{Option, Some, None, slice_get, ◌==◌, bytes_eq, if◌then◌else◌, is_none}
 use Rattle.std.proofs.lemmas.Slice.Eq.{bytes_eq-Decides}
 use Rattle.design_data.specs.declared.infos.Signal.{Signal}
 use Rattle.design_data.specs.declared.infos.InstInfo.{InstInfo}
 use Rattle.design_data.specs.declared.infos.GroupInfo.{GroupInfo}
 use Rattle.design_data.specs.declared.design.Design.{Design}
 use Rattle.record_codec.specs.declared.record.Record.{Record}
-use Rattle.cov_counting.specs.Tables.{signal_row, arg_row, arg_rows, instance_row, name_of}
+use Rattle.cov_counting.specs.Tables.{signal_row, arg_row, instance_row, name_of}
 use Rattle.sampler.specs.Shape.{Fits}
 use Rattle.cov_history.specs.Tables.{agree, group_name, same_sign, is_signal, is_arg, is_instance, fits, same_signal, same_instance, same_tables}
 use Rattle.session_table.specs.Contents.{apart, first_place, tables_apart}

@@ -1,6 +1,6 @@
 -- From what a core answers to what a port promises.
-use Rattle.std.proofs.Common.{◌≡◌, ◌⊎◌, ◌==◌, inl, inr, ⊎_elim, ℕ, suc, ◌+◌, ◌≤◌, Bool, true, false, not, if◌then◌else◌, List, [], ◌∷◌, ◌++◌, length, take, refl, sym, ap, ◌∙◌, subst, append-nil, arith, length-append, eq-eqb}
-use Rattle.std.specs.Prelude.{map, filter}
+use Rattle.std.proofs.Common.{◌≡◌, ◌⊎◌, ◌==◌, inl, inr, ℕ, suc, ◌+◌, Bool, true, false, not, if◌then◌else◌, List, [], ◌∷◌, ◌++◌, length, take, refl, sym, ap, ◌∙◌, subst, append-nil, arith, length-append, eq-eqb}
+use Rattle.std.specs.Prelude.{map}
 use Rattle.std.proofs.Math.Seq.{take-append_seam, take-length}
 use Rattle.design_data.specs.declared.design.Design.{Design}
 use Rattle.ucis_model.specs.declared.answers.Answer.{Answer}
@@ -8,8 +8,8 @@ use Rattle.cov_history.specs.declared.entry.Entry.{Entry}
 use Rattle.cov_history.specs.declared.entry.Event.TheVariants as event
 use Rattle.cov_history.specs.declared.asks.Ask.{Ask}
 use Rattle.cov_history.specs.declared.asks.Ask.TheVariants as ask
-use Rattle.cov_history.specs.Answers.{answer_at, by, is_made, entries_of, made, Serves}
-use Rattle.cov_history.specs.Turns.{wish_of, Answers, PortTurn, PortTurns, Grown, Stops, ServesOrStops}
+use Rattle.cov_history.specs.Answers.{answer_at, by, is_made, entries_of, made}
+use Rattle.cov_history.specs.Turns.{wish_of, Answers, PortTurn, Grown, ServesOrStops}
 use Rattle.session_table.specs.Alone.{own_from, others}
 use Rattle.session_table.proofs.Wishing.{made_wished}
 

@@ -1,12 +1,12 @@
 -- A Commit and a Revise: the upload refuses, its bytes are no record or text that fits, or they go to a turn.
 use Rattle.std.proofs.Common.{◌≡◌, ◌⊎◌, inl, inr, ⊎_elim, ℕ, ◌≤◌, List, length, refl, sym, ap, ◌∙◌, subst}
-use Rattle.std.specs.Prelude.{Option, Some, None, Result, Ok, Err}
+use Rattle.std.specs.Prelude.{Some, None, Ok, Err}
 use Rattle.design_data.specs.declared.design.Design.{Design}
 use Rattle.record_codec.specs.declared.record.Record.{Record}
 use Rattle.ucis_model.specs.declared.answers.Answer.TheVariants as answer
 use Rattle.cov_compile.specs.Texts.{Declared}
 use Rattle.cov_history.specs.declared.entry.Entry.{Entry}
-use Rattle.cov_history.specs.Turns.{Wish, Admit, Revise}
+use Rattle.cov_history.specs.Turns.{Admit, Revise}
 use Rattle.upload_stage.specs.declared.fault.StageFault.{StageFault}
 use Rattle.upload_stage.specs.Uploads.{Upload, finish_fault, finished, bytes_of}
 use Rattle.cov_proto.specs.declared.requests.Request.{Request}
@@ -15,9 +15,9 @@ use Rattle.cov_proto.specs.declared.replies.Body.{Body}
 use Rattle.cov_proto.specs.declared.replies.Body.TheVariants as body
 use Rattle.cov_proto.specs.declared.replies.Reply.{Reply}
 use Rattle.session_table.specs.Contents.{Content, Fitting, IsContent, Text, Revising, IsTextContent}
-use Rattle.session_table.specs.Table.{Row, IsRow, IsCommitRow, IsReviseRow, lost, unless, stage_refusal, said_to, said_to_text}
+use Rattle.session_table.specs.Table.{IsRow, IsCommitRow, IsReviseRow, lost, unless, stage_refusal, said_to, said_to_text}
 use Rattle.session_table.specs.Serves.{Place}
-use Rattle.session_table.specs.Says.{Rowed, Replies, IsWritable, Refuses, FindsRecord, FindsText}
+use Rattle.session_table.specs.Says.{Rowed, Replies, IsWritable, FindsRecord, FindsText}
 use Rattle.session_table.proofs.Saying.{rowed_replies, told_replies, lacks_replies}
 
 -- said of a list and a design by other names

@@ -1,8 +1,7 @@
 -- From what a port promises to a turn at a history.
-use Rattle.std.proofs.Common.{◌≡◌, ◌⊎◌, inl, inr, ℕ, ◌+◌, ◌≤◌, List, [], ◌∷◌, ◌++◌, length, take, Bool, true, false, refl, sym, ap, ◌∙◌, subst, arith}
+use Rattle.std.proofs.Common.{◌≡◌, ℕ, ◌≤◌, List, length, take, Bool, true, false, refl, sym, ap, subst, arith}
 use Rattle.std.specs.Prelude.{Option, Some, None, nat_lt, if◌then◌else◌, ◌&&◌}
 use Rattle.design_data.specs.declared.design.Design.{Design}
-use Rattle.ucis_model.specs.declared.node.Node.{Node}
 use Rattle.ucis_model.specs.declared.answers.Answer.{Answer}
 use Rattle.ucis_model.specs.declared.answers.Answer.TheVariants as answer
 use Rattle.ucis_model.specs.Paths.{find_in}
@@ -11,7 +10,7 @@ use Rattle.cov_history.specs.declared.asks.Ask.{Ask}
 use Rattle.cov_history.specs.declared.asks.Ask.TheVariants as ask
 use Rattle.cov_history.specs.History.{design_of, has, has_stop, out_of}
 use Rattle.cov_history.specs.Answers.{answer_at, table, unless_stopped, at_node, nodes_at, hello_at, include_at, made, is_made, may_want}
-use Rattle.cov_history.specs.Turns.{wish_of, ask_of, since_of, wished, made_by, Answers, TurnsAt, PortTurns, IsFrom}
+use Rattle.cov_history.specs.Turns.{wish_of, ask_of, since_of, made_by, Answers, TurnsAt, PortTurns, IsFrom}
 use Rattle.store_core.specs.declared.asks.Ask.{Ask as Call}
 use Rattle.store_core.specs.declared.asks.Ask.TheVariants as call
 use Rattle.store_core.specs.Asks.{asked, Meets}

@@ -1,5 +1,5 @@
 -- Answers that a frame can hold have a spelling that it holds.
-use Rattle.std.proofs.Common.{◌≡◌, ℕ, ◌+◌, ◌*◌, ◌<◌, ◌≤◌, Bool, true, false, List, [], ◌∷◌, ◌++◌, length, refl, arith, length-append}
+use Rattle.std.proofs.Common.{◌≡◌, ℕ, ◌+◌, ◌*◌, ◌≤◌, Bool, true, false, List, [], ◌∷◌, ◌++◌, length, refl, arith, length-append}
 use Rattle.std.specs.List.{flat_map, AllByRecursion}
 use Rattle.std.specs.Int.{w32, w64, to_be_bytes}
 use Rattle.ucis_model.specs.declared.answers.Which.{Which}
@@ -9,10 +9,10 @@ use Rattle.ucis_model.specs.declared.answers.Answer.{Answer}
 use Rattle.ucis_model.specs.declared.answers.Answer.TheVariants as answer
 use Rattle.cov_proto.specs.declared.replies.Body.TheVariants as body
 use Rattle.cov_proto.specs.Limits.{IsTestRow}
-use Rattle.cov_proto.specs.Spelled.{flag, limit, count_row, rank_row, test_row, cover_row, answer_fields, body_fields}
+use Rattle.cov_proto.specs.Spelled.{flag, limit, count_row, test_row, answer_fields, body_fields}
 use Rattle.cov_proto.proofs.Sizes.{size_of_count_rows, size_of_rank_rows}
 use Rattle.session_table.specs.Says.{IsWritable}
-use Rattle.session_table.specs.Writable.{IsShortTest, AreShortTests, IsHeld}
+use Rattle.session_table.specs.Writable.{AreShortTests, IsHeld}
 
 length-limit : (w : Which) → length (limit w) ≡ 1
 length-limit which.Tests = refl

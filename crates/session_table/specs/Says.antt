@@ -1,7 +1,6 @@
 -- What one body leads to, over a history that grows.
 use Rattle.std.specs.Prelude.{◌≡◌, ◌⊎◌, ℕ, ◌+◌, ◌-◌, ◌≤◌, List, ◌++◌, length, Option, Some, Result, Ok, Err, Bool, true, false}
-use Rattle.std.proofs.Common.{inl, inr}
-use Rattle.std.specs.Global.{Vec}
+use Rattle.std.proofs.Common.{inl}
 use Rattle.design_data.specs.declared.design.Design.{Design}
 use Rattle.record_codec.specs.declared.record.Record.{Record}
 use Rattle.ucis_model.specs.declared.answers.Answer.{Answer}
@@ -22,7 +21,7 @@ use Rattle.cov_proto.specs.Spelled.{body_fields}
 use Rattle.session_table.specs.declared.talk.Talk.{Talk}
 use Rattle.session_table.specs.declared.bodies.Said.{Said}
 use Rattle.cov_compile.specs.Faults.{fault_word, fault_place}
-use Rattle.session_table.specs.Contents.{Content, Fitting, IsContent, Text, IsTextContent, Revising}
+use Rattle.session_table.specs.Contents.{Fitting, IsContent, IsTextContent, Revising}
 use Rattle.session_table.specs.Table.{Row, said_to, said_to_text, is_bye}
 use Rattle.session_table.specs.Serves.{Place, BySaid, Lacks, Answered, Step}
 

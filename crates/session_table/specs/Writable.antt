@@ -1,5 +1,5 @@
 -- Which answers a frame can hold. Public contracts cite none of it.
-use Rattle.std.specs.Prelude.{ℕ, ◌≤◌, List, length}
+use Rattle.std.specs.Prelude.{◌≤◌, List, length}
 use Rattle.std.specs.List.{AllByRecursion}
 use Rattle.cov_ground.specs.Limits.{most_rows, most_test_rows, longest_chunk}
 use Rattle.ucis_model.specs.declared.answers.HistoryNode.{HistoryNode}

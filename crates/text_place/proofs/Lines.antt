@@ -1,10 +1,10 @@
 -- The line of the next place.
-use Rattle.std.proofs.Common.{◌≡◌, ℕ, ◌+◌, ◌<◌, ◌≤◌, List, length, get_or, arith, inl, inr, refl, sym, ◌∙◌, ap, Some}
+use Rattle.std.proofs.Common.{◌≡◌, ℕ, ◌+◌, ◌<◌, List, length, get_or, arith, inl, inr, refl, sym, ◌∙◌, ap, Some}
 use Rattle.std.specs.Prelude.{slice_get}
 use Rattle.std.proofs.lemmas.Bool.{cases_lt, eq-eqb, ne_eqb}
 use Rattle.std.proofs.lemmas.Option.{get_or_from_slice_get, slice_get-get_or}
 use Rattle.std.proofs.lemmas.List.Sums.{count_by_more_yes, count_by_more_no}
-use Rattle.text_place.specs.Places.{newline, is_newline, IsLine, IsOneLine}
+use Rattle.text_place.specs.Places.{newline, is_newline, IsLine}
 
 -- behind a newline the next line begins
 pub next_line : (text : List ℕ) (i line start : ℕ) → i < length text → get_or text i 0 ≡ newline → IsLine text i line start → IsLine text (i + 1) (line + 1) (i + 1)

@@ -1,5 +1,5 @@
 -- The least node of a path.
-use Rattle.std.proofs.Common.{◌≡◌, ◌∙◌, ℕ, zero, suc, ◌+◌, ◌<◌, ◌≤◌, nat_eq, List, [], ◌∷◌, ◌++◌, length, map, Bool, true, false, cond, Option, Some, None, refl, sym, ap, subst, arith}
+use Rattle.std.proofs.Common.{◌≡◌, ◌∙◌, ℕ, zero, suc, ◌+◌, ◌<◌, ◌≤◌, nat_eq, List, [], ◌∷◌, length, map, Bool, true, false, cond, Option, Some, None, refl, sym, ap, subst, arith}
 use Rattle.std.specs.List.{range_with_len}
 use Rattle.std.specs.Cmp.Lexicographic.{pointwise}
 use Rattle.std.specs.Prelude.{if◌then◌else◌, nat_lt}
@@ -7,7 +7,7 @@ use Rattle.name_map.specs.Names.{meaning_of}
 use Rattle.name_map.proofs.Named.{same_names, same_as_itself}
 use Rattle.ucis_model.specs.declared.node.Node.{Node}
 use Rattle.ucis_model.specs.Paths.{path_of, first_with, find_in, places_of}
-use Rattle.ucis_model.specs.Laws.{IsLeast, HasNone, IsFound, FindsLeast, FindsOwnPath}
+use Rattle.ucis_model.specs.Laws.{IsFound, FindsLeast, FindsOwnPath}
 
 -- a look-up among the paths with their places
 looked_up : (nodes : List Node) (path : List ℕ) (places : List ℕ) → meaning_of (map (λ place. (path_of nodes place, place)) places) path ≡ first_with nodes path places

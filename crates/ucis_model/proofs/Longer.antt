@@ -1,16 +1,13 @@
 -- Nodes that are put behind others are more, and are below nodes that stand before them.
-use Rattle.std.proofs.Common.{◌≡◌, ◌∙◌, ℕ, zero, suc, ◌+◌, ◌<◌, ◌≤◌, List, [], ◌∷◌, ◌++◌, length, drop, get_or, drop-cons, add-one, Bool, true, false, cond, refl, sym, ap, subst, arith}
+use Rattle.std.proofs.Common.{ℕ, ◌+◌, ◌≤◌, List, [], ◌∷◌, ◌++◌, length, arith}
 use Rattle.std.proofs.lemmas.List.{length_push}
-use Rattle.std.specs.Prelude.{◌==◌, filter, if◌then◌else◌}
-use Rattle.std.specs.List.{flat_map}
-use Rattle.cov_ground.specs.Limits.{most_design_bins}
 use Rattle.design_data.specs.declared.infos.BinInfo.{BinInfo}
 use Rattle.design_data.specs.declared.infos.ItemInfo.{ItemInfo}
 use Rattle.design_data.specs.declared.infos.InstInfo.{InstInfo}
 use Rattle.design_data.specs.declared.infos.GroupInfo.{GroupInfo}
-use Rattle.design_data.specs.Bins.{bins_in, total, items_of_group, items_from}
+use Rattle.design_data.specs.Bins.{bins_in}
 use Rattle.ucis_model.specs.declared.node.Node.{Node}
-use Rattle.ucis_model.specs.Nodes.{bins_of, own_of, bin_node, item_node, instance_node, group_node, with_bins, with_item, with_items, with_instance, with_instances, with_group, with_groups}
+use Rattle.ucis_model.specs.Nodes.{bin_node, item_node, instance_node, group_node, with_bins, with_item, with_items, with_instance, with_instances, with_group}
 
 push_longer : (before : List Node) (node : Node) → length before ≤ length (before ++ node ∷ [])
 push_longer before node = let e = length_push before node in omega (arith, e)

@@ -1,7 +1,6 @@
 -- One bin, item, instance or group more.
-use Rattle.std.proofs.Common.{◌≡◌, ◌∙◌, ℕ, zero, suc, ◌+◌, ◌<◌, ◌≤◌, List, [], ◌∷◌, ◌++◌, length, drop, get_or, drop-cons, add-one, Bool, true, false, cond, refl, sym, ap, subst, arith}
-use Rattle.std.proofs.lemmas.List.{length_push}
-use Rattle.std.specs.Prelude.{◌==◌, filter, if◌then◌else◌}
+use Rattle.std.proofs.Common.{◌≡◌, ◌∙◌, ℕ, ◌+◌, ◌<◌, ◌≤◌, List, [], ◌∷◌, ◌++◌, length, drop, get_or, drop-cons, add-one, Bool, true, false, refl, sym, ap, subst, arith}
+use Rattle.std.specs.Prelude.{◌==◌}
 use Rattle.std.specs.List.{flat_map}
 use Rattle.cov_ground.specs.Limits.{most_design_bins}
 use Rattle.design_data.specs.declared.infos.BinInfo.{BinInfo}
@@ -12,7 +11,7 @@ use Rattle.design_data.specs.Bins.{bins_in, total, items_of_group, items_from}
 use Rattle.ucis_model.specs.declared.node.Node.{Node}
 use Rattle.ucis_model.specs.declared.node.NodeKind.TheVariants as kinds
 use Rattle.ucis_model.proofs.Longer.{item_longer, instances_longer, group_longer}
-use Rattle.ucis_model.specs.Nodes.{bins_of, own_of, has_some, group_node, bin_node, with_bins, with_item, with_items, with_instance, with_instances, with_group, with_groups}
+use Rattle.ucis_model.specs.Nodes.{bins_of, own_of, has_some, bin_node, with_bins, with_item, with_items, with_instance, with_instances, with_group, with_groups}
 
 pub next_is : {A : Type 0} (xs : List A) (i : ℕ) (x : A) → i < length xs → x ≡ get_or xs i x → drop i xs ≡ x ∷ drop (i + 1) xs
 next_is xs i x lt is = drop-cons xs i x lt ∙ rw (add-one, ← is) refl

@@ -1,13 +1,12 @@
 -- Places, as marks and bytes and as a list.
-use Rattle.std.proofs.Common.{◌≡◌, ℕ, zero, suc, ◌+◌, ◌-◌, ◌*◌, ◌/◌, ◌%◌, ◌<◌, ◌≤◌, List, [], ◌∷◌, ◌++◌, length, take, drop, get_or, refl, sym, ap, ◌∙◌, arith, inl, inr, eqb, cond, Bool, true, false, Option, Some, None, Vec}
+use Rattle.std.proofs.Common.{◌≡◌, ℕ, zero, suc, ◌+◌, ◌-◌, ◌<◌, ◌≤◌, List, [], ◌∷◌, ◌++◌, length, take, drop, get_or, refl, sym, ap, ◌∙◌, arith, inl, inr, true, false, Option, Some, None}
 use Rattle.std.specs.Prelude.{map, replicate}
-use Rattle.std.specs.List.{range_with_len}
 use Rattle.std.proofs.lemmas.Bool.{cases_lt, cases_eq, eq-eqb, ne_eqb}
 use Rattle.std.proofs.lemmas.List.{drop_more, drop_all, get_or-drop, get_or-take, get_or-map, length-append, length-map, length-take-le, length-drop, take-append-le, take_all}
 use Rattle.std.proofs.lemmas.List.{get_or_append_left, get_or-append_right}
 use Rattle.std.proofs.lemmas.List.FromFn.{fill_by_all, length-map-range_with_len, get_or-map-range_with_len}
 use Rattle.std.proofs.lemmas.Grind.{same_number_lists}
-use Rattle.upload_stage.specs.Places.{differs, first_differing, first_missing, with_bytes, byte_or_zero, bytes_in, mark_of, byte_at, places_of, IsHeld}
+use Rattle.upload_stage.specs.Places.{differs, first_differing, first_missing, with_bytes, byte_or_zero, bytes_in, mark_of, byte_at, places_of}
 use Rattle.upload_stage.proofs.Bits.{no_marks}
 
 -- ---- one place

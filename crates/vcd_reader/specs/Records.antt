@@ -10,7 +10,6 @@ use Rattle.vcd_reader.specs.declared.dump.Dump.{Dump}
 use Rattle.vcd_reader.specs.declared.fault.DumpFault.{DumpFault}
 use Rattle.vcd_reader.specs.declared.fault.DumpFault.TheVariants.{BadEvent}
 use Rattle.vcd_reader.specs.declared.watching.Watches.{Watches}
-use Rattle.vcd_reader.specs.Refusals.{◌>>=◌}
 use Rattle.vcd_reader.specs.Signals.{vars_in, codes_of}
 use Rattle.vcd_reader.specs.Watching.{first_of}
 use Rattle.vcd_reader.specs.Events.{all_events}

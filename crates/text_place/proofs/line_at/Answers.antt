@@ -1,5 +1,4 @@
-use Rattle.std.proofs.Common.{◌≡◌, ◌+◌, ◌<◌, ◌≤◌, length, arith}
-use Rattle.text_place.specs.Places.{IsLine}
+use Rattle.std.proofs.Common.{◌<◌, length, arith}
 use Rattle.text_place.proofs.Lines.{next_line, same_line}
 use Rattle.text_place.proofs.line_at.Goals as goal
 use Rattle.text_place.proofs.line_at.Goals.{then-text-i-eq10, else-text-i-eq10}

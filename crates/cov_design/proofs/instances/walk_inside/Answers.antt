@@ -1,4 +1,4 @@
-use Rattle.std.proofs.Common.{◌≡◌, ◌∙◌, ap, sym, subst, Result, Ok}
+use Rattle.std.proofs.Common.{◌≡◌, ap, sym, subst, Result, Ok}
 use Rattle.std.proofs.lemmas.Result.{err_from_is_err_and}
 use Rattle.const_eval.specs.Scopes.{Levels}
 use Rattle.elab_base.specs.Gives.{Refusal, Fails}

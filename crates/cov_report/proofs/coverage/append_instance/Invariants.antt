@@ -1,7 +1,6 @@
 use Rattle.std.proofs.Common.{◌≡◌, ◌++◌, take}
 use Rattle.std.specs.List.{flat_map}
 use Rattle.cov_history.specs.Nodes.{children}
-use Rattle.cov_history.specs.History.{design_of}
 use Rattle.merge_store.specs.Now.{nodes_now}
 use Rattle.merge_store.specs.Stores.{opening_of, entries_of}
 use Rattle.cov_report.specs.Report.{line_of_item, rows_at}

@@ -1,5 +1,5 @@
 use Rattle.std.proofs.Common.{refl, sym, ◌∙◌, append-nil, [], arith, Some}
-use Rattle.session_table.proofs.Growing.{grown_then}
+use Rattle.cov_session.proofs.Growing.{grown_then}
 use Rattle.turn_lock.specs.Seats.{seen}
 use Rattle.cov_server.specs.Legal.{seat_legal}
 use Rattle.cov_server.proofs.Rounds.{handed_more}

@@ -1,5 +1,3 @@
-use Rattle.std.proofs.Common.{◌≡◌, ◌∙◌, arith, rules}
-use Rattle.std.proofs.lemmas.Grind.{common_steps}
 use Rattle.cov_session.proofs.Buffers.{moved}
 use Rattle.cov_session.proofs.inbox.to_front.Goals as goal
 

@@ -1,4 +1,4 @@
-use Rattle.std.proofs.Common.{◌≡◌, ◌∙◌, arith, refl}
+use Rattle.std.proofs.Common.{◌∙◌, arith, refl}
 use Rattle.cov_session.proofs.Chain.{ran_then, bye_then, fault_then, frame_ran, frame_bye, frame_fault}
 use Rattle.cov_session.proofs.Parts.{ran_none}
 use Rattle.cov_session.proofs.Causing.{rose_after}

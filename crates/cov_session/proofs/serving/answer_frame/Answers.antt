@@ -1,4 +1,4 @@
-use Rattle.std.proofs.Common.{◌≡◌, ◌∙◌, ◌+◌, arith, rules, refl, ap, sym, subst, take, drop, List, ℕ, ◌-◌, ◌++◌, ◌≤◌, length}
+use Rattle.std.proofs.Common.{◌∙◌, ◌+◌, arith, rules, ap, sym, subst, take, drop, List, ℕ, ◌-◌, ◌++◌, ◌≤◌, length}
 use Rattle.cov_spec.specs.Told.{Grows}
 use Rattle.cov_proto.specs.Frames.{longest_body}
 use Rattle.cov_session.specs.Streams.{reply_frame}

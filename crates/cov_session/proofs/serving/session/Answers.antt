@@ -1,4 +1,4 @@
-use Rattle.std.proofs.Common.{◌≡◌, ◌∙◌, ◌+◌, ◌-◌, arith, refl, ap, sym, subst, [], length, None}
+use Rattle.std.proofs.Common.{◌≡◌, ◌∙◌, ◌-◌, arith, refl, sym, subst, [], length, None}
 use Rattle.cov_proto.specs.Frames.{HasBadLength}
 use Rattle.cov_session.proofs.Chain.{ran_then}
 use Rattle.cov_session.proofs.Parts.{ran_start}

@@ -1,4 +1,4 @@
-use Rattle.std.proofs.Common.{◌≡◌, ◌∙◌, arith}
+use Rattle.std.proofs.Common.{◌∙◌, arith}
 use Rattle.cov_session.proofs.Grown.{grows_from, within_from}
 use Rattle.cov_session.proofs.serving.write_all.Goals as goal
 

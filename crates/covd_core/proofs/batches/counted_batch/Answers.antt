@@ -1,4 +1,4 @@
-use Rattle.std.proofs.Common.{List, ◌∷◌, length, Result, sym, ap, subst, arith}
+use Rattle.std.proofs.Common.{List, ◌∷◌, Result, sym, subst, arith}
 use Rattle.covd_core.specs.declared.batches.Counted.{Counted}
 use Rattle.covd_core.specs.declared.finding.Source.{Source}
 use Rattle.covd_core.specs.declared.stop.Stop.{Stop}

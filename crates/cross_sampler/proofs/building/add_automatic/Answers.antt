@@ -1,5 +1,5 @@
-use Rattle.std.proofs.Common.{rules, vec_len, ◌≡◌, ◌∙◌, List, ℕ, ◌<◌, get_or, refl, ap, sym, subst, length, arith}
-use Rattle.std.specs.Prelude.{slice_get, Some, false}
+use Rattle.std.proofs.Common.{rules, vec_len, ◌≡◌, ◌∙◌, List, ℕ, refl, ap, subst, length, arith}
+use Rattle.std.specs.Prelude.{slice_get, Some}
 use Rattle.std.specs.List.{AllByRecursion}
 use Rattle.std.proofs.lemmas.Option.{slice_get_read}
 use Rattle.cov_counting.proofs.Bins.{each_at}

@@ -1,4 +1,4 @@
-use Rattle.std.proofs.Common.{◌≡◌, ◌∙◌}
+use Rattle.std.proofs.Common.{◌∙◌}
 use Rattle.cross_sampler.proofs.Bins.{has_front}
 use Rattle.cross_sampler.proofs.building.has_product.Goals as goal
 

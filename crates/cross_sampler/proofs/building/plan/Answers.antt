@@ -1,4 +1,4 @@
-use Rattle.std.proofs.Common.{◌≡◌, ap, arith}
+use Rattle.std.proofs.Common.{ap, arith}
 use Rattle.cross_select.specs.Products.{product_of}
 use Rattle.cross_sampler.proofs.Radix.{all_some}
 use Rattle.cross_sampler.proofs.Bins.{nothing_planned}

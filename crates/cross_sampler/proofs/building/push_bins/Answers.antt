@@ -1,4 +1,4 @@
-use Rattle.std.proofs.Common.{◌≡◌, ◌<◌, length, arith}
+use Rattle.std.proofs.Common.{arith}
 use Rattle.cross_sampler.proofs.Bins.{push_more}
 use Rattle.cross_sampler.proofs.building.push_bins.Goals as goal
 

@@ -1,7 +1,7 @@
-use Rattle.std.proofs.Common.{◌≡◌, ℕ, ◌+◌, get_or, drop, ap, sym, subst, ◌∙◌, arith, [], ◌∷◌, length, List}
+use Rattle.std.proofs.Common.{◌≡◌, ℕ, ◌+◌, get_or, drop, ap, sym, subst, ◌∙◌, arith, List}
 use Rattle.cross_select.specs.Products.{product_of}
 use Rattle.cross_sampler.specs.Numbers.{row_at, hits_of, numbers_of, extended, AllFit}
-use Rattle.cross_sampler.proofs.Radix.{numbers_more, fits_more, all_small, all_below}
+use Rattle.cross_sampler.proofs.Radix.{numbers_more, fits_more, all_small}
 use Rattle.cross_sampler.proofs.numbers.product_numbers.Goals as goal
 
 pub extend-requires-clause-fits : goal.extend-requires-clause-fits

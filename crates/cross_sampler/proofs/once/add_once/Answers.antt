@@ -1,6 +1,6 @@
-use Rattle.std.proofs.Common.{◌≡◌, ◌∙◌}
+use Rattle.std.proofs.Common.{◌∙◌}
 use Rattle.cross_sampler.specs.Once.{guard_at}
-use Rattle.cross_sampler.proofs.Marks.{once_none, once_more}
+use Rattle.cross_sampler.proofs.Marks.{once_more}
 use Rattle.cross_sampler.proofs.once.add_once.Goals as goal
 
 pub loop-bin-preserved : goal.loop-bin-preserved

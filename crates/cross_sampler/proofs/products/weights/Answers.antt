@@ -1,4 +1,3 @@
-use Rattle.std.proofs.Common.{◌≡◌, arith}
 use Rattle.cross_sampler.proofs.Radix.{weight_more}
 use Rattle.cross_sampler.proofs.products.weights.Goals as goal
 

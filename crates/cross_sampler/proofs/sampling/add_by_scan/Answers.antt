@@ -1,4 +1,4 @@
-use Rattle.std.proofs.Common.{◌≡◌, ◌∙◌, List, ℕ, get_or, length}
+use Rattle.std.proofs.Common.{◌∙◌, get_or, length}
 use Rattle.cross_sampler.specs.Numbers.{product_at}
 use Rattle.cross_sampler.proofs.Hits.{raises_more, inside}
 use Rattle.cross_sampler.proofs.sampling.add_by_scan.Goals as goal

@@ -1,5 +1,5 @@
 use Rattle.std.proofs.Common.{take}
-use Rattle.design_data.specs.Tested.{AreSignalsWide, HaveFewBins, AreItems, AreInstances}
+use Rattle.design_data.specs.Tested.{AreItems}
 use Rattle.design_data.proofs.items.are_all_items.Given as goal
 
 abbrev pub invariant-loop-item : goal.invariant-loop-item

@@ -1,5 +1,5 @@
 use Rattle.std.proofs.Common.{take}
-use Rattle.design_data.specs.Tested.{AreSignalsWide, HaveFewBins, AreItems, AreInstances}
+use Rattle.design_data.specs.Tested.{AreSignalsWide}
 use Rattle.design_data.proofs.items.are_signals_wide.Given as goal
 
 abbrev pub invariant-loop-signal : goal.invariant-loop-signal

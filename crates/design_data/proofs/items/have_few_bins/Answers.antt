@@ -1,4 +1,4 @@
-use Rattle.std.proofs.Common.{refl, arith, sym, ap, ◌∙◌, ◌≡◌, ◌≤◌, ◌+◌, ℕ, List, length}
+use Rattle.std.proofs.Common.{refl, arith, ap, ◌≤◌, List, length}
 use Rattle.cov_ground.specs.Limits.{most_bins}
 use Rattle.design_data.specs.declared.infos.BinInfo.{BinInfo}
 use Rattle.design_data.proofs.Answering.{yes}

@@ -1,4 +1,4 @@
-use Rattle.std.proofs.Common.{refl, arith, sym, ◌∙◌}
+use Rattle.std.proofs.Common.{arith}
 use Rattle.design_data.proofs.Answering.{same}
 use Rattle.design_data.proofs.Parts.{if_ok}
 use Rattle.design_data.proofs.items.is_cross.Goals as goal

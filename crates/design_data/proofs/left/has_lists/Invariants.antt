@@ -1,5 +1,5 @@
-use Rattle.std.proofs.Common.{◌≡◌, take, true, false}
-use Rattle.std.specs.List.{list_any, list_all, AllByRecursion}
+use Rattle.std.proofs.Common.{◌≡◌, take, true}
+use Rattle.std.specs.List.{list_all}
 use Rattle.trans_seq.specs.declared.seq.Item.{Item}
 use Rattle.design_data.specs.Left.{has_numbers}
 use Rattle.design_data.proofs.left.has_lists.Given as goal

@@ -1,4 +1,4 @@
-use Rattle.std.proofs.Common.{◌≡◌, take, true, false}
+use Rattle.std.proofs.Common.{◌≡◌, take, false}
 use Rattle.design_data.specs.Left.{has_seq_left}
 use Rattle.design_data.specs.Bins.{removing_seqs}
 use Rattle.design_data.proofs.left.has_seq_left.Given as goal

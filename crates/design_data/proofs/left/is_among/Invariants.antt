@@ -1,5 +1,5 @@
-use Rattle.std.proofs.Common.{◌≡◌, take, true, false}
-use Rattle.std.specs.List.{list_any, list_all, AllByRecursion}
+use Rattle.std.proofs.Common.{◌≡◌, take, false}
+use Rattle.std.specs.List.{list_any}
 use Rattle.design_data.specs.Left.{is_same_seq}
 use Rattle.design_data.proofs.left.is_among.Given as goal
 

@@ -1,4 +1,3 @@
-use Rattle.std.proofs.Common.{refl, arith, sym, ◌∙◌}
 use Rattle.design_data.proofs.Sums.{groups_more, groups_not}
 use Rattle.design_data.proofs.numbers.end_of_bins.Goals as goal
 

@@ -1,6 +1,6 @@
 use Rattle.std.proofs.Common.{take, Some, ◌≤◌}
 use Rattle.design_data.specs.Tested.{EndsAt, most_end}
-use Rattle.design_data.specs.Bins.{items_in, items_of_group, items_from}
+use Rattle.design_data.specs.Bins.{items_from}
 use Rattle.design_data.proofs.numbers.end_of_bins.Given as goal
 
 abbrev pub invariant-loop-group : goal.invariant-loop-group

@@ -1,4 +1,3 @@
-use Rattle.std.proofs.Common.{refl, arith, sym, ◌∙◌}
 use Rattle.design_data.proofs.Sums.{group_more, group_not}
 use Rattle.design_data.proofs.numbers.end_of_group.Goals as goal
 

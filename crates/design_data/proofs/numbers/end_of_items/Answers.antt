@@ -1,7 +1,5 @@
-use Rattle.std.proofs.Common.{refl, arith, sym, ap, ◌∙◌, ◌≡◌, ◌≤◌, ◌+◌, ℕ, List, length}
-use Rattle.std.proofs.Common.{Some, subst}
+use Rattle.std.proofs.Common.{arith, sym, ap, ◌∙◌, List, length}
 use Rattle.design_data.specs.declared.infos.BinInfo.{BinInfo}
-use Rattle.design_data.specs.Tested.{EndsAt, most_end}
 use Rattle.design_data.proofs.Sums.{item_more, item_not}
 use Rattle.design_data.proofs.numbers.end_of_items.Goals as goal
 

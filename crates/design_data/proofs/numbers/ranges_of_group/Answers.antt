@@ -1,9 +1,9 @@
-use Rattle.std.proofs.Common.{refl, arith, sym, ap, ◌∙◌, ◌≡◌, ◌≤◌, ◌+◌, ℕ, List, length}
+use Rattle.std.proofs.Common.{◌∙◌, ℕ}
 use Rattle.design_data.specs.declared.infos.BinInfo.{BinInfo}
 use Rattle.design_data.specs.declared.infos.ItemInfo.{ItemInfo}
 use Rattle.design_data.specs.Bins.{total}
 use Rattle.design_data.specs.Limits.{ranges_of}
-use Rattle.design_data.proofs.Sums.{group_sum_more, groups_sum_more}
+use Rattle.design_data.proofs.Sums.{group_sum_more}
 use Rattle.design_data.proofs.numbers.ranges_of_group.Goals as goal
 
 abbrev own : ItemInfo → ℕ

@@ -1,13 +1,8 @@
-use Rattle.std.proofs.Common.{refl, arith, sym, ap, ◌∙◌, ◌≡◌, ◌≤◌, ◌+◌, ℕ, List, length}
-use Rattle.design_data.specs.declared.infos.BinInfo.{BinInfo}
-use Rattle.design_data.specs.declared.infos.ItemInfo.{ItemInfo}
-use Rattle.design_data.specs.declared.infos.InstInfo.{InstInfo}
+use Rattle.std.proofs.Common.{ap, ◌∙◌, ◌≡◌, ℕ, List, length}
 use Rattle.trans_seq.specs.declared.seq.Seq.{Seq}
 use Rattle.trans_seq.specs.declared.seq.Item.{Item}
-use Rattle.std.specs.Prelude.{ℤ}
 use Rattle.design_data.specs.Bins.{total}
-use Rattle.design_data.specs.Limits.{ranges_of}
-use Rattle.design_data.proofs.Sums.{cut, sum_more, sum_done}
+use Rattle.design_data.proofs.Sums.{cut, sum_more}
 use Rattle.design_data.proofs.numbers.ranges_of_seqs.Goals as goal
 
 abbrev own : Seq → ℕ

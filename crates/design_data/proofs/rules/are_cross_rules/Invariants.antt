@@ -1,5 +1,5 @@
-use Rattle.std.proofs.Common.{◌≡◌, take, true, false}
-use Rattle.design_data.specs.Tested.{AreItemsShort, ArePointRules, AreCrossRules}
+use Rattle.std.proofs.Common.{take}
+use Rattle.design_data.specs.Tested.{AreCrossRules}
 use Rattle.design_data.proofs.rules.are_cross_rules.Given as goal
 
 abbrev pub invariant-loop-bin : goal.invariant-loop-bin

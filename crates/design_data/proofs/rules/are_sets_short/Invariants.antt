@@ -1,4 +1,4 @@
-use Rattle.std.proofs.Common.{◌≡◌, take, true, false}
+use Rattle.std.proofs.Common.{take}
 use Rattle.design_data.specs.Limits.{AreSetsShort}
 use Rattle.design_data.proofs.rules.are_sets_short.Given as goal
 

@@ -1,5 +1,5 @@
-use Rattle.std.proofs.Common.{◌≡◌, take, true, false}
-use Rattle.std.specs.List.{list_any, list_all, AllByRecursion}
+use Rattle.std.proofs.Common.{◌≡◌, take, false}
+use Rattle.std.specs.List.{list_any}
 use Rattle.design_data.specs.Crosses.{has}
 use Rattle.design_data.proofs.rules.has_some.Given as goal
 

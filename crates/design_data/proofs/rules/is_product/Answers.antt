@@ -1,4 +1,4 @@
-use Rattle.std.proofs.Common.{refl, arith, sym, ◌∙◌}
+use Rattle.std.proofs.Common.{refl, arith}
 use Rattle.design_data.proofs.Answering.{yes, no}
 use Rattle.design_data.proofs.Parts.{product_length, product_at, product_more, product_done}
 use Rattle.design_data.proofs.rules.is_product.Goals as goal

@@ -1,4 +1,4 @@
-use Rattle.std.proofs.Common.{◌≡◌, take, true, false}
+use Rattle.std.proofs.Common.{take}
 use Rattle.design_data.specs.Crosses.{IsProduct}
 use Rattle.design_data.proofs.rules.is_product.Given as goal
 

@@ -1,4 +1,4 @@
-use Rattle.std.proofs.Common.{[], ◌∷◌, ◌++◌, Bool, ◌&&◌, cond, ap, sym, ◌∙◌}
+use Rattle.std.proofs.Common.{[], ◌∷◌, ◌++◌, Bool, cond, ap, sym, ◌∙◌}
 use Rattle.std.proofs.lemmas.Result.{on_ok_weaker}
 use Rattle.design_data.specs.Crosses.{picks, is_left}
 use Rattle.elab_crosses.proofs.left.keep_left.Goals as goal

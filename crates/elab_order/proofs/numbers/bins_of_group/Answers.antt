@@ -1,4 +1,4 @@
-use Rattle.std.specs.Prelude.{◌==◌, nat_lt}
+use Rattle.std.specs.Prelude.{◌==◌}
 use Rattle.elab_order.proofs.Steps.{load_more}
 use Rattle.elab_order.proofs.numbers.bins_of_group.Goals as goal
 

@@ -1,7 +1,4 @@
-use Rattle.std.proofs.Common.{◌≡◌, ◌∙◌, ap, ◌+◌, ◌≤◌, ◌∷◌, length, arith}
-use Rattle.cov_ground.specs.Limits.{most_design_bins}
-use Rattle.design_data.specs.Bins.{bins_in}
-use Rattle.elab_order.specs.Order.{first_of}
+use Rattle.std.proofs.Common.{ap, length, arith}
 use Rattle.elab_order.proofs.Steps.{fits, goes_on}
 use Rattle.elab_order.proofs.numbers.number_all.Goals as goal
 

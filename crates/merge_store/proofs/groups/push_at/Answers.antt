@@ -1,9 +1,3 @@
-use Rattle.std.proofs.Common.{◌∙◌, sym, ap, ◌++◌, ◌∷◌, []}
-use Rattle.std.proofs.lemmas.List.{map-set, get_or-map}
-use Rattle.std.specs.declared.vec.Vec.{Vec}
-use Rattle.std.specs.declared.alloc.Global.{Global}
-use Rattle.std.proofs.Common.{ℕ, List}
-use Rattle.std.specs.Prelude.{slice_set}
 use Rattle.merge_store.proofs.Grouping.{put_list}
 use Rattle.merge_store.proofs.groups.push_at.Goals as goal
 

@@ -1,4 +1,4 @@
-use Rattle.std.proofs.Common.{◌≡◌, length, map, nat_lt}
+use Rattle.std.proofs.Common.{map, nat_lt}
 use Rattle.std.specs.Prelude.{option_map}
 use Rattle.std.specs.Arc.{arc_value}
 use Rattle.merge_store.specs.Runs.{HasMarks}

@@ -1,4 +1,4 @@
-use Rattle.std.proofs.Common.{◌≡◌, ◌∙◌, ◌||◌, ap, subst, arith, length, map, List, ℕ, Bool, Option}
+use Rattle.std.proofs.Common.{◌∙◌, ◌||◌, ap, subst, length, map, List, ℕ, Option}
 use Rattle.std.specs.Prelude.{option_map}
 use Rattle.std.specs.Arc.{arc_value}
 use Rattle.std.specs.declared.sync.Arc.{Arc}

@@ -1,4 +1,4 @@
-use Rattle.std.proofs.Common.{◌∙◌, ap, arith, length, List, ℕ}
+use Rattle.std.proofs.Common.{ap, arith, length, List, ℕ}
 use Rattle.std.proofs.lemmas.List.{length-map}
 use Rattle.ucis_model.specs.Paths.{node_at}
 use Rattle.cov_history.specs.Nodes.{bin_nodes}

@@ -1,4 +1,4 @@
-use Rattle.std.proofs.Common.{refl, sym, ◌∙◌}
+use Rattle.std.proofs.Common.{refl, sym}
 use Rattle.merge_store.proofs.Setting.{same_tests, set_there}
 use Rattle.merge_store.proofs.remaking.set_tally.Goals as goal
 

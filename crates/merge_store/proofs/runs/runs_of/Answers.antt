@@ -1,7 +1,6 @@
-use Rattle.std.proofs.Common.{◌≡◌, ◌+◌, ◌-◌, ◌∷◌, ◌++◌, [], ℕ, List, ◌∙◌, ap, sym, arith}
-use Rattle.std.specs.Prelude.{slice_set, length}
-use Rattle.merge_store.specs.Runs.{begin_of, HasRuns}
-use Rattle.merge_store.proofs.Running.{runs_more, next_runs}
+use Rattle.std.proofs.Common.{◌≡◌, ◌+◌, ◌-◌, ◌∙◌, ap, arith}
+use Rattle.merge_store.specs.Runs.{begin_of}
+use Rattle.merge_store.proofs.Running.{next_runs}
 use Rattle.merge_store.proofs.runs.runs_of.Goals as goal
 
 pub loop-place-preserved : goal.loop-place-preserved

@@ -1,4 +1,4 @@
-use Rattle.std.proofs.Common.{◌≡◌, ◌+◌, ◌/◌, ℕ, List, drop, get_or, ap, ◌∙◌, arith}
+use Rattle.std.proofs.Common.{◌≡◌, ◌+◌, ◌/◌, ℕ, drop, get_or, ap, ◌∙◌, arith}
 use Rattle.cross_select.specs.Products.{product_of}
 use Rattle.product_bits.proofs.NumberLemmas.{next_stride}
 use Rattle.product_bits.proofs.numbers.stride.Goals as goal

@@ -1,6 +1,6 @@
-use Rattle.std.proofs.Common.{◌≡◌, ◌*◌, ◌<◌, ◌&&◌, ℕ, Bool, ltb, ap, ◌∙◌, length, arith}
+use Rattle.std.proofs.Common.{◌*◌, ◌&&◌, Bool, ap, ◌∙◌, arith}
 use Rattle.std.proofs.lemmas.Bool.{lt-ltb}
-use Rattle.product_bits.specs.Marks.{is_marked, in_run}
+use Rattle.product_bits.specs.Marks.{in_run}
 use Rattle.product_bits.proofs.runs.fill.Goals as goal
 
 pub returns : goal.returns

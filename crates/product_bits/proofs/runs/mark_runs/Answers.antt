@@ -1,4 +1,4 @@
-use Rattle.std.proofs.Common.{◌≡◌, ◌+◌, ◌*◌, ◌&&◌, ◌||◌, ℕ, Bool, ltb, leb, ap, ◌∙◌, arith}
+use Rattle.std.proofs.Common.{◌≡◌, ◌+◌, ◌*◌, ◌&&◌, ◌||◌, ℕ, ltb, leb, ap, ◌∙◌, arith}
 use Rattle.product_bits.specs.Marks.{is_marked, in_run}
 use Rattle.product_bits.proofs.RunLemmas.{run_more}
 use Rattle.product_bits.proofs.runs.mark_runs.Goals as goal

@@ -1,5 +1,4 @@
-use Rattle.std.proofs.Common.{◌≡◌, ◌+◌, ◌-◌, ◌*◌, ◌%◌, ◌/◌, ◌<◌, ℕ, Bool, ap, sym, ◌∙◌, length, arith}
-use Rattle.product_bits.specs.Marks.{is_marked, has_bit}
+use Rattle.std.proofs.Common.{◌≡◌, ◌+◌, ◌-◌, ◌*◌, ◌%◌, ◌<◌, ap, sym, ◌∙◌, length, arith}
 use Rattle.product_bits.proofs.WordLemmas.{step_done}
 use Rattle.product_bits.proofs.runs.repeat.Goals as goal
 

@@ -1,4 +1,4 @@
-use Rattle.std.proofs.Common.{ℕ, ◌+◌, ◌&&◌, arith, inl, inr, ◌≡◌, false, sym, ◌∙◌}
+use Rattle.std.proofs.Common.{◌&&◌, arith, inl, inr, ◌≡◌, false, sym, ◌∙◌}
 use Rattle.std.proofs.lemmas.Bool.{cases_lt}
 use Rattle.product_bits.specs.Marks.{is_marked}
 use Rattle.product_bits.proofs.WordLemmas.{shared_word}

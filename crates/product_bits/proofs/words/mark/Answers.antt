@@ -1,5 +1,5 @@
-use Rattle.std.proofs.Common.{◌≡◌, ℕ, ◌+◌, ◌-◌, ◌*◌, ◌/◌, ◌%◌, ◌<◌, ◌≤◌, ◌&&◌, ◌||◌, leb, ltb, length, sym, ◌∙◌, arith}
-use Rattle.product_bits.specs.Marks.{has_bit, is_marked}
+use Rattle.std.proofs.Common.{◌≡◌, ◌+◌, ◌-◌, ◌*◌, ◌/◌, ◌<◌, ◌≤◌, ◌&&◌, ◌||◌, leb, ltb, length, ◌∙◌, arith}
+use Rattle.product_bits.specs.Marks.{is_marked}
 use Rattle.product_bits.proofs.WordLemmas.{mark_word, mark_more, no_stretch}
 use Rattle.product_bits.proofs.words.mark.Goals as goal
 

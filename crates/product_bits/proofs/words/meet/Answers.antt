@@ -1,4 +1,4 @@
-use Rattle.std.proofs.Common.{ℕ, ◌*◌, ◌%◌, ◌∙◌, ◌<◌, ◌&&◌, length, get_or, arith}
+use Rattle.std.proofs.Common.{◌%◌, ◌∙◌, ◌<◌, ◌&&◌, length, get_or, arith}
 use Rattle.std.specs.Prelude.{bit_and}
 use Rattle.product_bits.specs.Marks.{is_marked}
 use Rattle.product_bits.proofs.BitLemmas.{has-and}

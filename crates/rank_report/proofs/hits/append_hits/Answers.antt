@@ -1,4 +1,4 @@
-use Rattle.std.proofs.Common.{◌≡◌, ℕ, ◌+◌, ◌<◌, min, List, ◌∷◌, ◌++◌, [], get_or, drop, length, length-append, sym, ap, ◌∙◌, arith}
+use Rattle.std.proofs.Common.{◌≡◌, ℕ, ◌+◌, min, List, ◌∷◌, ◌++◌, [], get_or, length, length-append, sym, ap, ◌∙◌, arith}
 use Rattle.rank_report.proofs.Walk.{pair_hit, pair_missed, behind_row}
 use Rattle.rank_report.proofs.hits.append_hits.Goals as goal
 use Rattle.rank_report.proofs.hits.append_hits.Goals.{then-common-gt0+in_ok-push, else-common-gt0}

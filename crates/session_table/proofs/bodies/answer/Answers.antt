@@ -1,4 +1,4 @@
-use Rattle.std.proofs.Common.{◌≡◌, ◌∙◌, refl, ap, sym, Ok, Err}
+use Rattle.std.proofs.Common.{◌∙◌, refl, ap, Ok, Err}
 use Rattle.cov_proto.specs.declared.replies.Body.TheVariants as body
 use Rattle.session_table.proofs.Saying.{body_says, told_replies, wants_says}
 use Rattle.session_table.proofs.bodies.answer.Goals as goal

@@ -1,4 +1,4 @@
-use Rattle.std.proofs.Common.{◌≡◌, ◌∙◌, sym, ap}
+use Rattle.std.proofs.Common.{◌∙◌, sym, ap}
 use Rattle.std.specs.Prelude.{is_none}
 use Rattle.cov_history.specs.Tables.{same_signal}
 use Rattle.session_table.proofs.Shapes.{apart_agree}

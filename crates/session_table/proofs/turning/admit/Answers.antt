@@ -1,4 +1,4 @@
-use Rattle.std.proofs.Common.{◌≡◌, ◌∙◌, refl, ap, sym, rules}
+use Rattle.std.proofs.Common.{refl, ap, rules}
 use Rattle.std.specs.Prelude.{Some}
 use Rattle.cov_history.specs.Turns.{Admit}
 use Rattle.session_table.proofs.Rowing.{rowed_before, lacks_after, wished_as}

@@ -1,4 +1,4 @@
-use Rattle.std.proofs.Common.{◌≡◌, ◌∙◌, refl, ap, sym}
+use Rattle.std.proofs.Common.{refl}
 use Rattle.std.specs.Prelude.{Ok, Some, None}
 use Rattle.cov_proto.specs.declared.requests.Request.TheVariants as request
 use Rattle.cov_history.specs.declared.asks.Ask.TheVariants as ask

@@ -1,4 +1,3 @@
-use Rattle.std.proofs.Common.{◌∙◌, refl}
 use Rattle.ucis_model.proofs.Parents.{places_more}
 use Rattle.ucis_model.proofs.index.places.Goals as goal
 

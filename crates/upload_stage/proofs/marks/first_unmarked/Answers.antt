@@ -1,7 +1,7 @@
-use Rattle.std.proofs.Common.{ℕ, ◌+◌, arith, inl, inr, refl, ◌≡◌, eqb, true, sym, ◌∙◌}
+use Rattle.std.proofs.Common.{arith, inl, inr, ◌≡◌, true, sym, ◌∙◌}
 use Rattle.std.proofs.lemmas.Bool.{cases_lt, eqb-true}
 use Rattle.upload_stage.specs.Places.{mark_of}
-use Rattle.upload_stage.proofs.Bits.{whole_word, unmarked}
+use Rattle.upload_stage.proofs.Bits.{whole_word}
 use Rattle.upload_stage.proofs.marks.first_unmarked.Goals as goal
 
 pub loop-at-preserved-then-marks-at : goal.loop-at-preserved-then-marks-at

@@ -1,4 +1,4 @@
-use Rattle.std.proofs.Common.{◌∙◌, sym, subst}
+use Rattle.std.proofs.Common.{sym, subst}
 use Rattle.std.proofs.lemmas.Result.{on_ok_weaker}
 use Rattle.value_bins.specs.Clips.{StandInOrder}
 use Rattle.value_bins.proofs.Clipping.{in_order_behind, rest_is, within_is}

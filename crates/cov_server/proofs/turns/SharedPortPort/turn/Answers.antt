@@ -4,7 +4,7 @@ use Rattle.design_data.specs.declared.design.Design.{Design}
 use Rattle.cov_history.specs.declared.entry.Entry.{Entry}
 use Rattle.cov_history.specs.Turns.{PortTurn, Grown, ServesOrStops}
 use Rattle.store_core.specs.Asks.{asked}
-use Rattle.turn_lock.specs.Seats.{seen, own, taken, number_of, home}
+use Rattle.turn_lock.specs.Seats.{seen, own, taken, home}
 use Rattle.cov_server.proofs.Ports.{served_later, grown_later, grown_by}
 use Rattle.cov_server.proofs.turns.SharedPortPort.turn.Goals as goal
 

@@ -1,4 +1,4 @@
-use Rattle.std.proofs.Common.{◌≡◌, ◌∙◌, ◌+◌, ◌-◌, ◌≤◌, arith, rules, drop, take, length, refl, ap, sym}
+use Rattle.std.proofs.Common.{◌≡◌, ◌∙◌, ◌-◌, ◌≤◌, arith, drop, take, length, ap}
 use Rattle.cov_session.specs.Fills.{longest_frame}
 use Rattle.cov_session.proofs.Buffers.{filled_all, written, took_long}
 use Rattle.cov_session.proofs.inbox.Inbox.fill.Goals as goal

@@ -1,4 +1,4 @@
-use Rattle.std.proofs.Common.{◌≡◌, ◌∙◌, List, ℕ, [], sym, subst}
+use Rattle.std.proofs.Common.{List, ℕ, sym, subst}
 use Rattle.cross_sampler.specs.declared.plan.Table.{Table}
 use Rattle.cross_sampler.specs.Once.{guard_at}
 use Rattle.cross_sampler.specs.Plans.{IsTable}

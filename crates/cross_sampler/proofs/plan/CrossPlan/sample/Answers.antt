@@ -1,4 +1,4 @@
-use Rattle.std.proofs.Common.{◌≡◌, ◌∙◌, sym}
+use Rattle.std.proofs.Common.{◌∙◌, sym}
 use Rattle.cross_sampler.proofs.Hits.{begun, begun_idle}
 use Rattle.cross_sampler.proofs.plan.CrossPlan.sample.Goals as goal
 

@@ -1,4 +1,4 @@
-use Rattle.std.proofs.Common.{◌∙◌, ap, subst, List, Bool, ℕ, false, replicate, length}
+use Rattle.std.proofs.Common.{◌∙◌, ap, subst, List, ℕ, false, replicate, length}
 use Rattle.merge_store.specs.Runs.{HasRuns}
 use Rattle.merge_store.proofs.Running.{none_numbered, numbers_as}
 use Rattle.merge_store.proofs.runs.Runs.of.Goals as goal

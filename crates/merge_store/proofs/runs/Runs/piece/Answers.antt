@@ -1,4 +1,4 @@
-use Rattle.std.proofs.Common.{◌∙◌, ap, sym, subst, List, ℕ, arith, length, ◌<◌, ◌≡◌}
+use Rattle.std.proofs.Common.{◌∙◌, ap, sym, List, ℕ, arith, length, ◌<◌}
 use Rattle.std.specs.Prelude.{slice_index}
 use Rattle.merge_store.specs.Runs.{Marks}
 use Rattle.merge_store.proofs.Running.{alike_in, read_is}

@@ -1,8 +1,5 @@
-use Rattle.std.proofs.Common.{◌≡◌, sym, subst, List, [], ◌∷◌, ◌++◌}
-use Rattle.std.specs.Prelude.{Option}
+use Rattle.std.proofs.Common.{sym, subst}
 use Rattle.cov_history.specs.Answers.{Serves}
-use Rattle.cov_history.specs.declared.entry.Entry.{Entry}
-use Rattle.ucis_model.specs.declared.answers.Answer.{Answer}
 use Rattle.store_core.specs.declared.asks.Ask.{Ask}
 use Rattle.store_core.specs.Asks.{asked, revision_of}
 use Rattle.merge_store.specs.Stores.{opening_of, entries_of}

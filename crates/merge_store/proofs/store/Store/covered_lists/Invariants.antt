@@ -1,7 +1,5 @@
 use Rattle.std.proofs.Common.{◌≡◌, ◌≤◌, take}
 use Rattle.std.specs.Prelude.{count_by}
-use Rattle.std.specs.declared.vec.Vec.{Vec}
-use Rattle.std.specs.declared.alloc.Global.{Global}
 use Rattle.cov_history.specs.Coverage as cover
 use Rattle.merge_store.specs.Now.{nodes_now, count_now}
 use Rattle.merge_store.proofs.store.Store.covered_lists.Given as goal

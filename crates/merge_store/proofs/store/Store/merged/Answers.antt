@@ -1,9 +1,9 @@
-use Rattle.std.proofs.Common.{◌∙◌, ap, map, List, ℕ}
+use Rattle.std.proofs.Common.{◌∙◌, ap, List, ℕ}
 use Rattle.std.specs.declared.vec.Vec.{Vec}
 use Rattle.std.specs.declared.alloc.Global.{Global}
 use Rattle.percent.specs.Millionths.{mean}
 use Rattle.cov_history.specs.Coverage as cover
-use Rattle.merge_store.specs.Groups.{Group, groups_of, merged_parts}
+use Rattle.merge_store.specs.Groups.{merged_parts}
 use Rattle.merge_store.specs.Now.{nodes_now, count_now, excluded_now}
 use Rattle.merge_store.proofs.Merging.{merged_is, lists_in}
 use Rattle.merge_store.proofs.store.Store.merged.Goals as goal

@@ -1,4 +1,4 @@
-use Rattle.std.proofs.Common.{◌≡◌, ◌≤◌, map, take, is_some}
+use Rattle.std.proofs.Common.{◌≤◌, map, take, is_some}
 use Rattle.std.specs.Prelude.{filter, option_map}
 use Rattle.std.specs.Arc.{arc_value}
 use Rattle.ucis_model.specs.Paths.{find_in}

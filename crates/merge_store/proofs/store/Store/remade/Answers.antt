@@ -1,4 +1,4 @@
-use Rattle.std.proofs.Common.{◌≡◌, sym, subst, map, List, ℕ, is_some, Option, true}
+use Rattle.std.proofs.Common.{subst, map, List, ℕ, is_some, Option, true}
 use Rattle.std.specs.Prelude.{filter, option_map}
 use Rattle.std.specs.Arc.{arc_value}
 use Rattle.std.specs.declared.sync.Arc.{Arc}

@@ -1,4 +1,4 @@
-use Rattle.std.proofs.Common.{◌≡◌, sym, inl, inr, refl}
+use Rattle.std.proofs.Common.{sym, inl}
 use Rattle.merge_store.specs.Stores.{opening_of, entries_of}
 use Rattle.merge_store.proofs.Refusing.{refused_so, made_so}
 use Rattle.merge_store.proofs.store.Store.revise.Goals as goal

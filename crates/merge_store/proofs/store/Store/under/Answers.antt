@@ -1,4 +1,4 @@
-use Rattle.std.proofs.Common.{◌≡◌, ◌∙◌, ◌+◌, ◌≤◌, ℕ, sym, ap, arith, length, ◌&&◌}
+use Rattle.std.proofs.Common.{◌∙◌, ℕ, arith, ◌&&◌}
 use Rattle.cov_history.specs.Nodes.{bin_nodes}
 use Rattle.cov_history.specs.Coverage as cover
 use Rattle.merge_store.specs.Now.{nodes_now, count_now, excluded_now}

@@ -1,10 +1,9 @@
-use Rattle.std.proofs.Common.{◌≡◌, ◌+◌, ◌*◌, ◌/◌, ◌<◌, ℕ, List, Bool, length, get_or, drop, ap, sym, subst, ◌∙◌, arith, inl, inr, false}
+use Rattle.std.proofs.Common.{◌≡◌, ◌+◌, ◌*◌, ℕ, get_or, drop, ap, sym, arith, false}
 use Rattle.std.proofs.lemmas.Result.{IfOk-weaker}
 use Rattle.cross_select.specs.Products.{product_of}
 use Rattle.cross_select.specs.Selections.{is_chosen_at}
-use Rattle.product_bits.specs.Numbers.{product_at}
-use Rattle.product_bits.specs.Marks.{Marks, is_marked, in_run, word_count}
-use Rattle.product_bits.proofs.NumberLemmas.{within, chosen_in_run}
+use Rattle.product_bits.specs.Marks.{Marks}
+use Rattle.product_bits.proofs.NumberLemmas.{within}
 use Rattle.product_bits.proofs.SetLemmas.{nothing_chosen, axis_marked}
 use Rattle.product_bits.proofs.bits.ProductBits.of_axis.Goals as goal
 

@@ -1,7 +1,7 @@
-use Rattle.std.proofs.Common.{◌≡◌, ◌+◌, ◌*◌, ◌<◌, ◌≤◌, ◌++◌, ◌∷◌, [], ℕ, List, Bool, length, length-append, filter, ap, sym, subst, ◌∙◌, append_assoc, arith}
+use Rattle.std.proofs.Common.{◌≡◌, ◌+◌, ◌*◌, ◌≤◌, ◌++◌, ◌∷◌, [], ℕ, List, length, length-append, filter, ap, sym, subst, ◌∙◌, append_assoc, arith}
 use Rattle.design_data.specs.Crosses.{products}
-use Rattle.product_bits.specs.Numbers.{product_at, at_most}
-use Rattle.product_bits.specs.Marks.{Marks, is_marked, word_count}
+use Rattle.product_bits.specs.Numbers.{product_at}
+use Rattle.product_bits.specs.Marks.{Marks}
 use Rattle.product_bits.proofs.SetLemmas.{room, left_from, skip_to, take_one, all_from, none_from, found_all, too_many}
 use Rattle.product_bits.proofs.bits.ProductBits.products.Goals as goal
 

@@ -1,4 +1,4 @@
-use Rattle.std.proofs.Common.{◌≡◌, ◌<◌, ◌≤◌, ◌&&◌, ℕ, List, sym, ◌∙◌, true, false, arith}
+use Rattle.std.proofs.Common.{◌≡◌, ◌&&◌, sym, ◌∙◌, arith}
 use Rattle.product_bits.specs.Marks.{is_marked}
 use Rattle.product_bits.proofs.SetLemmas.{shares_product}
 use Rattle.product_bits.proofs.bits.ProductBits.shares.Goals as goal

@@ -1,4 +1,4 @@
-use Rattle.session_table.proofs.Single.{alone_turn, alone_rest}
+use Rattle.session_table.proofs.Single.{alone_turn}
 use Rattle.session_table.proofs.alone.AlonePort.turn.Goals as goal
 
 pub returns-clause-turn : goal.returns-clause-turn

@@ -1,6 +1,6 @@
-use Rattle.std.proofs.Common.{ℕ, ◌+◌, ◌<◌, ◌≤◌, ◌≡◌, List, Option, length, sym, ap, ◌∙◌, arith, inl, inr}
+use Rattle.std.proofs.Common.{ℕ, ◌+◌, ◌≤◌, List, Option, length, sym, ap, ◌∙◌, arith, inl, inr}
 use Rattle.std.proofs.lemmas.Bool.{cases_lt}
-use Rattle.upload_stage.specs.Places.{with_bytes, mark_of}
+use Rattle.upload_stage.specs.Places.{with_bytes}
 use Rattle.upload_stage.proofs.Places.{put, length-places_of}
 use Rattle.upload_stage.proofs.held.Held.add.Goals as goal
 

@@ -1,5 +1,5 @@
-use Rattle.std.proofs.Common.{◌≡◌, ℕ, ◌+◌, ◌/◌, List, ap, sym, ◌∙◌, arith}
-use Rattle.std.specs.Prelude.{length, replicate}
+use Rattle.std.proofs.Common.{ℕ, ◌+◌, ◌/◌, List, ap, ◌∙◌, arith}
+use Rattle.std.specs.Prelude.{length}
 use Rattle.std.proofs.lemmas.List.{length-replicate}
 use Rattle.upload_stage.specs.Places.{mark_of, places_of}
 use Rattle.upload_stage.proofs.Bits.{no_marks}

@@ -1,4 +1,4 @@
-use Rattle.std.proofs.Common.{arith, subst, List, ℤ, ◌≡◌, ◌++◌, ◌∙◌, ap, filter}
+use Rattle.std.proofs.Common.{arith, List, ℤ, ◌++◌, ◌∙◌, ap, filter}
 use Rattle.cov_base.specs.Sets.{written, span, is_in}
 use Rattle.value_bins.proofs.Clipping.{within_none, within_step}
 use Rattle.value_bins.proofs.elems.Elems.within.Goals as goal
