@@ -10,8 +10,9 @@ use cov_parser::parse;
 use cov_tree::{DesignText, Name};
 use design_data::Design;
 use std::alloc::Global;
-use std::fs;
-use std::io;
+use std::io::Print;
+use std::rt::Files;
+use std::{fs, io};
 use vcd_reader::{read_dump, record_of};
 
 /// The most bytes of a design text.
@@ -84,7 +85,7 @@ fn done(alloc: Global, work: &Work<'_>) -> Option<usize> {
 }
 
 /// What the words ask for.
-fn work_of<'a>(rt: &HostRuntime, words: &'a [String]) -> Option<Work<'a>> {
+fn work_of<'a, R: Files + AllocGlobal>(rt: &R, words: &'a [String]) -> Option<Work<'a>> {
     let text = fs::read(rt, words.first()?.as_str()).ok()?;
     let dump = fs::read(rt, words.get(1)?.as_str()).ok()?;
     Some(Work {
@@ -96,12 +97,12 @@ fn work_of<'a>(rt: &HostRuntime, words: &'a [String]) -> Option<Work<'a>> {
     })
 }
 
-fn events_of(rt: &HostRuntime, words: &[String]) -> Option<usize> {
+fn events_of<R: Files + AllocGlobal>(rt: &R, words: &[String]) -> Option<usize> {
     let work = work_of(rt, words)?;
     done(rt.alloc(), &work)
 }
 
-pub(crate) fn show(rt: &HostRuntime, words: &[String]) -> io::Result<()> {
+pub(crate) fn show<R: Files + Print + AllocGlobal>(rt: &R, words: &[String]) -> io::Result<()> {
     match events_of(rt, words) {
         Some(count) => println!(rt; "{count}"),
         None => println!(rt; "dumps DESIGN DUMP SCOPE READS RECORDS"),

@@ -8,6 +8,7 @@ use cov_base::Int;
 use cov_tree::{BinOp, Boxed, Expr, List, Literal, Name, UnOp};
 use std::alloc::Global;
 use std::io;
+use std::io::Print;
 
 /// The values so far, and how many evaluations they took.
 #[derive(Clone, Copy)]
@@ -331,7 +332,7 @@ fn rows_of(words: &[String]) -> Option<u32> {
     words.first()?.parse().ok()
 }
 
-pub(crate) fn show(rt: &HostRuntime, words: &[String]) -> io::Result<()> {
+pub(crate) fn show<R: Print + AllocGlobal>(rt: &R, words: &[String]) -> io::Result<()> {
     match rows_of(words).and_then(|rows| measured(rt.alloc(), rows)) {
         Some(total) => println!(rt; "{} {}", total.checksum, total.evaluations),
         None => println!(rt; "expressions ROWS"),

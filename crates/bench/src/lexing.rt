@@ -2,8 +2,9 @@
 
 use cov_lexer::lex;
 use std::alloc::Global;
-use std::fs;
-use std::io;
+use std::io::Print;
+use std::rt::Files;
+use std::{fs, io};
 
 /// The most bytes that are lexed.
 const MOST: usize = 1_048_576;
@@ -24,14 +25,14 @@ fn tokens_in(alloc: Global, text: &[u8], rounds: u32) -> Option<usize> {
 }
 
 /// The file and the rounds that the words name, lexed.
-fn lexed(rt: &HostRuntime, words: &[String]) -> Option<usize> {
+fn lexed<R: Files + AllocGlobal>(rt: &R, words: &[String]) -> Option<usize> {
     let file = words.first()?;
     let rounds: u32 = words.get(1)?.parse().ok()?;
     let text = fs::read(rt, file.as_str()).ok()?;
     tokens_in(rt.alloc(), text.as_slice(), rounds)
 }
 
-pub(crate) fn show(rt: &HostRuntime, words: &[String]) -> io::Result<()> {
+pub(crate) fn show<R: Files + Print + AllocGlobal>(rt: &R, words: &[String]) -> io::Result<()> {
     match lexed(rt, words) {
         Some(count) => println!(rt; "{count}"),
         None => println!(rt; "lexing FILE ROUNDS"),

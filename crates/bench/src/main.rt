@@ -17,13 +17,20 @@ mod sampling;
 mod transitions;
 mod turns;
 
-use std::alloc::Global;
-use std::env;
-use std::io;
+use std::env::Env;
+use std::io::Print;
 use std::process::ExitCode;
+use std::rt::Files;
+use std::sync::Wait;
+use std::thread::Threads;
+use std::{env, io};
 
 /// Does a measurement of values, or of what many tests have.
-fn measure_values(rt: &HostRuntime, word: &str, rest: &[String]) -> io::Result<()> {
+fn measure_values<R: Threads + Wait + Sync + Print + AllocGlobal>(
+    rt: &R,
+    word: &str,
+    rest: &[String],
+) -> io::Result<()> {
     match word {
         "expressions" => expressions::show(rt, rest),
         "transitions" => transitions::show(rt, rest),
@@ -35,7 +42,11 @@ fn measure_values(rt: &HostRuntime, word: &str, rest: &[String]) -> io::Result<(
 }
 
 /// Does a measurement.
-fn measure(rt: &HostRuntime, word: &str, rest: &[String]) -> io::Result<()> {
+fn measure<R: Threads + Wait + Sync + Files + Print + AllocGlobal>(
+    rt: &R,
+    word: &str,
+    rest: &[String],
+) -> io::Result<()> {
     match word {
         "lexing" => lexing::show(rt, rest),
         "parsing" => parsing::show(rt, rest),
@@ -47,7 +58,10 @@ fn measure(rt: &HostRuntime, word: &str, rest: &[String]) -> io::Result<()> {
 }
 
 /// Does the measurement whose words these are.
-fn measure_words(rt: &HostRuntime, words: &[String]) -> io::Result<()> {
+fn measure_words<R: Threads + Wait + Sync + Files + Print + AllocGlobal>(
+    rt: &R,
+    words: &[String],
+) -> io::Result<()> {
     match words {
         [] => Ok(()),
         [word, rest @ ..] => measure(rt, word.as_str(), rest),
@@ -55,7 +69,9 @@ fn measure_words(rt: &HostRuntime, words: &[String]) -> io::Result<()> {
 }
 
 /// Does all measurements, one after another.
-fn measure_all(rt: &HostRuntime) -> io::Result<()> {
+fn measure_all<R: Threads + Wait + Sync + Env + Files + Print + AllocGlobal>(
+    rt: &R,
+) -> io::Result<()> {
     let mut words = Vec::new(rt.alloc());
     for word in env::args(rt)?.skip(1) {
         if word.as_str() == "," {

@@ -11,6 +11,7 @@ use cov_tree::List;
 use design_data::BinKind;
 use std::alloc::Global;
 use std::io;
+use std::io::Print;
 use ucis_model::{Answer, CountRow};
 
 /// The most rows of a reply.
@@ -97,7 +98,7 @@ fn sum_of(bytes: &[u8]) -> u64 {
 }
 
 /// How many bytes the frame has, and their sum.
-fn measured(rt: &HostRuntime, words: &[String]) -> Option<(usize, u64)> {
+fn measured<R: AllocGlobal>(rt: &R, words: &[String]) -> Option<(usize, u64)> {
     let count: u32 = words.first()?.parse().ok()?;
     let writes: u32 = words.get(1)?.parse().ok()?;
     let reads: u32 = words.get(2)?.parse().ok()?;
@@ -107,7 +108,7 @@ fn measured(rt: &HostRuntime, words: &[String]) -> Option<(usize, u64)> {
     Some((frame.len(), sum_of(frame.as_slice())))
 }
 
-pub(crate) fn show(rt: &HostRuntime, words: &[String]) -> io::Result<()> {
+pub(crate) fn show<R: Print + AllocGlobal>(rt: &R, words: &[String]) -> io::Result<()> {
     match measured(rt, words) {
         Some((length, sum)) => println!(rt; "{length} {sum}"),
         None => println!(rt; "messages ROWS WRITES READS"),

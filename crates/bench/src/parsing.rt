@@ -4,8 +4,9 @@
 use cov_lexer::lex;
 use cov_parser::parse;
 use std::alloc::Global;
-use std::fs;
-use std::io;
+use std::io::Print;
+use std::rt::Files;
+use std::{fs, io};
 
 /// The most bytes of a design text.
 const MOST: usize = 1_048_576;
@@ -45,7 +46,7 @@ fn counted(alloc: Global, text: &[u8], lexes: u32, parses: u32) -> Option<Counts
 }
 
 /// The counts of the file that the words name.
-fn read(rt: &HostRuntime, words: &[String]) -> Option<Counts> {
+fn read<R: Files + AllocGlobal>(rt: &R, words: &[String]) -> Option<Counts> {
     let file = words.first()?;
     let lexes: u32 = words.get(1)?.parse().ok()?;
     let parses: u32 = words.get(2)?.parse().ok()?;
@@ -53,10 +54,13 @@ fn read(rt: &HostRuntime, words: &[String]) -> Option<Counts> {
     counted(rt.alloc(), text.as_slice(), lexes, parses)
 }
 
-pub(crate) fn show(rt: &HostRuntime, words: &[String]) -> io::Result<()> {
+pub(crate) fn show<R: Files + Print + AllocGlobal>(rt: &R, words: &[String]) -> io::Result<()> {
     match read(rt, words) {
         Some(counts) => {
-            println!(rt; "{} tokens, {} declarations", counts.tokens, counts.declarations)
+            println!(rt;
+                "{} tokens, {} declarations",
+                counts.tokens, counts.declarations
+            )
         }
         None => println!(rt; "parsing FILE LEXES PARSES"),
     }

@@ -7,6 +7,7 @@ use cov_base::Memory;
 use rank_report::rank;
 use std::alloc::Global;
 use std::io;
+use std::io::Print;
 use std::sync::Arc;
 use std::thread::Threads;
 use tally::{Ranked, Tally};
@@ -94,7 +95,10 @@ fn plan_of(words: &[String]) -> Option<Plan> {
     })
 }
 
-pub(crate) fn show(rt: &HostRuntime, words: &[String]) -> io::Result<()> {
+pub(crate) fn show<R: Threads + Sync + Print + AllocGlobal>(
+    rt: &R,
+    words: &[String],
+) -> io::Result<()> {
     match plan_of(words).map(|plan| ranked(rt, rt.alloc(), plan)) {
         Some(Ok((tests, sum))) => println!(rt; "{tests} {sum}"),
         Some(Err(_)) => println!(rt; "out of memory"),

@@ -3,8 +3,9 @@
 
 use record_codec::{decode, encode};
 use std::alloc::Global;
-use std::fs;
-use std::io;
+use std::io::Print;
+use std::rt::Files;
+use std::{fs, io};
 
 /// The most bytes that are decoded.
 const MOST: usize = 8_388_608;
@@ -25,7 +26,7 @@ fn events_in(alloc: Global, bytes: &[u8], reads: u32, writes: u32) -> Option<usi
 }
 
 /// The file and the rounds that the words name, read and written.
-fn counted(rt: &HostRuntime, words: &[String]) -> Option<usize> {
+fn counted<R: Files + AllocGlobal>(rt: &R, words: &[String]) -> Option<usize> {
     let file = words.first()?;
     let reads: u32 = words.get(1)?.parse().ok()?;
     let writes: u32 = words.get(2)?.parse().ok()?;
@@ -33,7 +34,7 @@ fn counted(rt: &HostRuntime, words: &[String]) -> Option<usize> {
     events_in(rt.alloc(), bytes.as_slice(), reads, writes)
 }
 
-pub(crate) fn show(rt: &HostRuntime, words: &[String]) -> io::Result<()> {
+pub(crate) fn show<R: Files + Print + AllocGlobal>(rt: &R, words: &[String]) -> io::Result<()> {
     match counted(rt, words) {
         Some(count) => println!(rt; "{count}"),
         None => println!(rt; "records FILE READS WRITES"),

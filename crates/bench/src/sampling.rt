@@ -11,9 +11,10 @@ use record_codec::{Record, decode};
 use sampler::{Plan, bin_record, counts_under};
 use sampler_threads::counts_par_under;
 use std::alloc::Global;
-use std::fs;
-use std::io;
+use std::io::Print;
+use std::rt::Files;
 use std::thread::Threads;
+use std::{fs, io};
 
 /// The most bytes of a design text.
 const LONGEST_DESIGN: usize = 1_048_576;
@@ -116,7 +117,10 @@ fn compiled(alloc: Global, text: &[u8]) -> Option<Design> {
 }
 
 /// What the words name.
-fn measured(rt: &HostRuntime, words: &[String]) -> Option<(u32, u64)> {
+fn measured<R: Threads + Sync + Files + AllocGlobal>(
+    rt: &R,
+    words: &[String],
+) -> Option<(u32, u64)> {
     let text = fs::read(rt, words.first()?.as_str()).ok()?;
     let bytes = fs::read(rt, words.get(1)?.as_str()).ok()?;
     let word = words.get(2)?.as_str();
@@ -127,7 +131,10 @@ fn measured(rt: &HostRuntime, words: &[String]) -> Option<(u32, u64)> {
     Some((design.bin_count(), sum))
 }
 
-pub(crate) fn show(rt: &HostRuntime, words: &[String]) -> io::Result<()> {
+pub(crate) fn show<R: Threads + Sync + Files + Print + AllocGlobal>(
+    rt: &R,
+    words: &[String],
+) -> io::Result<()> {
     match measured(rt, words) {
         Some((bins, sum)) => println!(rt; "{bins} {sum}"),
         None => println!(rt; "sampling DESIGN RECORD WORD ROUNDS"),

@@ -10,6 +10,7 @@ use cov_base::{Int, Memory, ValueSet};
 use cov_tree::List;
 use std::alloc::Global;
 use std::io;
+use std::io::Print;
 use trans_auto::Automaton;
 use trans_seq::{Item, Repeat, Seq};
 
@@ -108,7 +109,7 @@ fn pushed(alloc: Global, own: &[Seq], samples: u32, is_steady: bool) -> Option<(
 }
 
 /// The shape and the samples that the words name.
-fn measured(rt: &HostRuntime, words: &[String]) -> Option<(u32, usize)> {
+fn measured<R: AllocGlobal>(rt: &R, words: &[String]) -> Option<(u32, usize)> {
     let shape = words.first()?;
     let samples: u32 = words.get(1)?.parse().ok()?;
     let alloc = rt.alloc();
@@ -121,7 +122,7 @@ fn measured(rt: &HostRuntime, words: &[String]) -> Option<(u32, usize)> {
     pushed(alloc, own.as_slice(), samples, is_steady)
 }
 
-pub(crate) fn show(rt: &HostRuntime, words: &[String]) -> io::Result<()> {
+pub(crate) fn show<R: Print + AllocGlobal>(rt: &R, words: &[String]) -> io::Result<()> {
     match measured(rt, words) {
         Some((count, runs)) => println!(rt; "{count} {runs}"),
         None => println!(rt; "transitions SHAPE SAMPLES"),

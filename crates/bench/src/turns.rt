@@ -5,8 +5,9 @@ ghost use Rattle.turn_lock.specs.Seats.{IsSeatOf};
 
 use cov_base::Book;
 use std::io;
+use std::io::Print;
 use std::sync::Wait;
-use std::thread::for_each_mut;
+use std::thread::{Threads, for_each_mut};
 use turn_lock::{Seat, TurnLock};
 
 /// A book without entries, which counts the turns.
@@ -84,7 +85,7 @@ fn words_of(words: &[String]) -> Option<(usize, u32)>
 }
 
 /// How many turns so many threads take.
-fn taken(rt: &HostRuntime, threads: usize, turns: u32) -> Option<u64>
+fn taken<R: Threads + Wait + Sync + AllocGlobal>(rt: &R, threads: usize, turns: u32) -> Option<u64>
     requires least { 1 ≤ threads }
     requires most { threads ≤ 4 }
 {
@@ -114,7 +115,10 @@ fn taken(rt: &HostRuntime, threads: usize, turns: u32) -> Option<u64>
     Some(total)
 }
 
-pub(crate) fn show(rt: &HostRuntime, words: &[String]) -> io::Result<()> {
+pub(crate) fn show<R: Threads + Wait + Sync + Print + AllocGlobal>(
+    rt: &R,
+    words: &[String],
+) -> io::Result<()> {
     let Some((threads, turns)) = words_of(words) else {
         return println!(rt; "turns THREADS TURNS");
     };
