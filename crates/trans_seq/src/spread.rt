@@ -7,14 +7,12 @@ ghost use Rattle.trans_seq.specs.Held.{begun, begun_by, once as item_once, AreHe
 
 use crate::fault::ExpandFault;
 use crate::found::{Found, list_of, take_list};
-use crate::held::{Known, known_numbers, remember};
+use crate::held::{Known, known_numbers};
 use crate::listing::ends;
 use crate::seq::{Item, Repeat};
+use crate::widened::keep;
 use cov_base::{Int, Memory, ValueSet};
 use std::alloc::Global;
-
-/// Numbers of a set that are gone through without a look at what is known of them.
-const FEW_NUMBERS: u128 = 3;
 
 /// Adds an item that stands once, so many times.
 pub(crate) fn add_once(
@@ -82,9 +80,9 @@ fn is_none(set: &ValueSet) -> bool
     set.intervals().is_empty()
 }
 
-/// Whether a set has so many numbers that what is found of it is kept: that costs about as much as a few of its lists.
+/// Whether a set has several numbers, so that what is found of it is kept: that costs about as much as one of its lists.
 fn is_large(set: &ValueSet) -> bool {
-    set.count() > FEW_NUMBERS
+    set.count() > 1
 }
 
 /// Takes the lists that begin with the first numbers and go on with one of each item's set.
@@ -151,7 +149,7 @@ fn take_unknown(
         return Ok(());
     }
     take_numbers(alloc, &left, rest, first, known, found)?;
-    remember(alloc, first.as_slice(), set, &before, rest, known)?;
+    keep(alloc, first, set, &before, left.count(), rest, known)?;
     Ok(())
 }
 
