@@ -13,6 +13,9 @@ use std::alloc::Global;
 /// Numbers that are looked up for each number that was gone through, to learn whether more is found than was known.
 const TRIES: u128 = 4;
 
+/// A set of so few numbers isn't kept where all its lists were new: to go through them once more costs less.
+const FEW_NUMBERS: u128 = 3;
+
 /// The numbers of both sets.
 fn joined_set(alloc: Global, set: &ValueSet, other: &ValueSet) -> Result<ValueSet, Memory> {
     if is_part(alloc, set, other)? {
@@ -166,7 +169,8 @@ fn widened(
 }
 
 /// Keeps that the lists with a number of the set, or of those before, and one of each set of the rest are found, where
-/// that is more than what is kept of lists that begin so; `left` numbers of the set were gone through.
+/// that is more than what is kept of lists that begin so; `left` numbers of the set were gone through, and maybe gave new
+/// lists alone.
 pub(crate) fn keep(
     alloc: Global,
     first: &mut Vec<Int>,
@@ -174,6 +178,7 @@ pub(crate) fn keep(
     before: &ValueSet,
     left: u128,
     rest: &[Item],
+    is_new: bool,
     known: &mut Known,
 ) -> Result<(), Memory>
     ensures first { OnOk result (first.new.items ≡ first.old.items) }
@@ -183,6 +188,9 @@ pub(crate) fn keep(
         → HasAll lists (begun_by first.old.items (written before.now) rest.now)
         → AreHeld known.new lists) }
 {
+    if is_new && set.count() <= FEW_NUMBERS {
+        return Ok(());
+    }
     if rest.is_empty() {
         return remember(alloc, first.as_slice(), set, before, rest, known);
     }
