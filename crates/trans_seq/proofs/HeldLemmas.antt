@@ -1,6 +1,8 @@
 -- Lists with one number of each of several sets, and those that are found already.
 use Rattle.std.proofs.Common.{◌≡◌, ◌≤◌, List, [], ◌∷◌, ◌++◌, length, map, filter, refl, ap, sym, ◌∙◌, subst, inl, inr, arith, append_assoc, append-nil, length-append, Result, Ok, Err, OnOk, Bool, true, false, cond}
-use Rattle.std.specs.Prelude.{ℤ, ◌==◌, not, ◌||◌, Some, Option}
+use Rattle.std.specs.Prelude.{ℤ, ◌==◌, not, ◌&&◌, ◌||◌, Some, Option}
+use Rattle.std.specs.Cmp.Lexicographic.{pointwise}
+use Rattle.std.proofs.lemmas.List.Concat.{flat_map-append}
 use Rattle.std.specs.Ordering.{int_eq}
 use Rattle.std.specs.List.{flat_map, list_any}
 use Rattle.std.proofs.lemmas.Bool.{false≢true, true≢false, or_cases, or_left, or_right}
@@ -16,13 +18,13 @@ use Rattle.trans_seq.specs.Lists.{is_among, news, listed, is_endless, RefusesToE
 use Rattle.trans_seq.specs.Cells.{cells_of_items}
 use Rattle.cov_ground.specs.Limits.{most_cells}
 use Rattle.trans_seq.specs.Found.{lists_of, Takes, FailsAfter}
-use Rattle.trans_seq.specs.Held.{words, begun, begun_by, HasAll, AreHeld}
-use Rattle.trans_seq.proofs.News.{Word, among_left, among_right, among_cases, among_news, news-append}
+use Rattle.trans_seq.specs.Held.{words, begun, begun_by, HasAll, IsPart, behind_one, AreHeld}
+use Rattle.trans_seq.proofs.News.{Word, same_word, among_left, among_right, among_cases, among_cons, among_first, among_later, among_map, among_news, news-append}
 use Rattle.trans_seq.specs.Alone.{behind, behind_by}
 use Rattle.trans_seq.proofs.Counted.{map-append, no_more, listed-differ}
 use Rattle.trans_seq.proofs.FoundLemmas.{lists_after}
 use Rattle.trans_seq.proofs.MetLemmas.{news_none}
-use Rattle.trans_seq.proofs.Numbers.{none_written}
+use Rattle.trans_seq.proofs.Numbers.{none_written, written-one}
 
 -- ---- one number after the other
 
@@ -90,7 +92,7 @@ pub takes-keeps : (old new : Found) (ws some : List Word) → Takes old new ws �
 takes-keeps old new ws some t h = subst (λ l. HasAll l some) (sym (lists_after old new ws t)) (has-more (lists_of old) (news (lists_of old) ws) some h)
 
 pub held-more : (known : Known) (old new : Found) (ws : List Word) → Takes old new ws → AreHeld known (lists_of old) → AreHeld known (lists_of new)
-held-more known old new ws t h key held is = takes-keeps old new ws (begun_by held.first (written held.numbers) held.rest) t (h key held is)
+held-more known old new ws t h key held is = takes-keeps old new ws (begun_by (behind_one key.items) (written held.numbers) held.rest) t (h key held is)
 
 pub takes-same : (old new : Found) (xs ys : List Word) → news (lists_of old) xs ≡ news (lists_of old) ys → Takes old new xs → Takes old new ys
 takes-same old new xs ys e t = record { holds = t.holds; groups = t.groups; fresh = t.fresh ∙ ap (λ l. old.fresh.items ++ l) e }
@@ -138,14 +140,85 @@ passed-known before first set known items had =
 some-same : (v w : Held) → Some v ≡ Some w → v ≡ w
 some-same v w e = cc
 
-pub held-is : (lists : List Word) (first here : Word) (numbers : List (ℤ × ℤ)) (rest there : List Item) → here ≡ first → there ≡ rest → HasAll lists (begun_by first (written numbers) rest) → HasAll lists (begun_by here (written numbers) there)
-held-is lists first here numbers rest there e f h =
-    subst (λ u. HasAll lists (begun_by u (written numbers) there)) (sym e) (subst (λ r. HasAll lists (begun_by first (written numbers) r)) (sym f) h)
+pub held-new : (lists : List Word) (t : Bool) (new held : Held) (old got : Option Held) → got ≡ cond t (Some new) old → got ≡ Some held → (first here : Word) → (t ≡ true → here ≡ first)
+    → HasAll lists (begun_by first (written new.numbers) new.rest) → (old ≡ Some held → HasAll lists (begun_by here (written held.numbers) held.rest)) → HasAll lists (begun_by here (written held.numbers) held.rest)
+held-new lists true new held old got e is first here same has before =
+    subst (λ f. HasAll lists (begun_by f (written held.numbers) held.rest)) (sym (same refl))
+    (subst (λ (h : Held). HasAll lists (begun_by first (written h.numbers) h.rest)) (some-same new held (sym e ∙ is)) has)
+held-new lists false new held old got e is first here same has before = before (sym e ∙ is)
 
-pub held-new : (lists : List Word) (t : Bool) (new held : Held) (old got : Option Held) → got ≡ cond t (Some new) old → got ≡ Some held
-    → HasAll lists (begun_by new.first (written new.numbers) new.rest) → (old ≡ Some held → HasAll lists (begun_by held.first (written held.numbers) held.rest)) → HasAll lists (begun_by held.first (written held.numbers) held.rest)
-held-new lists true new held old got e is has before = subst (λ (h : Held). HasAll lists (begun_by h.first (written h.numbers) h.rest)) (some-same new held (sym e ∙ is)) has
-held-new lists false new held old got e is has before = before (sym e ∙ is)
+-- the numbers that a key of the same numbers tells
+pub key-first : (new key : Word) (more : ℤ) (first : Word) → new ≡ more ∷ first → pointwise int_eq new key ≡ true → behind_one key ≡ first
+key-first new key more first is same = ap behind_one (sym (same_word new key same) ∙ is)
+
+-- ---- sets within sets have lists within lists
+
+pub has-part : (lists some part : List Word) → HasAll lists some → HasAll some part → HasAll lists part
+has-part lists some part h k w e = h w (k w e)
+
+among-behind : (first : Word) (ws : List Word) (w : Word) → is_among (behind first ws) w ≡ true → (r : Word) × (is_among ws r ≡ true) × (w ≡ first ++ r)
+among-behind first [] w h = absurd (false≢true h)
+among-behind first (x ∷ ws) w h = elim (among_cons (first ++ x) (behind first ws) w h) [
+  | inl e ↦ (x, among_first x ws, e)
+  | inr later ↦ let r = among-behind first ws w later in (r.0, among_later x ws r.0 r.1, r.2)
+]
+
+behind-has : (first : Word) (xs ys : List Word) → HasAll xs ys → HasAll (behind first xs) (behind first ys)
+behind-has first xs ys h w k =
+    let r = among-behind first ys w k in
+    subst (λ u. is_among (behind first xs) u ≡ true) (sym r.2) (among_map (λ o. first ++ o) xs r.0 (h r.0 r.1))
+
+pub begun-parts : (first : Word) (vs us : List ℤ) (items others : List Item) → IsPart vs us → HasAll (words others) (words items) → HasAll (begun_by first us others) (begun_by first vs items)
+begun-parts first vs us items others part parts w h =
+    let r = by-of first vs items w h in
+    by-from first us others r.0 w (part r.0 r.1) (behind-has (first ++ r.0 ∷ []) (words others) (words items) parts w r.2)
+
+pub words-parts : (item other : Item) (items others : List Item) → IsPart (written item.set) (written other.set) → HasAll (words others) (words items) → HasAll (words (other ∷ others)) (words (item ∷ items))
+words-parts item other items others part parts = begun-parts [] (written item.set) (written other.set) items others part parts
+
+pub part-of : (set other left : List (ℤ × ℤ)) → left ≡ [] → ((v : ℤ) → is_in (written left) v ≡ (is_in (written set) v && not (is_in (written other) v))) → IsPart (written set) (written other)
+part-of set other left none each v h =
+    by (is_in (written set) v) (is_in (written other) v) h (sym (ap (λ l. is_in l v) (ap written none ∙ none_written)) ∙ each v)
+  where
+    by : (a b : Bool) → a ≡ true → false ≡ (a && not b) → b ≡ true
+    by true true e f = refl
+    by true false e f = absurd (false≢true f)
+    by false b e f = absurd (false≢true e)
+
+held-part : (lists : List Word) (first : Word) (numbers : List (ℤ × ℤ)) (rest some : List Item) → HasAll (words rest) (words some) → HasAll lists (begun_by first (written numbers) rest) → HasAll lists (begun_by first (written numbers) some)
+held-part lists first numbers rest some parts h =
+    has-part lists (begun_by first (written numbers) rest) (begun_by first (written numbers) some) h (begun-parts first (written numbers) (written numbers) some rest (λ v k. k) parts)
+
+pub held-at : (lists : List Word) (here first : Word) (numbers got : List (ℤ × ℤ)) (rest some : List Item) → here ≡ first → got ≡ numbers → HasAll (words rest) (words some) → HasAll lists (begun_by here (written numbers) rest) → HasAll lists (begun_by first (written got) some)
+held-at lists here first numbers got rest some e is parts h =
+    subst (λ f. HasAll lists (begun_by f (written got) some)) e
+    (subst (λ n. HasAll lists (begun_by here (written n) some)) (sym is) (held-part lists here numbers rest some parts h))
+
+pub full-part : (lists : List Word) (first : Word) (set numbers : List (ℤ × ℤ)) (rest : List Item) → IsPart (written set) (written numbers) → HasAll lists (begun_by first (written numbers) rest) → HasAll lists (begun_by first (written set) rest)
+full-part lists first set numbers rest part h =
+    has-part lists (begun_by first (written numbers) rest) (begun_by first (written set) rest) h (begun-parts first (written set) (written numbers) rest rest part (λ w k. k))
+
+pub full-item : (lists : List Word) (first : Word) (item : Item) (rest items : List Item) → items ≡ item ∷ rest → HasAll lists (begun_by first (written item.set) rest) → HasAll lists (begun first items)
+full-item lists first item rest items parts h =
+    subst (λ l. HasAll lists (begun first l)) (sym parts) (subst (HasAll lists) (begun-item first item rest) h)
+
+pub full-only : (lists : List Word) (first : Word) (item : Item) (v : ℤ) (rest items : List Item) → items ≡ item ∷ rest → written item.set ≡ v ∷ [] → HasAll lists (begun (first ++ v ∷ []) rest) → HasAll lists (begun first items)
+full-only lists first item v rest items parts only h =
+    full-item lists first item rest items parts
+    (subst (λ vs. HasAll lists (begun_by first vs rest)) (sym only) (subst (HasAll lists) (sym (append-nil (begun (first ++ v ∷ []) rest))) h))
+
+pub has-same : (lists : List Word) (first : Word) (a b : List (ℤ × ℤ)) (items : List Item) → ((v : ℤ) → is_in (written b) v ≡ is_in (written a) v) → HasAll lists (begun_by first (written a) items) → HasAll lists (begun_by first (written b) items)
+has-same lists first a b items each h =
+    has-part lists (begun_by first (written a) items) (begun_by first (written b) items) h (begun-parts first (written b) (written a) items items (λ v k. sym (each v) ∙ k) (λ w k. k))
+
+pub has-one : (lists : List Word) (first : Word) (rs : List (ℤ × ℤ)) (v : ℤ) (items : List Item) → HasAll lists (begun_by first (written rs) items) → HasAll lists (begun (first ++ v ∷ []) items) → HasAll lists (begun_by first (written (rs ++ (v, v) ∷ [])) items)
+has-one lists first rs v items had has w k =
+    let g : ℤ → List Word = λ u. begun (first ++ u ∷ []) items in
+    let each : is_among (flat_map g (written rs) ++ (g v ++ [])) w ≡ true = subst (λ l. is_among l w ≡ true) (ap (flat_map g) (written-one rs v) ∙ flat_map-append g (written rs) (v ∷ [])) k in
+    elim (among_cases (flat_map g (written rs)) (g v ++ []) w each) [
+      | inl before ↦ had w before
+      | inr here ↦ has w (subst (λ l. is_among l w ≡ true) (append-nil (g v)) here)
+    ]
 
 -- ---- a sequence that is written out is refused
 

@@ -1,5 +1,5 @@
 -- The numbers of a set that are not in another, written out.
-use Rattle.std.proofs.Common.{◌≡◌, ◌∙◌, refl, ap, sym, subst, ℕ, suc, ℤ, pos, ◌+ℤ◌, ◌-ℤ◌, ◌≤ℤ◌, List, [], ◌∷◌, ◌++◌, filter, length, arith, Bool, true, false, cond, int_lt}
+use Rattle.std.proofs.Common.{◌≡◌, ◌∙◌, refl, ap, sym, subst, ℕ, suc, ℤ, pos, ◌+ℤ◌, ◌-ℤ◌, ◌≤ℤ◌, List, [], ◌∷◌, ◌++◌, filter, length, append_assoc, arith, Bool, true, false, cond, int_lt}
 use Rattle.std.specs.Prelude.{not}
 use Rattle.std.specs.Ordering.{int_eq}
 use Rattle.std.proofs.lemmas.Grind.{common_steps}
@@ -35,6 +35,15 @@ runs_order (x ∷ xs) = extend_order x (runs xs) (runs_order xs)
 
 one_span : (x : ℤ) → span (x, x) ≡ x ∷ []
 one_span x = span_of x 1 (x, x) refl (omega (arith, ints))
+
+written-append : (xs ys : List (ℤ × ℤ)) → written (xs ++ ys) ≡ written xs ++ written ys
+unfolding written
+written-append [] ys = refl
+written-append (x ∷ xs) ys = ap (λ (zs : List ℤ). span x ++ zs) (written-append xs ys) ∙ sym (append_assoc (span x) (written xs) (written ys))
+
+pub written-one : (xs : List (ℤ × ℤ)) (v : ℤ) → written (xs ++ (v, v) ∷ []) ≡ written xs ++ v ∷ []
+unfolding written
+written-one xs v = written-append xs ((v, v) ∷ []) ∙ ap (λ (zs : List ℤ). written xs ++ (zs ++ [])) (one_span v)
 
 more_span : (x : ℤ) (r : ℤ × ℤ) → r.0 ≤ℤ r.1 → x +ℤ pos 1 ≡ r.0 → span (x, r.1) ≡ x ∷ span r
 unfolding span

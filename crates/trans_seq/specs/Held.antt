@@ -6,7 +6,7 @@ use Rattle.std.specs.List.{flat_map}
 use Rattle.std.specs.Cmp.Lexicographic.{pointwise}
 use Rattle.std.specs.HashMap.{get}
 use Rattle.std.specs.Global.{Global}
-use Rattle.cov_base.specs.Sets.{written}
+use Rattle.cov_base.specs.Sets.{written, is_in}
 use Rattle.trans_seq.specs.declared.seq.Item.{Item}
 use Rattle.trans_seq.specs.declared.seq.Repeat.TheVariants.{Once}
 use Rattle.trans_seq.specs.declared.held.Held.{Held}
@@ -34,6 +34,15 @@ once item = record { set = item.set; repeat = Once }
 abbrev pub HasAll : List (List ℤ) → List (List ℤ) → Type 0
 HasAll lists some = (w : List ℤ) → is_among some w ≡ true → is_among lists w ≡ true
 
--- what is known to be found is among the lists
+-- each of the numbers is among the others
+abbrev pub IsPart : List ℤ → List ℤ → Type 0
+IsPart numbers others = (v : ℤ) → is_in numbers v ≡ true → is_in others v ≡ true
+
+-- the numbers behind the first one
+abbrev pub behind_one : List ℤ → List ℤ
+behind_one [] = []
+behind_one (size ∷ first) = first
+
+-- what is known to be found is among the lists: a key tells how many numbers follow, and then those that lists begin with
 abbrev pub AreHeld : Known → List (List ℤ) → Type 0
-AreHeld known lists = (key : Vec ℤ Global) (held : Held) → get (λ a b. pointwise int_eq a.items b.items) known.kept key ≡ Some held → HasAll lists (begun_by held.first (written held.numbers) held.rest)
+AreHeld known lists = (key : Vec ℤ Global) (held : Held) → get (λ a b. pointwise int_eq a.items b.items) known.kept key ≡ Some held → HasAll lists (begun_by (behind_one key.items) (written held.numbers) held.rest)

@@ -166,7 +166,7 @@ fn before_tail(items: &[Item]) -> usize
 }
 
 /// The number of a set that has one.
-fn only_number(set: &ValueSet) -> Option<Int>
+pub(crate) fn only_number(set: &ValueSet) -> Option<Int>
     ensures { IfSome result (λ number. written set.now ≡ number ∷ []) }
 {
     if set.count() == 1 { set.nth(0) } else { None }
@@ -198,7 +198,7 @@ fn count_of(groups: &[List<List<Int>>]) -> u64
 }
 
 /// How many lists have one number of each item's set in front of one of so many; the greatest `u128` where there are more.
-fn count_ahead(items: &[Item], lists: u128) -> u128
+pub(crate) fn count_ahead(items: &[Item], lists: u128) -> u128
     ensures { result ≡ min (length (words items.now) * lists) u128.MAX }
 {
     match items {

@@ -1,24 +1,24 @@
-//! Which lists are known to be found, by the numbers that they begin with and the sets of those that follow.
-ghost use Rattle.std.specs.Prelude.{◌≡◌, ℤ, List, IsTrue, IfOk, OnOk};
+//! Which lists are known to be found, by the numbers that they begin with and how many follow.
+ghost use Rattle.std.specs.Prelude.{◌≡◌, [], ◌∷◌, ◌++◌, ℤ, List, pos, IsTrue, IfOk, IfSome, OnOk};
 ghost use Rattle.cov_base.specs.Sets.{written};
-ghost use Rattle.trans_seq.specs.Held.{begun_by, HasAll, AreHeld};
+ghost use Rattle.trans_seq.specs.Held.{words, begun, begun_by, HasAll, IsPart, AreHeld};
 
-use crate::met::key_of;
-use crate::seq::{Item, copied_items, same_items};
+use crate::alone::only_number;
+use crate::seq::{Item, copied_items};
 use cov_base::{Int, Memory, ValueSet};
 use cov_tree::List;
 use std::alloc::Global;
 use std::collections::HashMap;
 
-/// Lists that are found: those of the first numbers, one of the numbers behind them, and one of each set of the rest.
+/// Of the lists that begin with the numbers of a key, some that are found: those with one of the numbers and one of each
+/// set of the rest.
 #[derive(Drop)]
 pub(crate) struct Held {
-    pub(crate) first: List<Int>,
     pub(crate) numbers: ValueSet,
     pub(crate) rest: List<Item>,
 }
 
-/// By what lists are written of, some that are found. What is looked up is tested before it is believed.
+/// By the numbers that lists begin with, and how many follow behind the next one, some that are found.
 #[derive(Drop)]
 pub(crate) struct Known {
     pub(crate) kept: HashMap<Vec<i128>, Held>,
@@ -33,26 +33,43 @@ pub(crate) fn none_known(alloc: Global) -> Known
     }
 }
 
-fn same_numbers(first: &[Int], second: &[Int]) -> bool
-    ensures { IsTrue result → first.now ≡ second.now }
+/// The key of lists that begin with these numbers and have so many more behind the next one.
+fn key_of(alloc: Global, first: &[Int], more: usize) -> Result<Vec<i128>, Memory>
+    ensures { IfOk result (λ key. key.items ≡ pos more ∷ first.now) }
 {
-    first == second
-}
-
-/// Whether what is held begins with these numbers and has this rest.
-fn is_of(held: &Held, first: &[Int], rest: &[Item]) -> bool
-    ensures first { IsTrue result → held.now.first ≡ first.now }
-    ensures rest { IsTrue result → held.now.rest ≡ rest.now }
-{
-    same_numbers(held.first.as_slice(), first) && same_items(held.rest.as_slice(), rest)
-}
-
-fn place_of(alloc: Global, first: &[Int], rest: &[Item]) -> Result<Vec<i128>, Memory> {
-    let mut key = key_of(alloc, rest)?;
+    let mut key = Vec::with_capacity(alloc, first.len().saturating_add(1))?;
+    key.push(more as i128)?;
     for value in first {
         key.push(value.get())?;
     }
     Ok(key)
+}
+
+/// Whether each number of the set is in the other. It takes no memory where that is so.
+pub(crate) fn is_part(alloc: Global, set: &ValueSet, other: &ValueSet) -> Result<bool, Memory>
+    ensures { IfOk result
+        (λ part. IsTrue part → IsPart (written set.now) (written other.now)) }
+{
+    let left = set.minus(alloc, other)?;
+    Ok(left.intervals().is_empty())
+}
+
+/// Whether the items are as many as the others, and each set is in the one at its place.
+pub(crate) fn are_parts(alloc: Global, items: &[Item], others: &[Item]) -> Result<bool, Memory>
+    ensures { IfOk result (λ parts. IsTrue parts → HasAll (words others.now) (words items.now)) }
+{
+    match items {
+        [] => Ok(others.is_empty()),
+        [item, rest @ ..] => match others {
+            [] => Ok(false),
+            [other, more @ ..] => {
+                if !is_part(alloc, &item.set, &other.set)? {
+                    return Ok(false);
+                }
+                are_parts(alloc, rest, more)
+            }
+        },
+    }
 }
 
 /// Numbers of which it is known that all lists are found that begin with the first numbers, go on with one of them, and
@@ -67,13 +84,94 @@ pub(crate) fn known_numbers(
         (λ numbers. (lists : List (List ℤ)) → AreHeld known.now lists
         → HasAll lists (begun_by first.now (written numbers) rest.now)) }
 {
-    let key = place_of(alloc, first, rest)?;
+    let key = key_of(alloc, first, rest.len())?;
     if let Some(held) = known.kept.get(&key) {
-        if is_of(held, first, rest) {
+        if are_parts(alloc, rest, held.rest.as_slice())? {
             return held.numbers.copy(alloc);
         }
     }
     Ok(ValueSet::new(alloc))
+}
+
+/// Whether all lists are known to be found that begin with the first numbers, go on with one of the set, and end with one
+/// of each set of the rest.
+fn has_all(
+    alloc: Global,
+    first: &[Int],
+    set: &ValueSet,
+    rest: &[Item],
+    known: &Known,
+) -> Result<bool, Memory>
+    ensures { IfOk result
+        (λ full. IsTrue full → (lists : List (List ℤ)) → AreHeld known.now lists
+        → HasAll lists (begun_by first.now (written set.now) rest.now)) }
+{
+    let numbers = known_numbers(alloc, first, rest, known)?;
+    is_part(alloc, set, &numbers)
+}
+
+/// Whether all lists are known to be found that begin with the first numbers and go on with one of each item's set. A set
+/// of one number is passed over, since nothing is kept before it.
+#[cycle(is_full)]
+pub(crate) fn is_full(
+    alloc: Global,
+    first: &mut Vec<Int>,
+    items: &[Item],
+    known: &Known,
+) -> Result<bool, Memory>
+    ensures first { OnOk result (first.new.items ≡ first.old.items) }
+    ensures full { IfOk result
+        (λ full. IsTrue full → (lists : List (List ℤ)) → AreHeld known.now lists
+        → HasAll lists (begun first.old.items items.now)) }
+{
+    match items {
+        [] => Ok(false),
+        [item, rest @ ..] => match only_number(&item.set) {
+            Some(number) => is_full_behind(alloc, first, number, rest, known),
+            None => has_all(alloc, first.as_slice(), &item.set, rest, known),
+        },
+    }
+}
+
+/// The same with one more number behind the first ones.
+#[cycle(is_full)]
+fn is_full_behind(
+    alloc: Global,
+    first: &mut Vec<Int>,
+    number: Int,
+    items: &[Item],
+    known: &Known,
+) -> Result<bool, Memory>
+    ensures first { OnOk result (first.new.items ≡ first.old.items) }
+    ensures full { IfOk result
+        (λ full. IsTrue full → (lists : List (List ℤ)) → AreHeld known.now lists
+        → HasAll lists (begun (first.old.items ++ number ∷ []) items.now)) }
+{
+    first.push(number)?;
+    let full = is_full(alloc, first, items, known)?;
+    first.pop();
+    Ok(full)
+}
+
+/// A copy of what is known to be found of the lists that begin with the first numbers and have so many behind the next one.
+pub(crate) fn held_behind(
+    alloc: Global,
+    first: &[Int],
+    more: usize,
+    known: &Known,
+) -> Result<Option<Held>, Memory>
+    ensures { IfOk result
+        (λ held. IfSome held (λ held. (lists : List (List ℤ)) → AreHeld known.now lists
+        → HasAll lists (begun_by first.now (written held.numbers) held.rest))) }
+{
+    let key = key_of(alloc, first, more)?;
+    match known.kept.get(&key) {
+        Some(held) => Ok(Some(Held {
+            numbers: held.numbers.copy(alloc)?,
+            rest: List::of(copied_items(alloc, held.rest.as_slice())?),
+        })),
+        None => Ok(None),
+    }
 }
 
 /// Keeps that the lists with these numbers are found, and those with the others.
@@ -91,9 +189,8 @@ pub(crate) fn remember(
         → HasAll lists (begun_by first.now (written others.now) rest.now)
         → AreHeld known.new lists) }
 {
-    let key = place_of(alloc, first, rest)?;
+    let key = key_of(alloc, first, rest.len())?;
     let held = Held {
-        first: List::of(Vec::from_slice(alloc, first)?),
         numbers: numbers.union(alloc, others)?,
         rest: List::of(copied_items(alloc, rest)?),
     };

@@ -15,6 +15,7 @@ mod reach;
 mod seq;
 mod size;
 mod spread;
+mod widened;
 mod windows;
 
 pub use fault::ExpandFault;

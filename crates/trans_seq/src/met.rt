@@ -38,7 +38,7 @@ fn add_set(set: &ValueSet, key: &mut Vec<i128>) -> Result<(), Memory> {
 const NUMBERS_OF_ITEM: usize = 5;
 
 /// What the items are written of. Unlike items may have one key: it only tells where to look.
-pub(crate) fn key_of(alloc: Global, items: &[Item]) -> Result<Vec<i128>, Memory> {
+fn key_of(alloc: Global, items: &[Item]) -> Result<Vec<i128>, Memory> {
     let mut key = Vec::with_capacity(alloc, items.len().saturating_mul(NUMBERS_OF_ITEM))?;
     for item in items {
         add_repeat(item.repeat, &mut key)?;

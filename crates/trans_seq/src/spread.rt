@@ -5,16 +5,15 @@ ghost use Rattle.trans_seq.specs.Found.{Holds, Takes, FailsAfter, lists_of};
 ghost use Rattle.trans_seq.specs.Alone.{IsFront};
 ghost use Rattle.trans_seq.specs.Held.{begun, begun_by, once as item_once, AreHeld};
 
+use crate::alone::count_ahead;
 use crate::fault::ExpandFault;
-use crate::found::{Found, list_of, take_list};
-use crate::held::{Known, known_numbers, remember};
+use crate::found::{Found, found_count, list_of, take_list};
+use crate::held::{Known, known_numbers};
 use crate::listing::ends;
 use crate::seq::{Item, Repeat};
+use crate::widened::keep;
 use cov_base::{Int, Memory, ValueSet};
 use std::alloc::Global;
-
-/// Numbers of a set that are gone through without a look at what is known of them.
-const FEW_NUMBERS: u128 = 3;
 
 /// Adds an item that stands once, so many times.
 pub(crate) fn add_once(
@@ -82,9 +81,14 @@ fn is_none(set: &ValueSet) -> bool
     set.intervals().is_empty()
 }
 
-/// Whether a set has so many numbers that what is found of it is kept: that costs about as much as a few of its lists.
+/// Whether a set has several numbers, so that what is found of it is kept: that costs about as much as one of its lists.
 fn is_large(set: &ValueSet) -> bool {
-    set.count() > FEW_NUMBERS
+    set.count() > 1
+}
+
+/// Whether all lists with one number of the set and one of each set of the rest were new, of which so many were.
+fn has_only_new(set: &ValueSet, rest: &[Item], added: usize) -> bool {
+    count_ahead(rest, set.count()) == added as u128
 }
 
 /// Takes the lists that begin with the first numbers and go on with one of each item's set.
@@ -150,8 +154,19 @@ fn take_unknown(
     if is_none(&left) {
         return Ok(());
     }
+    let old = found_count(found);
     take_numbers(alloc, &left, rest, first, known, found)?;
-    remember(alloc, first.as_slice(), set, &before, rest, known)?;
+    let is_new = has_only_new(&left, rest, found_count(found).saturating_sub(old));
+    keep(
+        alloc,
+        first,
+        set,
+        &before,
+        left.count(),
+        rest,
+        is_new,
+        known,
+    )?;
     Ok(())
 }
 

@@ -137,7 +137,7 @@ take_unknown-returns-clause-held t c =
     let had : HasAll (lists_of old) (begun_by first (written known) rest) = subst (λ f. HasAll (lists_of old) (begun_by f (written known) rest)) c.as_slice.ensures.value (c.in_ok-before.ensures (lists_of old) c.requires.held) in
     let same : news (lists_of old) (begun_by first (written c.in_ok-left.left) rest) ≡ news (lists_of old) (begun_by first (written set) rest) = ap (λ vs. news (lists_of old) (begun_by first vs rest)) c.in_ok-left.ensures ∙ passed-known (lists_of old) first set known rest had in
     let took : Takes old new (begun_by first (written set) rest) = takes-same old new (begun_by first (written c.in_ok-left.left) rest) (begun_by first (written set) rest) same c.in_ok-take_numbers.ensures.ok in
-    let now : c.as_slice-2.result.now ≡ first = c.as_slice-2.ensures.value ∙ c.in_ok-take_numbers.ensures.first in
-    c.in_ok-remember.ensures (lists_of new) c.in_ok-take_numbers.ensures.held
+    let now : c.take_numbers.new.first.items ≡ first = c.in_ok-take_numbers.ensures.first in
+    c.in_ok-keep.ensures.held (lists_of new) c.in_ok-take_numbers.ensures.held
     (subst (λ f. HasAll (lists_of new) (begun_by f (written set) rest)) (sym now) (takes-has old new (begun_by first (written set) rest) took))
     (subst (λ f. HasAll (lists_of new) (begun_by f (written known) rest)) (sym now) (takes-keeps old new (begun_by first (written set) rest) (begun_by first (written known) rest) took had))

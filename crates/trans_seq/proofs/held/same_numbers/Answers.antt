@@ -1,6 +1,0 @@
-use Rattle.std.proofs.Common.{sym, ◌∙◌}
-use Rattle.trans_seq.proofs.News.{same_word}
-use Rattle.trans_seq.proofs.held.same_numbers.Goals as goal
-
-pub returns : goal.returns
-returns c = λ same. same_word c.args.first.now c.args.second.now (sym c.eq.ensures ∙ same)
