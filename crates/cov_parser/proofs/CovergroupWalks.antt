@@ -1,5 +1,5 @@
 -- Where a reader of covergroups stands, from one part of a rule to the next.
-use Rattle.std.proofs.Common.{◌≡◌, ℕ, ◌+◌, List, [], ◌∷◌, ◌++◌, codes, Option, Some, None, Bool, true, false, not, ◌&&◌, ◌||◌, ◌⊎◌, eqb, append-nil, Result, Ok, Err, inl, inr, refl, sym, ◌∙◌, ap, subst, arith}
+use Rattle.std.proofs.Common.{◌≡◌, ℕ, suc, ◌+◌, List, [], ◌∷◌, ◌++◌, codes, slice_get, length, ◌-◌, Option, Some, None, Bool, true, false, not, ◌&&◌, ◌||◌, ◌⊎◌, eqb, append-nil, Result, Ok, Err, inl, inr, refl, sym, ◌∙◌, ap, subst, arith}
 use Rattle.cov_tree.specs.declared.expr.Expr.{Expr}
 use Rattle.cov_tree.specs.declared.groups.Member.{Member}
 use Rattle.cov_tree.specs.declared.groups.Formal.{Formal}
@@ -149,11 +149,20 @@ unclosed {ts = ts} {A = A} la filled k apart {d = d} {p = p} (Syntax m) n f =
     ]
 unclosed {ts = ts} la filled k apart (TooDeep m) n f = both_fails _ (lawful_maybe la filled) (lawful_word ts k) apart (maybe_fails la filled tt f)
 
--- the last formal of a longer list
-pub last_put : (fs : List Formal) (f : Formal) → last_is_ref (fs ++ f ∷ []) ≡ f.by_ref
-last_put [] f = refl
-last_put (g ∷ []) f = refl
-last_put (g ∷ h ∷ fs) f = last_put (h ∷ fs) f
+-- whether the last formal is `ref`, by where it stands
+abbrev pub is_ref : Option Formal → Bool
+is_ref None = false
+is_ref (Some f) = f.by_ref
+
+last_of : (f : Formal) (fs : List Formal) → is_ref (slice_get (f ∷ fs) (length fs)) ≡ last_is_ref (f ∷ fs)
+last_of f [] = refl
+last_of f (g ∷ fs) = last_of g fs
+
+pub last_stands : (fs : List Formal) → is_ref (slice_get fs (length fs - 1)) ≡ last_is_ref fs
+last_stands [] = refl
+last_stands (f ∷ fs) =
+    let e : suc (length fs) - 1 ≡ length fs = omega arith in
+    ap (λ n. is_ref (slice_get (f ∷ fs) n)) e ∙ last_of f fs
 
 -- a formal as it is written, with the direction of the one before it
 abbrev pub formal_at : Bool → Written → Formal
@@ -229,41 +238,6 @@ module _ (text : List ℕ) (ts : List Marked) where
 
   pub no_direction : {d : Room} {p : Place} → (In ts p.at directions → ⊥) → Reads (λ _. maybe (one ts directions)) d p None p
   no_direction n = maybe_none (lawful_one ts directions) refl n
-
-  -- formal { "," formal }
-  abbrev more_formal_lawful : Lawful ts (λ e. ahead (word ts Comma) (formal text ts e))
-  more_formal_lawful = lawful_both _ (w Comma) (formal_lawful text ts) refl
-
-  abbrev pub Formals : Room → Place → List Formal → Place → Type 0
-  Formals d o fs p = Leads (λ e. many with_formal (ahead (word ts Comma) (formal text ts e)) fs) d p (formal_list text ts) d o (λ x. x)
-
-  pub no_formal : {d : Room} {p : Place} {e : Stop} → Fails (formal text ts) d p e → Fails (formal_list text ts) d p e
-  unfolding formal_list
-  no_formal f = fold_fails with_formal (lawful_map (formal_lawful text ts) (with_formal [])) more_formal_lawful refl refl refl (map_fails (with_formal []) (formal_lawful text ts) f)
-
-  pub first_formal : {d : Room} {p : Place} {v : Written} {q : Place} → Reads (formal text ts) d p v q → Formals d p (with_formal [] v) q
-  unfolding formal_list
-  first_formal r = fold_starts with_formal (lawful_map (formal_lawful text ts) (with_formal [])) more_formal_lawful refl refl refl (map_reads (with_formal []) (formal_lawful text ts) r)
-
-  pub formal_fails : {d : Room} {o : Place} (fs : List Formal) {p : Place} {t : Marked} {q : Place} {e : Stop} → Formals d o fs p → Reads (λ _. word ts Comma) d p t q → Fails (formal text ts) d q e → Fails (formal_list text ts) d o e
-  formal_fails fs l r f = item_fails with_formal (λ _ b. b) (w Comma) (formal_lawful text ts) refl refl refl fs l r (let n = (one_next ts (Comma ∷ []) r).0 in omega arith) f
-
-  pub formal_read : {d : Room} {o : Place} (fs : List Formal) {p : Place} {t : Marked} {q : Place} {v : Written} {k : Place} → Formals d o fs p → Reads (λ _. word ts Comma) d p t q → Reads (formal text ts) d q v k → Formals d o (with_formal fs v) k
-  formal_read fs l r s = item_read with_formal (λ _ b. b) (w Comma) (formal_lawful text ts) refl refl refl fs l r s
-
-  -- a formal x that was read behind one of this direction
-  abbrev pub FormalRead : Room → Place → Bool → Formal → Place → Type 0
-  FormalRead d p last x q = (v : Written) × Reads (formal text ts) d p v q × ((before : List Formal) → last_is_ref before ≡ last → before ++ x ∷ [] ≡ with_formal before v)
-
-  pub first_put : {d : Room} {p : Place} {x : Formal} {q : Place} → FormalRead d p false x q → Formals d p (x ∷ []) q × (last_is_ref (x ∷ []) ≡ x.by_ref)
-  first_put {d = d} {p = p} {x = x} {q = q} r = (subst (λ fs. Formals d p fs q) (sym (r.2 [] refl)) (first_formal r.1), refl)
-
-  pub next_put : {d : Room} {o : Place} (fs : List Formal) {last : Bool} {p : Place} {t : Marked} {q : Place} {x : Formal} {k : Place} → Formals d o fs p × (last_is_ref fs ≡ last) → Reads (λ _. word ts Comma) d p t q → FormalRead d q last x k →
-      Formals d o (fs ++ x ∷ []) k × (last_is_ref (fs ++ x ∷ []) ≡ x.by_ref)
-  next_put {d = d} {o = o} fs {x = x} {k = k} l r s = (subst (λ fs. Formals d o fs k) (sym (s.2 fs l.1)) (formal_read fs l.0 r s.1), last_put fs x)
-
-  pub formals_end : {d : Room} {o : Place} (fs : List Formal) {p : Place} → Formals d o fs p → (In ts p.at (Comma ∷ []) → ⊥) → Reads (formal_list text ts) d o fs p
-  formals_end fs l n = no_item with_formal (λ _ b. b) (w Comma) (formal_lawful text ts) refl refl refl fs l n
 
   -- [ "(" [ formal { "," formal } ] ")" ]
   abbrev pub parens : Room → Rule (Option (List Formal))
