@@ -13,7 +13,7 @@ use Rattle.cov_grammar.specs.declared.place.Room.{Room}
 use Rattle.cov_grammar.specs.declared.place.Stop.{Stop}
 use Rattle.cov_grammar.specs.declared.place.Stop.TheVariants.{Memory, Syntax, TooDeep}
 use Rattle.cov_lexer.specs.Kinds.{code, has, has_code}
-use Rattle.cov_grammar.specs.Rule.{Rule, In, one, word, same_word, here, offset, both, bind, either, give, many, map_to, fold, ahead, behind, maybe}
+use Rattle.cov_grammar.specs.Rule.{Rule, In, one, word, same_word, here, offset, both, bind, either, give, map_to, fold, ahead, behind, maybe}
 use Rattle.cov_grammar.specs.Parses.{Reads, Stops, Fails, Parses}
 use Rattle.std.specs.Prelude.{IfOk, IfErr}
 use Rattle.std.specs.Result.{IsErrAnd}
@@ -27,11 +27,11 @@ use Rattle.cov_grammar.specs.Groups.{point, cross, label, item, member}
 use Rattle.cov_grammar.specs.Designs.{list_or, Written, written, with_formal, last_is_ref, is_ref_or, argument_of, by_event, by_function, sampling_or, group_of, type_text, formal, formal_list, formals, edge, event, argument, argument_list, argument_parens, sampled, sampling, members, group_end, group}
 use Rattle.cov_grammar.proofs.Sets.{disjoint, and_true, split, In_apart}
 use Rattle.cov_grammar.proofs.Lawful.{Lawful, Lawfuls, facts_of, lawful_word, lawful_one, lawful_here, lawful_same_word, lawful_map, lawful_maybe, lawful_both, lawful_fold}
-use Rattle.cov_grammar.proofs.Compose.{Past, map_reads, map_fails, both_reads, both_fails, both_then_fails, maybe_none, maybe_some, maybe_fails}
-use Rattle.cov_grammar.proofs.Steps.{Leads, leads_self, here_reads, one_fails, one_next, both_opens, step, ends, bind_step, bind_ends, left, right, map_leads, without, maybe_step, many_breaks, fold_starts, fold_fails, item_read, item_fails, no_item}
+use Rattle.cov_grammar.proofs.Compose.{Past, map_reads, both_reads, both_fails, both_then_fails, maybe_none, maybe_some, maybe_fails}
+use Rattle.cov_grammar.proofs.Steps.{Leads, leads_self, here_reads, one_fails, one_next, both_opens, step, ends, bind_step, bind_ends, left, right, map_leads, without, maybe_step, many_breaks}
 use Rattle.cov_grammar.proofs.BinsLaws.{ident_lawful}
 use Rattle.cov_grammar.proofs.GroupLaws.{option_words, item_firsts, label_lawful, member_lawful}
-use Rattle.cov_grammar.proofs.DesignLaws.{append, directions, type_text_lawful, value_lawful, formal_rest_lawful, formal_lawful, formal_list_lawful, formal_parens_lawful, formals_lawful, edge_lawful, event_lawful, argument_type_lawful, argument_rest_lawful, argument_list_lawful, argument_parens_lawful, sample_lawful, function_lawful, sampled_lawful, event_or_sampled_lawful, sampling_lawful, members_lawful, group_end_lawful, group_head_lawful, group_body_lawful, group_rest_lawful}
+use Rattle.cov_grammar.proofs.DesignLaws.{append, directions, type_text_lawful, value_lawful, formal_rest_lawful, formal_list_lawful, formal_parens_lawful, formals_lawful, edge_lawful, event_lawful, argument_type_lawful, argument_rest_lawful, argument_list_lawful, argument_parens_lawful, sample_lawful, function_lawful, sampled_lawful, event_or_sampled_lawful, sampling_lawful, members_lawful, group_end_lawful, group_head_lawful, group_body_lawful, group_rest_lawful}
 use Rattle.cov_parser.proofs.DesignWalks.{Members}
 
 -- a list of kinds without its first

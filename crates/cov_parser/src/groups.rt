@@ -18,7 +18,7 @@ use crate::reader::Reader;
 use cov_grammar::{Kind, Marked, Place, Room, Stop};
 use cov_tree::{Decl, EdgeKind, EdgeText, Formal, List, Member, Name};
 
-/// Formals of a group, with commas between them.
+/// Formals of a group, with commas between them. Each is told the direction of the one before it.
 #[derive(Drop)]
 struct Formals;
 

@@ -1,5 +1,5 @@
 //! Lists with separators.
-ghost use Rattle.std.specs.Prelude.{◌≡◌, ℕ, List, [], ◌∷◌, IfOk};
+ghost use Rattle.std.specs.Prelude.{◌≡◌, ℕ, List};
 ghost use Rattle.cov_lexer.specs.declared.kind.Kind.{Kind};
 ghost use Rattle.cov_grammar.specs.declared.marked.Marked.{Marked};
 ghost use Rattle.cov_grammar.specs.declared.place.Room.{Room};
