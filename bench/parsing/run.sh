@@ -61,11 +61,13 @@ for shape in bins values expressions crosses spans operators levels variables; d
     if command -v valgrind >/dev/null; then
         for size in 65536 262144 1048576; do
             text="$room/$shape$size.sv"
-            one=$(instructions "${ours[@]}" "$text" 1 1)
-            lexed=$(instructions "${ours[@]}" "$text" 2 1)
-            parsed=$(instructions "${ours[@]}" "$text" 1 2)
+            # One more after two: what malloc joins of the first tree is counted in the second run, and at some lengths what it
+            # joins of the last one too, which a single tree never costs.
+            two=$(instructions "${ours[@]}" "$text" 2 2)
+            lexed=$(instructions "${ours[@]}" "$text" 3 2)
+            parsed=$(instructions "${ours[@]}" "$text" 2 3)
             tokens=$(awk '{ print $1 }' "$room/printed")
-            awk -v size="$size" -v a="$((lexed - one))" -v b="$((parsed - one))" -v c="$tokens" 'BEGIN {
+            awk -v size="$size" -v a="$((lexed - two))" -v b="$((parsed - two))" -v c="$tokens" 'BEGIN {
                 printf "%12s %8d bytes, instructions a token: lexing %.0f, parsing %.0f\n", "", size, a / c, b / c
             }'
         done

@@ -1,5 +1,5 @@
 -- Where a reader of covergroups stands, from one part of a rule to the next.
-use Rattle.std.proofs.Common.{◌≡◌, ℕ, ◌+◌, List, [], ◌∷◌, ◌++◌, codes, Option, Some, None, Bool, true, false, not, ◌&&◌, ◌||◌, ◌⊎◌, eqb, append-nil, Result, Ok, Err, inl, inr, refl, sym, ◌∙◌, ap, subst, arith}
+use Rattle.std.proofs.Common.{◌≡◌, ℕ, suc, ◌+◌, List, [], ◌∷◌, ◌++◌, codes, slice_get, length, ◌-◌, Option, Some, None, Bool, true, false, not, ◌&&◌, ◌||◌, ◌⊎◌, eqb, append-nil, Result, Ok, Err, inl, inr, refl, sym, ◌∙◌, ap, subst, arith}
 use Rattle.cov_tree.specs.declared.expr.Expr.{Expr}
 use Rattle.cov_tree.specs.declared.groups.Member.{Member}
 use Rattle.cov_tree.specs.declared.groups.Formal.{Formal}
@@ -13,7 +13,7 @@ use Rattle.cov_grammar.specs.declared.place.Room.{Room}
 use Rattle.cov_grammar.specs.declared.place.Stop.{Stop}
 use Rattle.cov_grammar.specs.declared.place.Stop.TheVariants.{Memory, Syntax, TooDeep}
 use Rattle.cov_lexer.specs.Kinds.{code, has, has_code}
-use Rattle.cov_grammar.specs.Rule.{Rule, In, one, word, same_word, here, offset, both, bind, either, give, many, map_to, fold, ahead, behind, maybe}
+use Rattle.cov_grammar.specs.Rule.{Rule, In, one, word, same_word, here, offset, both, bind, either, give, map_to, fold, ahead, behind, maybe}
 use Rattle.cov_grammar.specs.Parses.{Reads, Stops, Fails, Parses}
 use Rattle.std.specs.Prelude.{IfOk, IfErr}
 use Rattle.std.specs.Result.{IsErrAnd}
@@ -27,11 +27,11 @@ use Rattle.cov_grammar.specs.Groups.{point, cross, label, item, member}
 use Rattle.cov_grammar.specs.Designs.{list_or, Written, written, with_formal, last_is_ref, is_ref_or, argument_of, by_event, by_function, sampling_or, group_of, type_text, formal, formal_list, formals, edge, event, argument, argument_list, argument_parens, sampled, sampling, members, group_end, group}
 use Rattle.cov_grammar.proofs.Sets.{disjoint, and_true, split, In_apart}
 use Rattle.cov_grammar.proofs.Lawful.{Lawful, Lawfuls, facts_of, lawful_word, lawful_one, lawful_here, lawful_same_word, lawful_map, lawful_maybe, lawful_both, lawful_fold}
-use Rattle.cov_grammar.proofs.Compose.{Past, map_reads, map_fails, both_reads, both_fails, both_then_fails, maybe_none, maybe_some, maybe_fails}
-use Rattle.cov_grammar.proofs.Steps.{Leads, leads_self, here_reads, one_fails, one_next, both_opens, step, ends, bind_step, bind_ends, left, right, map_leads, without, maybe_step, many_breaks, fold_starts, fold_fails, item_read, item_fails, no_item}
+use Rattle.cov_grammar.proofs.Compose.{Past, map_reads, both_reads, both_fails, both_then_fails, maybe_none, maybe_some, maybe_fails}
+use Rattle.cov_grammar.proofs.Steps.{Leads, leads_self, here_reads, one_fails, one_next, both_opens, step, ends, bind_step, bind_ends, left, right, map_leads, without, maybe_step, many_breaks}
 use Rattle.cov_grammar.proofs.BinsLaws.{ident_lawful}
 use Rattle.cov_grammar.proofs.GroupLaws.{option_words, item_firsts, label_lawful, member_lawful}
-use Rattle.cov_grammar.proofs.DesignLaws.{append, directions, type_text_lawful, value_lawful, formal_rest_lawful, formal_lawful, formal_list_lawful, formal_parens_lawful, formals_lawful, edge_lawful, event_lawful, argument_type_lawful, argument_rest_lawful, argument_list_lawful, argument_parens_lawful, sample_lawful, function_lawful, sampled_lawful, event_or_sampled_lawful, sampling_lawful, members_lawful, group_end_lawful, group_head_lawful, group_body_lawful, group_rest_lawful}
+use Rattle.cov_grammar.proofs.DesignLaws.{append, directions, type_text_lawful, value_lawful, formal_rest_lawful, formal_list_lawful, formal_parens_lawful, formals_lawful, edge_lawful, event_lawful, argument_type_lawful, argument_rest_lawful, argument_list_lawful, argument_parens_lawful, sample_lawful, function_lawful, sampled_lawful, event_or_sampled_lawful, sampling_lawful, members_lawful, group_end_lawful, group_head_lawful, group_body_lawful, group_rest_lawful}
 use Rattle.cov_parser.proofs.DesignWalks.{Members}
 
 -- a list of kinds without its first
@@ -149,11 +149,20 @@ unclosed {ts = ts} {A = A} la filled k apart {d = d} {p = p} (Syntax m) n f =
     ]
 unclosed {ts = ts} la filled k apart (TooDeep m) n f = both_fails _ (lawful_maybe la filled) (lawful_word ts k) apart (maybe_fails la filled tt f)
 
--- the last formal of a longer list
-pub last_put : (fs : List Formal) (f : Formal) → last_is_ref (fs ++ f ∷ []) ≡ f.by_ref
-last_put [] f = refl
-last_put (g ∷ []) f = refl
-last_put (g ∷ h ∷ fs) f = last_put (h ∷ fs) f
+-- whether the last formal is `ref`, by where it stands
+abbrev pub is_ref : Option Formal → Bool
+is_ref None = false
+is_ref (Some f) = f.by_ref
+
+last_of : (f : Formal) (fs : List Formal) → is_ref (slice_get (f ∷ fs) (length fs)) ≡ last_is_ref (f ∷ fs)
+last_of f [] = refl
+last_of f (g ∷ fs) = last_of g fs
+
+pub last_stands : (fs : List Formal) → is_ref (slice_get fs (length fs - 1)) ≡ last_is_ref fs
+last_stands [] = refl
+last_stands (f ∷ fs) =
+    let e : suc (length fs) - 1 ≡ length fs = omega arith in
+    ap (λ n. is_ref (slice_get (f ∷ fs) n)) e ∙ last_of f fs
 
 -- a formal as it is written, with the direction of the one before it
 abbrev pub formal_at : Bool → Written → Formal
@@ -229,41 +238,6 @@ module _ (text : List ℕ) (ts : List Marked) where
 
   pub no_direction : {d : Room} {p : Place} → (In ts p.at directions → ⊥) → Reads (λ _. maybe (one ts directions)) d p None p
   no_direction n = maybe_none (lawful_one ts directions) refl n
-
-  -- formal { "," formal }
-  abbrev more_formal_lawful : Lawful ts (λ e. ahead (word ts Comma) (formal text ts e))
-  more_formal_lawful = lawful_both _ (w Comma) (formal_lawful text ts) refl
-
-  abbrev pub Formals : Room → Place → List Formal → Place → Type 0
-  Formals d o fs p = Leads (λ e. many with_formal (ahead (word ts Comma) (formal text ts e)) fs) d p (formal_list text ts) d o (λ x. x)
-
-  pub no_formal : {d : Room} {p : Place} {e : Stop} → Fails (formal text ts) d p e → Fails (formal_list text ts) d p e
-  unfolding formal_list
-  no_formal f = fold_fails with_formal (lawful_map (formal_lawful text ts) (with_formal [])) more_formal_lawful refl refl refl (map_fails (with_formal []) (formal_lawful text ts) f)
-
-  pub first_formal : {d : Room} {p : Place} {v : Written} {q : Place} → Reads (formal text ts) d p v q → Formals d p (with_formal [] v) q
-  unfolding formal_list
-  first_formal r = fold_starts with_formal (lawful_map (formal_lawful text ts) (with_formal [])) more_formal_lawful refl refl refl (map_reads (with_formal []) (formal_lawful text ts) r)
-
-  pub formal_fails : {d : Room} {o : Place} (fs : List Formal) {p : Place} {t : Marked} {q : Place} {e : Stop} → Formals d o fs p → Reads (λ _. word ts Comma) d p t q → Fails (formal text ts) d q e → Fails (formal_list text ts) d o e
-  formal_fails fs l r f = item_fails with_formal (λ _ b. b) (w Comma) (formal_lawful text ts) refl refl refl fs l r (let n = (one_next ts (Comma ∷ []) r).0 in omega arith) f
-
-  pub formal_read : {d : Room} {o : Place} (fs : List Formal) {p : Place} {t : Marked} {q : Place} {v : Written} {k : Place} → Formals d o fs p → Reads (λ _. word ts Comma) d p t q → Reads (formal text ts) d q v k → Formals d o (with_formal fs v) k
-  formal_read fs l r s = item_read with_formal (λ _ b. b) (w Comma) (formal_lawful text ts) refl refl refl fs l r s
-
-  -- a formal x that was read behind one of this direction
-  abbrev pub FormalRead : Room → Place → Bool → Formal → Place → Type 0
-  FormalRead d p last x q = (v : Written) × Reads (formal text ts) d p v q × ((before : List Formal) → last_is_ref before ≡ last → before ++ x ∷ [] ≡ with_formal before v)
-
-  pub first_put : {d : Room} {p : Place} {x : Formal} {q : Place} → FormalRead d p false x q → Formals d p (x ∷ []) q × (last_is_ref (x ∷ []) ≡ x.by_ref)
-  first_put {d = d} {p = p} {x = x} {q = q} r = (subst (λ fs. Formals d p fs q) (sym (r.2 [] refl)) (first_formal r.1), refl)
-
-  pub next_put : {d : Room} {o : Place} (fs : List Formal) {last : Bool} {p : Place} {t : Marked} {q : Place} {x : Formal} {k : Place} → Formals d o fs p × (last_is_ref fs ≡ last) → Reads (λ _. word ts Comma) d p t q → FormalRead d q last x k →
-      Formals d o (fs ++ x ∷ []) k × (last_is_ref (fs ++ x ∷ []) ≡ x.by_ref)
-  next_put {d = d} {o = o} fs {x = x} {k = k} l r s = (subst (λ fs. Formals d o fs k) (sym (s.2 fs l.1)) (formal_read fs l.0 r s.1), last_put fs x)
-
-  pub formals_end : {d : Room} {o : Place} (fs : List Formal) {p : Place} → Formals d o fs p → (In ts p.at (Comma ∷ []) → ⊥) → Reads (formal_list text ts) d o fs p
-  formals_end fs l n = no_item with_formal (λ _ b. b) (w Comma) (formal_lawful text ts) refl refl refl fs l n
 
   -- [ "(" [ formal { "," formal } ] ")" ]
   abbrev pub parens : Room → Rule (Option (List Formal))

@@ -214,13 +214,13 @@ module _ (text : List ℕ) (ts : List Marked) where
   names_end = behind names (word ts Semi)
 
   pub names_none : {d : Room} {p : Place} {e : Stop} → Fails (λ _. word ts Ident) d p e → Fails (λ _. names_end) d p e
-  names_none f = both_fails _ names_lawful (w Semi) refl (chain_fails (w Ident) (Comma ∷ []) refl f)
+  names_none f = both_fails _ names_lawful (w Semi) refl (chain_fails (w Ident) snoc (Comma ∷ []) refl f)
 
   pub names_break : {d : Room} {p : Place} {x : Marked} {m : Place} {e : Stop} → Reads (λ _. word ts Ident) d p x m → Fails (λ _. more (x ∷ [])) d m e → Fails (λ _. names_end) d p e
-  names_break s f = both_fails _ names_lawful (w Semi) refl ((chain_first (w Ident) (Comma ∷ []) refl s).fails f)
+  names_break s f = both_fails _ names_lawful (w Semi) refl ((chain_first (w Ident) snoc (Comma ∷ []) refl s refl).fails f)
 
   pub names_close : {d : Room} {p : Place} {x : Marked} {m : Place} {xs : List Marked} {k : Place} → Reads (λ _. word ts Ident) d p x m → Reads (λ _. more (x ∷ [])) d m xs k → Leads (λ _. word ts Semi) d k (λ _. names_end) d p (λ _. xs)
-  names_close {d = d} {p = p} s n = step _ names_lawful (w Semi) refl (leads_self (λ _. names_end) d p) ((chain_first (w Ident) (Comma ∷ []) refl s).reads n)
+  names_close {d = d} {p = p} s n = step _ names_lawful (w Semi) refl (leads_self (λ _. names_end) d p) ((chain_first (w Ident) snoc (Comma ∷ []) refl s refl).reads n)
 
   -- an instance, or variables whose type is a name
   abbrev named_lawfuls : Lawfuls ts (λ e (p : Marked × Marked). either (instance_rest text ts p e) (variables_rest text ts p))

@@ -1,7 +1,8 @@
 //! Crosses of coverpoints (IEEE 1800-2017, 19.6).
-ghost use Rattle.std.specs.Prelude.{[], ◌∷◌, refl};
+ghost use Rattle.std.specs.Prelude.{ℕ, List, [], ◌∷◌, refl};
 ghost use Rattle.cov_lexer.specs.declared.kind.Kind.TheVariants.{Comma};
 ghost use Rattle.cov_grammar.specs.Parses.{Parses};
+ghost use Rattle.cov_grammar.specs.Expressions.{snoc};
 ghost use Rattle.cov_grammar.specs.Bins.{ident};
 ghost use Rattle.cov_grammar.specs.Groups.{cross, crossed, cross_bins};
 ghost use Rattle.cov_grammar.proofs.BinsLaws.{ident_lawful};
@@ -23,7 +24,11 @@ struct PointNames;
 impl Item for PointNames {
     type Tree = Name;
 
+    ghost Written = { List ℕ };
+
     ghost rule = { λ _ text ts _. ident text ts };
+
+    ghost put = { snoc };
 
     ghost separators = { Comma ∷ [] };
 
@@ -31,9 +36,16 @@ impl Item for PointNames {
         &[Kind::Comma]
     }
 
-    fn read(&self, reader: Reader<'_>, place: Place, _: Room) -> Result<(Held<Name>, Place), Stop> {
+    fn read(
+        &self,
+        reader: Reader<'_>,
+        place: Place,
+        _: Room,
+        list: &mut List<Name>,
+    ) -> Result<Place, Stop> {
         let (name, after) = reader.ident(place)?;
-        Ok((Held::of(name), after))
+        list.push(name)?;
+        Ok(after)
     }
 
     ghost separable = { λ _ text ts. record { lawful = ident_lawful text ts; apart = refl } };

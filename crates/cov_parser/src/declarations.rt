@@ -1,9 +1,11 @@
 //! Enumerations, variables and instances (IEEE 1800-2017, 6.19, 6.8 and 19.3).
-ghost use Rattle.std.specs.Prelude.{◌≡◌, ◌∷◌, [], refl, IfOk, IfErr};
+ghost use Rattle.std.specs.Prelude.{◌≡◌, ℕ, List, Option, ◌∷◌, [], refl, IfOk, IfErr};
 ghost use Rattle.cov_lexer.specs.declared.kind.Kind.TheVariants.{Comma, Ident};
 ghost use Rattle.cov_grammar.specs.Rule.{word};
 ghost use Rattle.cov_grammar.specs.Parses.{Reads, Fails, Parses};
-ghost use Rattle.cov_grammar.specs.Expressions.{expr};
+ghost use Rattle.cov_grammar.specs.Expressions.{expr, snoc};
+ghost use Rattle.cov_grammar.specs.declared.marked.Marked.{Marked};
+ghost use Rattle.cov_tree.specs.declared.expr.Expr.{Expr};
 ghost use Rattle.cov_grammar.specs.Designs.{enum_name, enum_names, enum_decl, built_in_decl, named_decl, named_type, variables, instance_of, arguments_or};
 ghost use Rattle.cov_grammar.proofs.Lawful.{lawful_word};
 ghost use Rattle.cov_grammar.proofs.ExprLaws.{expr_lawful};
@@ -12,7 +14,7 @@ ghost use Rattle.cov_parser.specs.Reading.{ParsesAlways, over};
 ghost use Rattle.cov_parser.specs.Parts.{exprs, maybe_arguments, maybe_vector, more_names, name_list};
 
 use crate::held::{Held, add, alone};
-use crate::lists::{Item, NO_ROOM};
+use crate::lists::{Item, NO_ROOM, put_last};
 use crate::reader::Reader;
 use cov_grammar::{Kind, Marked, Place, Room, Standing, Stop};
 use cov_tree::{Decl, Expr, List, Memory, Name, Shared, TypeText};
@@ -24,7 +26,11 @@ struct Arguments;
 impl Item for Arguments {
     type Tree = Expr;
 
+    ghost Written = { Expr };
+
     ghost rule = { λ _. expr };
+
+    ghost put = { snoc };
 
     ghost separators = { Comma ∷ [] };
 
@@ -32,13 +38,15 @@ impl Item for Arguments {
         &[Kind::Comma]
     }
 
+    #[tactic(auto, using(crate::proofs::Chains::put_parses))]
     fn read(
         &self,
         reader: Reader<'_>,
         place: Place,
         room: Room,
-    ) -> Result<(Held<Expr>, Place), Stop> {
-        reader.whole_expr(place, room, Standing::Plain)
+        list: &mut List<Expr>,
+    ) -> Result<Place, Stop> {
+        put_last(list, reader.whole_expr(place, room, Standing::Plain))
     }
 
     ghost separable = { λ _ text ts. record { lawful = expr_lawful text ts; apart = refl } };
@@ -51,7 +59,11 @@ struct Constants;
 impl Item for Constants {
     type Tree = (Name, Option<Expr>);
 
+    ghost Written = { List ℕ × Option Expr };
+
     ghost rule = { λ _. enum_name };
+
+    ghost put = { snoc };
 
     ghost separators = { Comma ∷ [] };
 
@@ -59,13 +71,15 @@ impl Item for Constants {
         &[Kind::Comma]
     }
 
+    #[tactic(auto, using(crate::proofs::Chains::put_parses))]
     fn read(
         &self,
         reader: Reader<'_>,
         place: Place,
         room: Room,
-    ) -> Result<(Held<(Name, Option<Expr>)>, Place), Stop> {
-        reader.constant(place, room)
+        list: &mut List<(Name, Option<Expr>)>,
+    ) -> Result<Place, Stop> {
+        put_last(list, reader.constant(place, room))
     }
 
     ghost separable = { λ _ text ts. record { lawful = enum_name_lawful text ts; apart = refl } };
@@ -78,7 +92,11 @@ struct Names;
 impl Item for Names {
     type Tree = Marked;
 
+    ghost Written = { Marked };
+
     ghost rule = { λ _ _ ts _. word ts Ident };
+
+    ghost put = { snoc };
 
     ghost separators = { Comma ∷ [] };
 
@@ -91,9 +109,11 @@ impl Item for Names {
         reader: Reader<'_>,
         place: Place,
         _: Room,
-    ) -> Result<(Held<Marked>, Place), Stop> {
+        list: &mut List<Marked>,
+    ) -> Result<Place, Stop> {
         let (name, after) = reader.word(place, Kind::Ident)?;
-        Ok((Held::of(name), after))
+        list.push(name)?;
+        Ok(after)
     }
 
     ghost separable = { λ _ text ts. record { lawful = lawful_word ts Ident; apart = refl } };

@@ -3,27 +3,33 @@ ghost use Rattle.std.specs.Prelude.{◌≡◌, List, [], ◌∷◌, ◌++◌, re
 ghost use Rattle.cov_lexer.specs.declared.kind.Kind.TheVariants.{Comma, OrWord, Ident, CoverpointWord, CrossWord, OptionWord, TypeOptionWord};
 ghost use Rattle.cov_grammar.specs.Rule.{In, same_word};
 ghost use Rattle.cov_grammar.specs.Parses.{Reads, Fails, Parses};
-ghost use Rattle.cov_grammar.specs.Expressions.{spelled};
+ghost use Rattle.cov_grammar.specs.Expressions.{snoc, spelled};
+ghost use Rattle.cov_tree.specs.declared.groups.Formal.{Formal};
+ghost use Rattle.cov_tree.specs.declared.groups.EdgeText.{EdgeText};
 ghost use Rattle.cov_grammar.specs.Groups.{item, member};
 ghost use Rattle.cov_grammar.specs.Designs.{Written, with_formal, last_is_ref, is_ref_or, formal, formal_list, formals, edge, edge_kind, edge_or_any, argument, argument_list, argument_parens, sampling, members, group_end, group};
-ghost use Rattle.cov_grammar.proofs.DesignLaws.{argument_lawful, edge_lawful};
+ghost use Rattle.cov_grammar.proofs.DesignLaws.{argument_lawful, edge_lawful, formal_lawful};
 ghost use Rattle.cov_parser.specs.Reading.{ParsesAlways, Took, over};
 ghost use Rattle.cov_parser.specs.Parts.{direction, edge_parens, edge_word, edges, maybe_input, maybe_label, sample_function};
 
 use crate::held::{Held, add, alone};
-use crate::lists::Item;
+use crate::lists::{Item, put_last};
 use crate::reader::Reader;
 use cov_grammar::{Kind, Marked, Place, Room, Stop};
 use cov_tree::{Decl, EdgeKind, EdgeText, Formal, List, Member, Name};
 
-/// Arguments of a sample function, with commas between them.
+/// Formals of a group, with commas between them. Each is told the direction of the one before it.
 #[derive(Drop)]
-struct SampleArguments;
+struct Formals;
 
-impl Item for SampleArguments {
+impl Item for Formals {
     type Tree = Formal;
 
-    ghost rule = { λ _. argument };
+    ghost Written = { Written };
+
+    ghost rule = { λ _. formal };
+
+    ghost put = { with_formal };
 
     ghost separators = { Comma ∷ [] };
 
@@ -36,8 +42,55 @@ impl Item for SampleArguments {
         reader: Reader<'_>,
         place: Place,
         room: Room,
-    ) -> Result<(Held<Formal>, Place), Stop> {
-        reader.argument(place, room)
+        list: &mut List<Formal>,
+    ) -> Result<Place, Stop> {
+        let by_ref = last_is_ref(list.as_slice());
+        let (formal, after) = reader.formal(place, room, by_ref)?;
+        add(list, formal)?;
+        Ok(after)
+    }
+
+    ghost separable = { λ _ text ts. record { lawful = formal_lawful text ts; apart = refl } };
+}
+
+/// Whether the last of these formals is `ref`.
+fn last_is_ref(formals: &[Formal]) -> bool
+    ensures { result ≡ last_is_ref formals.now }
+{
+    match formals.last() {
+        Some(formal) => formal.by_ref,
+        None => false,
+    }
+}
+
+/// Arguments of a sample function, with commas between them.
+#[derive(Drop)]
+struct SampleArguments;
+
+impl Item for SampleArguments {
+    type Tree = Formal;
+
+    ghost Written = { Formal };
+
+    ghost rule = { λ _. argument };
+
+    ghost put = { snoc };
+
+    ghost separators = { Comma ∷ [] };
+
+    fn separators(&self) -> &'static [Kind] {
+        &[Kind::Comma]
+    }
+
+    #[tactic(auto, using(crate::proofs::Chains::put_parses))]
+    fn read(
+        &self,
+        reader: Reader<'_>,
+        place: Place,
+        room: Room,
+        list: &mut List<Formal>,
+    ) -> Result<Place, Stop> {
+        put_last(list, reader.argument(place, room))
     }
 
     ghost separable = { λ _ text ts. record { lawful = argument_lawful text ts; apart = refl } };
@@ -50,7 +103,11 @@ struct Edges;
 impl Item for Edges {
     type Tree = EdgeText;
 
+    ghost Written = { EdgeText };
+
     ghost rule = { λ _. edge };
+
+    ghost put = { snoc };
 
     ghost separators = { OrWord ∷ Comma ∷ [] };
 
@@ -58,13 +115,15 @@ impl Item for Edges {
         &[Kind::OrWord, Kind::Comma]
     }
 
+    #[tactic(auto, using(crate::proofs::Chains::put_parses))]
     fn read(
         &self,
         reader: Reader<'_>,
         place: Place,
         room: Room,
-    ) -> Result<(Held<EdgeText>, Place), Stop> {
-        reader.edge(place, room)
+        list: &mut List<EdgeText>,
+    ) -> Result<Place, Stop> {
+        put_last(list, reader.edge(place, room))
     }
 
     ghost separable = { λ _ text ts. record { lawful = edge_lawful text ts; apart = refl } };
@@ -136,19 +195,11 @@ impl Reader<'_> {
     }
 
     /// Formals with commas between them.
+    #[tactic(auto, unfolding(cov_grammar::specs::Designs::formal_list))]
     fn formal_list(self, place: Place, room: Room) -> Result<(List<Formal>, Place), Stop>
         ensures { Parses (over self.entry formal_list) room place result }
     {
-        let (first, mut at) = self.formal(place, room, false)?;
-        let mut by_ref = first.get().by_ref;
-        let mut formals = alone(self.alloc, first)?;
-        while let Some((_, next)) = self.take(at, &[Kind::Comma]) {
-            let (formal, after) = self.formal(next, room, by_ref)?;
-            by_ref = formal.get().by_ref;
-            add(&mut formals, formal)?;
-            at = after;
-        }
-        Ok((formals, at))
+        self.list(place, room, &Formals)
     }
 
     /// A formal. `by_ref` is the direction of the formal before it, which it has where it gives none (13.3).

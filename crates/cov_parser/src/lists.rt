@@ -6,9 +6,9 @@ ghost use Rattle.cov_grammar.specs.declared.place.Room.{Room};
 ghost use Rattle.cov_grammar.specs.Rule.{Rule};
 ghost use Rattle.cov_grammar.specs.Parses.{Parses};
 ghost use Rattle.cov_parser.specs.Reading.{over};
-ghost use Rattle.cov_parser.specs.Listing.{list_of, more_of, Separable};
+ghost use Rattle.cov_parser.specs.Listing.{Added, Puts, list_of, more_of, Separable};
 
-use crate::held::{Held, add, alone};
+use crate::held::{Held, add};
 use crate::reader::Reader;
 use cov_grammar::{Kind, Place, Room, Stop};
 use cov_tree::List;
@@ -23,7 +23,11 @@ pub(crate) const NO_ROOM: Room = Room {
 pub(crate) trait Item {
     type Tree: Drop;
 
-    ghost rule: { Self → List ℕ → List Marked → Room → Rule Self.Tree };
+    ghost Written: { Type 0 };
+
+    ghost rule: { Self → List ℕ → List Marked → Room → Rule Written };
+
+    ghost put: { List Self.Tree → Written → List Self.Tree };
 
     ghost separators: { List Kind };
 
@@ -31,14 +35,16 @@ pub(crate) trait Item {
     fn separators(&self) -> &'static [Kind]
         ensures { result.now ≡ separators };
 
-    /// The item at this place.
+    /// The item at this place, put to those before it. Answers the place behind it.
     fn read(
         &self,
         reader: Reader<'_>,
         place: Place,
         room: Room,
-    ) -> Result<(Held<Self::Tree>, Place), Stop>
-        ensures { Parses (over reader.entry (rule self.now)) room place result };
+        list: &mut List<Self::Tree>,
+    ) -> Result<Place, Stop>
+        ensures { Puts (over reader.entry (rule self.now)) put room place list.old list.new
+            result };
 
     ghost separable: { (item : Self) (text : List ℕ) (tokens : List Marked) →
         Separable tokens (rule item text tokens) separators };
@@ -52,11 +58,11 @@ impl Reader<'_> {
         room: Room,
         item: &I,
     ) -> Result<(List<I::Tree>, Place), Stop>
-        ensures { Parses (over self.entry (list_of (I.rule item.now) I.separators))
+        ensures { Parses (over self.entry (list_of (I.rule item.now) I.put I.separators))
             room place result }
     {
-        let (first, at) = item.read(self, place, room)?;
-        let list = alone(self.alloc, first)?;
+        let mut list = List::new(self.alloc);
+        let at = item.read(self, place, room, &mut list)?;
         self.more(at, room, item, list)
     }
 
@@ -68,16 +74,30 @@ impl Reader<'_> {
         item: &I,
         before: List<I::Tree>,
     ) -> Result<(List<I::Tree>, Place), Stop>
-        ensures { Parses (over self.entry (more_of (I.rule item.now) I.separators before))
+        ensures { Parses (over self.entry (more_of (I.rule item.now) I.put I.separators before))
             room place result }
     {
         let mut list = before;
         let mut at = place;
         while let Some((_, next)) = self.take(at, item.separators()) {
-            let (part, after) = item.read(self, next, room)?;
-            add(&mut list, part)?;
-            at = after;
+            at = item.read(self, next, room, &mut list)?;
         }
         Ok((list, at))
+    }
+}
+
+/// What was read, put to the end of a list.
+pub(crate) fn put_last<T: Drop>(
+    list: &mut List<T>,
+    read: Result<(Held<T>, Place), Stop>,
+) -> Result<Place, Stop>
+    ensures { Added read list.old list.new result }
+{
+    match read {
+        Ok((part, after)) => {
+            add(list, part)?;
+            Ok(after)
+        }
+        Err(stop) => Err(stop),
     }
 }

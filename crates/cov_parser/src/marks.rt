@@ -3,16 +3,16 @@ ghost use Rattle.std.specs.Prelude.{◌≡◌, ℕ, List, IfOk};
 ghost use Rattle.cov_lexer.specs.Lexes.{AllSpelled};
 ghost use Rattle.cov_grammar.specs.Marking.{next_begins, with_neighbours, marked};
 
-use cov_grammar::{Kind, Marked};
+use cov_grammar::{Kind, Marked, Stop};
 use cov_lexer::Token;
-use std::alloc::{AllocFailed, Global};
+use std::alloc::Global;
 
 /// The tokens with their kinds. It takes the time of one pass.
-pub(crate) fn marks(alloc: Global, tokens: &[Token]) -> Result<Vec<Marked>, AllocFailed<Marked>>
+pub(crate) fn marks(alloc: Global, tokens: &[Token]) -> Result<Vec<Marked>, Stop>
     ensures { (text : List ℕ) → AllSpelled text tokens.now →
         IfOk result (λ found. found.items ≡ marked text tokens.now) }
 {
-    let mut found = Vec::new(alloc);
+    let mut found = Vec::with_capacity(alloc, tokens.len())?;
     let mut named = false;
     let mut rest = tokens;
     while let Some((token, later)) = rest.split_first() {

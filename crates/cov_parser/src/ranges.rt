@@ -2,13 +2,15 @@
 ghost use Rattle.std.specs.Prelude.{[], ◌∷◌};
 ghost use Rattle.cov_lexer.specs.declared.kind.Kind.TheVariants.{Comma};
 ghost use Rattle.cov_grammar.specs.Parses.{Parses};
+ghost use Rattle.cov_grammar.specs.Expressions.{snoc};
+ghost use Rattle.cov_tree.specs.declared.bins.Elem.{Elem};
 ghost use Rattle.cov_grammar.specs.Bins.{range_end, elem, elems, values};
 ghost use Rattle.cov_grammar.proofs.BinsLaws.{elem_lawful, no_comma};
 ghost use Rattle.cov_parser.specs.Reading.{over};
 ghost use Rattle.cov_parser.specs.Parts.{in_parens, maybe_keep};
 
 use crate::held::Held;
-use crate::lists::Item;
+use crate::lists::{Item, put_last};
 use crate::reader::Reader;
 use cov_grammar::{Kind, Place, Room, Standing, Stop};
 use cov_tree::{Elem, End, Expr, List, Right};
@@ -20,7 +22,11 @@ struct Elems(Standing);
 impl Item for Elems {
     type Tree = Elem;
 
+    ghost Written = { Elem };
+
     ghost rule = { λ item text ts. elem text ts item.0 };
+
+    ghost put = { snoc };
 
     ghost separators = { Comma ∷ [] };
 
@@ -28,13 +34,15 @@ impl Item for Elems {
         &[Kind::Comma]
     }
 
+    #[tactic(auto, using(crate::proofs::Chains::put_parses))]
     fn read(
         &self,
         reader: Reader<'_>,
         place: Place,
         room: Room,
-    ) -> Result<(Held<Elem>, Place), Stop> {
-        reader.elem(place, room, self.0)
+        list: &mut List<Elem>,
+    ) -> Result<Place, Stop> {
+        put_last(list, reader.elem(place, room, self.0))
     }
 
     ghost separable = { λ item text ts.

@@ -1,14 +1,16 @@
 //! Sequences of transitions (IEEE 1800-2017, 19.5.2).
-ghost use Rattle.std.specs.Prelude.{◌≡◌, [], ◌∷◌, refl, IfOk};
+ghost use Rattle.std.specs.Prelude.{◌≡◌, List, [], ◌∷◌, refl, IfOk};
 ghost use Rattle.cov_lexer.specs.declared.kind.Kind.TheVariants.{Comma, FatArrow};
 ghost use Rattle.cov_grammar.specs.Parses.{Parses};
+ghost use Rattle.cov_grammar.specs.Expressions.{snoc};
+ghost use Rattle.cov_tree.specs.declared.bins.Step.{Step};
 ghost use Rattle.cov_grammar.specs.Bins.{step, seq, seqs, high_or, times_or_once, times_of};
 ghost use Rattle.cov_grammar.proofs.BinsLaws.{seq_lawful, step_lawful};
 ghost use Rattle.cov_parser.specs.Reading.{over};
 ghost use Rattle.cov_parser.specs.Parts.{maybe_repetition, steps};
 
 use crate::held::Held;
-use crate::lists::Item;
+use crate::lists::{Item, put_last};
 use crate::reader::Reader;
 use cov_grammar::{Kind, Place, Room, Standing, Stop};
 use cov_tree::{Expr, List, Memory, Shared, Step, Times};
@@ -21,7 +23,11 @@ struct Sequences;
 impl Item for Sequences {
     type Tree = List<Step>;
 
+    ghost Written = { List Step };
+
     ghost rule = { λ _. seq };
+
+    ghost put = { snoc };
 
     ghost separators = { Comma ∷ [] };
 
@@ -29,13 +35,15 @@ impl Item for Sequences {
         &[Kind::Comma]
     }
 
+    #[tactic(auto, using(crate::proofs::Chains::put_parses))]
     fn read(
         &self,
         reader: Reader<'_>,
         place: Place,
         room: Room,
-    ) -> Result<(Held<List<Step>>, Place), Stop> {
-        reader.sequence(place, room)
+        list: &mut List<List<Step>>,
+    ) -> Result<Place, Stop> {
+        put_last(list, reader.sequence(place, room))
     }
 
     ghost separable = { λ _ text ts. record { lawful = seq_lawful text ts; apart = refl } };
@@ -48,7 +56,11 @@ struct Steps;
 impl Item for Steps {
     type Tree = Step;
 
+    ghost Written = { Step };
+
     ghost rule = { λ _. step };
+
+    ghost put = { snoc };
 
     ghost separators = { FatArrow ∷ [] };
 
@@ -56,13 +68,15 @@ impl Item for Steps {
         &[Kind::FatArrow]
     }
 
+    #[tactic(auto, using(crate::proofs::Chains::put_parses))]
     fn read(
         &self,
         reader: Reader<'_>,
         place: Place,
         room: Room,
-    ) -> Result<(Held<Step>, Place), Stop> {
-        reader.step(place, room)
+        list: &mut List<Step>,
+    ) -> Result<Place, Stop> {
+        put_last(list, reader.step(place, room))
     }
 
     ghost separable = { λ _ text ts. record { lawful = step_lawful text ts; apart = refl } };

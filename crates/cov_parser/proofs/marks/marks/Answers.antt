@@ -5,7 +5,7 @@ use Rattle.cov_parser.proofs.marks.marks.Goals as goal
 
 pub loop-token-init : goal.loop-token-init
 unfolding marked
-loop-token-init c = λ text h. (h, ap (λ xs. xs ++ marked_from text false c.args.tokens.now) c.new-found.ensures.items)
+loop-token-init c = λ text h. (h, ap (λ xs. xs ++ marked_from text false c.args.tokens.now) c.in_ok-found.ensures.items)
 
 pub loop-token-preserved : goal.loop-token-preserved
 loop-token-preserved c = λ text h.
