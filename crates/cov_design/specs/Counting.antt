@@ -6,7 +6,7 @@ use Rattle.design_data.specs.declared.infos.BinRule.{BinRule}
 use Rattle.design_data.specs.declared.infos.BinRule.TheVariants.{Values, Patterns, Trans, Default, DefaultValues, DefaultSequence, Picked, Product}
 use Rattle.design_data.specs.Limits.{ranges_of}
 use Rattle.elab_base.specs.declared.fault.ElabKind.TheVariants as kind
-use Rattle.elab_base.specs.Gives.{Refusal, needs, each}
+use Rattle.elab_base.specs.Gives.{Refusal, ◌>>=◌, needs, each}
 use Rattle.elab_values.specs.declared.made.Made.{Made}
 use Rattle.cov_design.specs.declared.counts.Counts.{Counts}
 

@@ -10,7 +10,7 @@ use Rattle.cov_options.specs.declared.values.Level.TheVariants as levels
 use Rattle.design_data.specs.declared.infos.ItemInfo.{ItemInfo}
 use Rattle.design_data.specs.declared.infos.ItemShape.TheVariants.{Cross}
 use Rattle.elab_base.specs.declared.names.What.{What}
-use Rattle.elab_base.specs.Gives.{Refusal, each}
+use Rattle.elab_base.specs.Gives.{Refusal, ◌>>=◌, each}
 use Rattle.elab_base.specs.Steps.{unused, guard_in}
 use Rattle.elab_decls.specs.declared.outside.Outside.{Outside}
 use Rattle.elab_decls.specs.Options.{options_set, cross_defaults}

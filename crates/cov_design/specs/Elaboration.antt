@@ -6,7 +6,7 @@ use Rattle.design_data.specs.declared.infos.GroupInfo.{GroupInfo}
 use Rattle.design_data.specs.declared.infos.InstInfo.{InstInfo}
 use Rattle.design_data.specs.declared.design.Design.{Design}
 use Rattle.elab_base.specs.declared.fault.ElabFault.{ElabFault}
-use Rattle.elab_base.specs.Gives.{Refusal, Fails}
+use Rattle.elab_base.specs.Gives.{Refusal, ◌>>=◌, Fails}
 use Rattle.elab_order.specs.Order.{numbered}
 use Rattle.cov_design.specs.declared.known.Known.{Known}
 use Rattle.cov_design.specs.Walk.{walked}

@@ -10,7 +10,7 @@ use Rattle.const_eval.specs.declared.meaning.Meaning.{Meaning}
 use Rattle.const_eval.specs.Scopes.{Names, Levels, names_of}
 use Rattle.elab_base.specs.declared.fault.ElabKind.TheVariants as kind
 use Rattle.elab_base.specs.declared.names.What.TheVariants as what
-use Rattle.elab_base.specs.Gives.{Refusal, needs, each_at}
+use Rattle.elab_base.specs.Gives.{Refusal, ◌>>=◌, needs, each_at}
 use Rattle.elab_decls.specs.Enumerations.{enumeration}
 use Rattle.elab_decls.specs.Variables.{variable}
 use Rattle.elab_decls.specs.Formals.{formals_walked}

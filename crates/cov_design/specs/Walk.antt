@@ -2,7 +2,7 @@
 use Rattle.std.specs.Prelude.{ℕ, List, [], None, Result, Ok}
 use Rattle.cov_tree.specs.declared.declarations.Decl.{Decl}
 use Rattle.cov_tree.specs.declared.declarations.Decl.TheVariants as decls
-use Rattle.elab_base.specs.Gives.{Refusal, each_at}
+use Rattle.elab_base.specs.Gives.{Refusal, ◌>>=◌, each_at}
 use Rattle.elab_decls.specs.declared.outside.Outside.{Outside}
 use Rattle.elab_decls.specs.Enumerations.{enumeration}
 use Rattle.elab_decls.specs.Variables.{variable}

@@ -5,7 +5,7 @@ use Rattle.std.proofs.lemmas.List.{append-nil}
 use Rattle.cov_proto.specs.declared.fault.Fault.{Fault}
 use Rattle.cov_proto.specs.declared.fault.Fault.TheVariants.{At, Memory}
 use Rattle.cov_proto.specs.Given.{GivesOrLacks}
-use Rattle.cov_proto.specs.Reading.{Reader, nothing, appended, rows_in}
+use Rattle.cov_proto.specs.Reading.{◌>>=◌, Reader, nothing, appended, rows_in}
 
 -- rows behind others
 abbrev pub with_front : {A : Type 0} → List A → Result (List A) ℕ → Result (List A) ℕ

@@ -13,7 +13,7 @@ use Rattle.cov_proto.specs.declared.replies.Body.TheVariants.{Store, Done, Farew
 use Rattle.cov_proto.specs.declared.replies.Reply.{Reply}
 use Rattle.cov_proto.specs.declared.requests.RequestFault.{RequestFault}
 use Rattle.cov_proto.specs.declared.requests.RequestFault.TheVariants as fault
-use Rattle.cov_proto.specs.Reading.{Reader, Form, Table, number_at, number_within, digest_at, text_at, flag_at, kind_at, limit_at, pair, shaped, nothing, only, before, any_bytes, path, rows, made, found, unknown}
+use Rattle.cov_proto.specs.Reading.{◌>>=◌, Reader, Form, Table, number_at, number_within, digest_at, text_at, flag_at, kind_at, limit_at, pair, shaped, nothing, only, before, any_bytes, path, rows, made, found, unknown}
 use Rattle.cov_proto.specs.Requests.{from_front}
 
 -- ---- rows

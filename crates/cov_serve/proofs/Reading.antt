@@ -7,7 +7,7 @@ use Rattle.std.specs.Str.{bytes_eq}
 use Rattle.std.proofs.lemmas.Slice.Eq.{bytes_eq-Decides}
 use Rattle.cov_serve.specs.declared.words.ServeWords.{ServeWords}
 use Rattle.cov_serve.specs.Seats.{seats_of}
-use Rattle.cov_serve.specs.Words.{IsWithin, behind, readers_of, journal_of, placed, seated, designed, served_by}
+use Rattle.cov_serve.specs.Words.{IsWithin, behind, readers_behind, readers_of, journal_behind, journal_of, placed, seated, flags_behind, listened, designed, served_by}
 use Rattle.cov_serve.specs.Forms.{flag_with, words_of, place_of, IsSeats, IsServe}
 
 -- ---- from the form

@@ -1,5 +1,5 @@
 -- The forms of the words of `covd serve`.
-use Rattle.std.specs.Prelude.{◌≡◌, ◌↔◌, ℕ, ◌+◌, List, [], ◌∷◌, Option, Some, None, codes}
+use Rattle.std.specs.Prelude.{◌≡◌, ◌↔◌, ℕ, ◌+◌, List, [], ◌∷◌, ◌++◌, Option, Some, None, codes}
 use Rattle.cov_serve.specs.declared.words.ServeWords.{ServeWords}
 use Rattle.cov_serve.specs.Seats.{seats_of}
 use Rattle.cov_serve.specs.Words.{served_by}

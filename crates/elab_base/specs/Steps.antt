@@ -7,7 +7,7 @@ use Rattle.const_eval.specs.Binding.{bound_of, constant_of, place_of}
 use Rattle.elab_base.specs.declared.fault.ElabKind.TheVariants as kind
 use Rattle.name_map.specs.Names.{Pairs, meaning_of}
 use Rattle.elab_base.specs.declared.names.What.{What}
-use Rattle.elab_base.specs.Gives.{Refusal, needs, lifted}
+use Rattle.elab_base.specs.Gives.{Refusal, ◌>>=◌, needs, lifted}
 
 -- a name that its scope doesn't have yet
 unfoldable pub unused : Pairs What → List ℕ → ℕ → Result (Unit {0}) Refusal

@@ -14,7 +14,7 @@ use Rattle.design_data.specs.Bins.{is_point, sizes_of}
 use Rattle.elab_base.specs.declared.fault.ElabKind.TheVariants as kind
 use Rattle.elab_base.specs.declared.names.What.{What}
 use Rattle.elab_base.specs.declared.names.What.TheVariants as what
-use Rattle.elab_base.specs.Gives.{Refusal, needs, each}
+use Rattle.elab_base.specs.Gives.{Refusal, ◌>>=◌, needs, each}
 use Rattle.elab_crosses.specs.declared.axes.Axis.{Axis}
 use Rattle.elab_crosses.specs.declared.axes.Axis.TheVariants as axis
 use Rattle.elab_crosses.specs.declared.axes.Named.{Named}

@@ -9,7 +9,7 @@ use Rattle.cross_select.specs.declared.select.Select.{Select}
 use Rattle.design_data.specs.declared.infos.BinRule.TheVariants.{Picked}
 use Rattle.elab_base.specs.declared.fault.ElabKind.TheVariants as kind
 use Rattle.elab_base.specs.declared.names.What.TheVariants as what
-use Rattle.elab_base.specs.Gives.{Refusal, needs, each}
+use Rattle.elab_base.specs.Gives.{Refusal, ◌>>=◌, needs, each}
 use Rattle.elab_base.specs.Steps.{unused, guard_in}
 use Rattle.elab_values.specs.declared.made.Made.{Made}
 use Rattle.elab_crosses.specs.declared.declared.Walked.{Walked}

@@ -13,7 +13,7 @@ use Rattle.design_data.specs.Bins.{is_coverage}
 use Rattle.design_data.specs.Crosses.{products, picks, takes_from, is_left}
 use Rattle.design_data.specs.Laws.{automatic_products}
 use Rattle.elab_base.specs.declared.fault.ElabKind.TheVariants as kind
-use Rattle.elab_base.specs.Gives.{Refusal, needs}
+use Rattle.elab_base.specs.Gives.{Refusal, ◌>>=◌, needs}
 use Rattle.elab_values.specs.declared.made.Made.{Made}
 use Rattle.elab_crosses.specs.Selections.{Crossed}
 use Rattle.elab_crosses.specs.Declarations.{bins_walked}

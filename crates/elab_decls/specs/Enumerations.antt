@@ -12,7 +12,7 @@ use Rattle.const_eval.specs.Scopes.{Levels}
 use Rattle.elab_base.specs.declared.fault.ElabKind.TheVariants as kind
 use Rattle.elab_base.specs.declared.names.What.TheVariants as what
 use Rattle.elab_base.specs.declared.fault.ElabFault.{ElabFault}
-use Rattle.elab_base.specs.Gives.{Refusal, Fails, needs, each}
+use Rattle.elab_base.specs.Gives.{Refusal, ◌>>=◌, Fails, needs, each}
 use Rattle.elab_base.specs.Steps.{number_in, unused}
 use Rattle.elab_decls.specs.declared.outside.Outside.{Outside}
 use Rattle.elab_decls.specs.declared.outside.Shape.{Shape}

@@ -18,7 +18,7 @@ use Rattle.const_eval.specs.Values.{cut_to}
 use Rattle.elab_base.specs.declared.fault.ElabKind.TheVariants as kind
 use Rattle.elab_base.specs.declared.names.What.{What}
 use Rattle.elab_base.specs.declared.names.What.TheVariants as what
-use Rattle.elab_base.specs.Gives.{Refusal, needs, each, each_at}
+use Rattle.elab_base.specs.Gives.{Refusal, ◌>>=◌, needs, each, each_at}
 use Rattle.elab_base.specs.Steps.{unused, bound_in, number_in}
 use Rattle.elab_decls.specs.declared.outside.Outside.{Outside}
 use Rattle.elab_decls.specs.declared.outside.Shape.{Shape}

@@ -16,7 +16,7 @@ use Rattle.cov_options.specs.declared.values.OptFault.TheVariants as faults
 use Rattle.cov_options.specs.Table.{defaults, answer, after}
 use Rattle.elab_base.specs.declared.fault.ElabKind.{ElabKind}
 use Rattle.elab_base.specs.declared.fault.ElabKind.TheVariants as kind
-use Rattle.elab_base.specs.Gives.{Refusal, each}
+use Rattle.elab_base.specs.Gives.{Refusal, ◌>>=◌, each}
 use Rattle.elab_base.specs.Steps.{number_in}
 
 -- a type option sees no formals and no sample arguments

@@ -6,7 +6,7 @@ use Rattle.cov_tree.specs.declared.declarations.TypeText.{TypeText}
 use Rattle.const_eval.specs.declared.meaning.Meaning.TheVariants.{Signal}
 use Rattle.elab_base.specs.declared.fault.ElabKind.TheVariants as kind
 use Rattle.elab_base.specs.declared.names.What.TheVariants as what
-use Rattle.elab_base.specs.Gives.{Refusal, needs}
+use Rattle.elab_base.specs.Gives.{Refusal, ◌>>=◌, needs}
 use Rattle.elab_base.specs.Steps.{unused}
 use Rattle.elab_decls.specs.declared.outside.Outside.{Outside}
 use Rattle.elab_decls.specs.declared.outside.Shape.{Shape}

@@ -12,7 +12,7 @@ use Rattle.cov_tree.specs.declared.bins.BinsDecl.{BinsDecl}
 use Rattle.const_eval.specs.Typs.{Typ}
 use Rattle.design_data.specs.declared.infos.BinKind.TheVariants.{CvgBin}
 use Rattle.elab_base.specs.declared.fault.ElabKind.TheVariants as kind
-use Rattle.elab_base.specs.Gives.{Refusal, needs}
+use Rattle.elab_base.specs.Gives.{Refusal, ◌>>=◌, needs}
 use Rattle.elab_values.specs.declared.domain.Constant.{Constant}
 use Rattle.elab_values.specs.declared.domain.Domain.{Domain}
 use Rattle.elab_values.specs.declared.made.Made.{Made}

@@ -11,7 +11,7 @@ use Rattle.const_eval.specs.Scopes.{Levels, names_with}
 use Rattle.const_eval.specs.Binding.{bound_of, first_signal}
 use Rattle.const_eval.specs.Values.{value}
 use Rattle.elab_base.specs.declared.fault.ElabKind.TheVariants as kind
-use Rattle.elab_base.specs.Gives.{Refusal, needs, lifted}
+use Rattle.elab_base.specs.Gives.{Refusal, ◌>>=◌, needs, lifted}
 
 -- known, and not 0
 abbrev pub is_nonzero : Option ℤ → Bool

@@ -11,7 +11,7 @@ use Rattle.const_eval.specs.Scopes.{Levels}
 use Rattle.design_data.specs.declared.infos.BinKind.{BinKind}
 use Rattle.design_data.specs.declared.infos.BinKind.TheVariants.{CvgBin, IllegalBin, IgnoreBin, DefaultBin}
 use Rattle.design_data.specs.Laws.{lists, KeepsListed}
-use Rattle.elab_base.specs.Gives.{Refusal}
+use Rattle.elab_base.specs.Gives.{Refusal, ◌>>=◌}
 use Rattle.elab_values.specs.declared.domain.Domain.{Domain}
 use Rattle.elab_values.specs.declared.made.Made.{Made}
 use Rattle.elab_values.specs.declared.made.PointBins.{PointBins}

@@ -9,7 +9,7 @@ use Rattle.design_data.specs.declared.infos.BinKind.{BinKind}
 use Rattle.design_data.specs.declared.infos.BinKind.TheVariants.{CvgBin, IllegalBin, IgnoreBin, DefaultBin}
 use Rattle.design_data.specs.declared.infos.BinRule.{BinRule}
 use Rattle.design_data.specs.declared.infos.BinRule.TheVariants.{Values, Patterns, Trans, Default, DefaultValues, DefaultSequence, Picked, Product}
-use Rattle.elab_base.specs.Gives.{Refusal}
+use Rattle.elab_base.specs.Gives.{Refusal, ◌>>=◌}
 use Rattle.elab_values.specs.declared.domain.Domain.{Domain}
 use Rattle.elab_values.specs.declared.made.Made.{Made}
 use Rattle.elab_values.specs.declared.made.PointBins.{PointBins}

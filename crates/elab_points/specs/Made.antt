@@ -12,7 +12,7 @@ use Rattle.const_eval.specs.Scopes.{Levels}
 use Rattle.design_data.specs.declared.infos.BinRule.{BinRule}
 use Rattle.design_data.specs.declared.infos.BinRule.TheVariants.{Values}
 use Rattle.elab_base.specs.declared.fault.ElabKind.TheVariants as kind
-use Rattle.elab_base.specs.Gives.{Refusal, needs}
+use Rattle.elab_base.specs.Gives.{Refusal, ◌>>=◌, needs}
 use Rattle.elab_base.specs.Steps.{number_in}
 use Rattle.elab_values.specs.declared.made.Made.{Made}
 use Rattle.elab_points.specs.Filter.{passes}

@@ -6,7 +6,7 @@ use Rattle.cov_ground.specs.Limits.{most_bins}
 use Rattle.cov_base.specs.Sets.{written, set_of, without, ascending}
 use Rattle.design_data.specs.declared.infos.BinRule.TheVariants.{DefaultValues}
 use Rattle.elab_base.specs.declared.fault.ElabKind.TheVariants as kind
-use Rattle.elab_base.specs.Gives.{Refusal, needs, each}
+use Rattle.elab_base.specs.Gives.{Refusal, ◌>>=◌, needs, each}
 use Rattle.elab_values.specs.declared.domain.Domain.{Domain}
 use Rattle.elab_values.specs.declared.made.Made.{Made}
 use Rattle.elab_points.specs.declared.declared.Entry.{Entry}

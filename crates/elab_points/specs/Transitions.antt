@@ -11,7 +11,7 @@ use Rattle.cov_tree.specs.declared.bins.Word.TheVariants as words
 use Rattle.const_eval.specs.Scopes.{Levels}
 use Rattle.trans_seq.specs.declared.seq.Seq.{Seq}
 use Rattle.elab_base.specs.declared.names.What.TheVariants as what
-use Rattle.elab_base.specs.Gives.{Refusal}
+use Rattle.elab_base.specs.Gives.{Refusal, ◌>>=◌}
 use Rattle.elab_values.specs.declared.domain.Domain.{Domain}
 use Rattle.elab_values.specs.declared.made.Made.{Made}
 use Rattle.elab_transitions.specs.declared.plans.Before.{Before}

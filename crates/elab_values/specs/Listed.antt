@@ -17,7 +17,7 @@ use Rattle.wildcard_bins.specs.declared.pattern.Pattern.{Pattern}
 use Rattle.wildcard_bins.specs.Patterns.{agreeing}
 use Rattle.elab_base.specs.declared.fault.ElabKind.{ElabKind}
 use Rattle.elab_base.specs.declared.fault.ElabKind.TheVariants as kind
-use Rattle.elab_base.specs.Gives.{Refusal, needs, each}
+use Rattle.elab_base.specs.Gives.{Refusal, ◌>>=◌, needs, each}
 use Rattle.elab_base.specs.Steps.{number_in}
 use Rattle.elab_values.specs.declared.domain.Domain.{Domain}
 use Rattle.elab_values.specs.declared.elements.Listed.{Listed}

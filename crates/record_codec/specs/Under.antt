@@ -8,7 +8,7 @@ use Rattle.record_codec.specs.declared.record.SignalRow.{SignalRow}
 use Rattle.record_codec.specs.declared.record.InstRow.{InstRow}
 use Rattle.record_codec.specs.declared.record.Event.{Event}
 use Rattle.record_codec.specs.declared.record.Event.TheVariants.{Set, Sample}
-use Rattle.record_codec.specs.Reading.{Reader, number_at, number_within, sample_at}
+use Rattle.record_codec.specs.Reading.{◌>>=◌, Reader, number_at, number_within, sample_at}
 
 -- the greatest value of so many bits, of most_bits at most
 abbrev pub greatest : ℕ → ℕ

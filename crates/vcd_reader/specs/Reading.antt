@@ -22,6 +22,7 @@ use Rattle.vcd_reader.specs.Numbers.{number_in}
 use Rattle.vcd_reader.specs.Values.{are_digits, change_of}
 use Rattle.vcd_reader.specs.Header.{is, keyword_of, joined, outer, size_of, code_of, with_code, is_open, with_var}
 use Rattle.vcd_reader.specs.Body.{kind_of, steps_of, at_time, with_change}
+use Rattle.vcd_reader.specs.Gives.{◌>>=◌}
 
 abbrev pub is_end : List ℕ → Bool
 is_end text = is text (codes "$end")

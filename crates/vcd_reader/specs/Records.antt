@@ -16,6 +16,7 @@ use Rattle.vcd_reader.specs.Events.{all_events}
 use Rattle.vcd_reader.specs.Moments.{events_of}
 use Rattle.cov_counting.specs.Tables.{signal_row}
 use Rattle.vcd_reader.specs.Starting.{start_of, limited}
+use Rattle.vcd_reader.specs.Refusals.{◌>>=◌}
 
 -- the first group whose event can't be watched
 abbrev pub unless_bad : Option ℕ → Watches → Result Watches DumpFault

@@ -9,7 +9,7 @@ use Rattle.vcd_reader.specs.declared.header.Code.{Code}
 use Rattle.vcd_reader.specs.declared.fault.DumpFault.{DumpFault}
 use Rattle.vcd_reader.specs.declared.fault.DumpFault.TheVariants.{NoSignal, WidthDiffers}
 use Rattle.vcd_reader.specs.Header.{is}
-use Rattle.vcd_reader.specs.Refusals.{each}
+use Rattle.vcd_reader.specs.Refusals.{◌>>=◌, each}
 
 -- a variable of the scope that is no bit and no word of what has its name
 abbrev pub var_pair : (scope : List ℕ) → DumpVar → Pairs Code
