@@ -1,4 +1,4 @@
-use Rattle.std.proofs.Common.{◌<◌, ◌∙◌, ap, sym, [], ◌++◌, ◌∷◌, length, refl, arith, inl, inr, length-append}
+use Rattle.std.proofs.Common.{◌<◌, ◌∙◌, ap, sym, [], ◌∷◌, length, refl, arith, inl, inr, length-append}
 use Rattle.std.proofs.lemmas.Option.{slice_get_within}
 use Rattle.design_data.specs.declared.infos.BinInfo.{BinInfo}
 use Rattle.design_data.specs.Laws.{Value}
@@ -22,16 +22,8 @@ count_met-requires-clause-once c =
     ∙ sym (ap (λ (v : Value). places_from (λ (bin : BinInfo). has_value c.args.item.now.bins v bin.rule) 0 c.args.item.now.bins) c.requires.key))
     (none_once [] refl)
 
-pub returns-clause-remembers : goal.returns-clause-remembers
-returns-clause-remembers c = λ w h. record {
-  begun = ((λ t. omega (arith, length-append w (c.args.value.now ∷ []))), (λ l. refl));
-  runs = still_runs c.args.plan.now c.requires.still.0 c.requires.still.1 c.requires.still.2 c.args.state.now.runs.items (w ++ c.args.value.now ∷ []);
-  others = still_others c.args.plan.now c.requires.still.0 c.requires.still.1 c.requires.still.2 c.args.state.now.others (w ++ c.args.value.now ∷ []);
-  recent = still_recent c.args.plan.now c.requires.still.0 c.requires.still.1 c.requires.still.2 c.args.state.now.ending.recent (w ++ c.args.value.now ∷ []);
-}
-
 pub returns-clause-taken : goal.returns-clause-taken
-returns-clause-taken c = let found = c.requires.lookup in λ w h. record {
+returns-clause-taken c = let found = c.requires.lookup in λ w. record {
   met = c.hits-hits.result.now;
   are_met = are_met c.args.item.now c.args.plan.now c.requires.plan w c.args.value.now [] c.hits-hits.result.now
       (still_met c.args.plan.now c.requires.still.0 c.requires.still.1 c.requires.still.2 w c.args.value.now [] refl)
