@@ -12,7 +12,7 @@ use Rattle.sampler.specs.Walking.{IsInstWork, InstFits, WalkAt}
 use Rattle.sampler.proofs.Items.{read_at, same_read}
 use Rattle.sampler.proofs.Starts.{by_parts}
 use Rattle.sampler.proofs.Walks.{walk_set, walk_past, walk_sample, inst_fits_more}
-use Rattle.sampler.proofs.walking.take_event.Goals as goal
+use Rattle.sampler.proofs.walking.take_any.Goals as goal
 
 pub returns-in-Set-clause-at : goal.returns-in-Set-clause-at
 returns-in-Set-clause-at c = λ start before events few h.
