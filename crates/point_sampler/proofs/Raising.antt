@@ -1,11 +1,10 @@
 -- Counts that are raised place by place, and what a quick point takes.
-use Rattle.std.proofs.Common.{◌≡◌, ◌≢◌, ℤ, pos, ◌+ℤ◌, ◌≤ℤ◌, ℕ, ◌+◌, ◌-◌, ◌^◌, ◌<◌, ◌≤◌, List, [], ◌∷◌, ◌++◌, length, take, All, true, Option, Some, None, refl, ap, sym, subst, ◌∙◌, inl, inr, arith}
+use Rattle.std.proofs.Common.{◌≡◌, ◌≢◌, ℤ, pos, ◌+ℤ◌, ◌≤ℤ◌, ℕ, ◌+◌, ◌-◌, ◌^◌, ◌<◌, ◌≤◌, List, [], ◌∷◌, ◌++◌, length, All, true, Option, Some, None, refl, ap, sym, subst, ◌∙◌, inl, inr, arith}
 use Rattle.std.specs.Prelude.{Contains, AllPairs, IfSome, slice_get, slice_index, slice_set}
 use Rattle.std.proofs.lemmas.Int.{ints}
 use Rattle.std.proofs.lemmas.List.{get_or-set_same, get_or-set_other}
 use Rattle.std.proofs.lemmas.List.Elements.{Contains-append_left, Contains-push, Contains-push_cases}
 use Rattle.std.proofs.lemmas.Option.{cond_some}
-use Rattle.bin_spec.specs.Types.{lowest, highest}
 use Rattle.const_eval.specs.Terms.{Term, typ_of}
 use Rattle.const_eval.specs.Typs.{Typ}
 use Rattle.const_eval.specs.Values.{value, IsNumberOf}
@@ -17,10 +16,10 @@ use Rattle.cov_counting.specs.Hits.{holds}
 use Rattle.point_sampler.specs.declared.plan.Lookup.{Lookup}
 use Rattle.point_sampler.specs.declared.plan.PointPlan.{PointPlan}
 use Rattle.point_sampler.specs.declared.state.PointState.{PointState}
-use Rattle.point_sampler.specs.Plans.{IsPlanOf, IsStill, AreEntries, IsEntry, places_from, has_value}
+use Rattle.point_sampler.specs.Plans.{IsPlanOf, IsStill, IsEntry, places_from, has_value}
 use Rattle.point_sampler.specs.Points.{IsSample, PointStands, IsOutside}
 use Rattle.point_sampler.specs.Met.{raised, IsOn, AllTaken, ValueTaken}
-use Rattle.point_sampler.specs.Quick.{HasKeys, IsQuick, AreRaised}
+use Rattle.point_sampler.specs.Quick.{HasKeys, AreRaised}
 use Rattle.point_sampler.proofs.Meeting.{are_met, met_within, met_once}
 use Rattle.point_sampler.proofs.Standing.{remembered, counts_stand}
 use Rattle.point_sampler.proofs.Still.{still_met, still_remembers, none_among, none_once}
