@@ -1,8 +1,9 @@
 -- Instances that are counted by their quick items.
-use Rattle.std.proofs.Common.{◌≡◌, ◌⊎◌, ℕ, ◌+◌, ◌^◌, ◌<◌, ◌≤◌, List, [], ◌∷◌, ◌++◌, length, get_or, set, Some, None, refl, ap, sym, subst, ◌∙◌, inl, inr, arith, length-append}
+use Rattle.std.proofs.Common.{◌≡◌, ◌⊎◌, ℕ, ◌+◌, ◌-◌, ◌^◌, ◌<◌, ◌≤◌, List, [], ◌∷◌, ◌++◌, length, get_or, set, Some, None, refl, ap, sym, subst, ◌∙◌, inl, inr, arith, length-append}
 use Rattle.std.specs.Prelude.{slice_get, slice_index_or}
 use Rattle.std.proofs.lemmas.Bool.{cases_lt}
-use Rattle.std.proofs.lemmas.List.{set-get_or, get_or_append_left, get_or-append_seam}
+use Rattle.std.proofs.Math.Seq.{get_or-append_seam}
+use Rattle.std.proofs.lemmas.List.{set-get_or, get_or_append_left}
 use Rattle.std.proofs.lemmas.Option.{slice_get_within, get_or_from_slice_get, slice_get-get_or}
 use Rattle.const_eval.specs.Terms.{Term, typ_of}
 use Rattle.design_data.specs.declared.infos.ItemInfo.{ItemInfo}
@@ -27,7 +28,7 @@ use Rattle.sampler.specs.declared.lists.QuickItem.{QuickItem}
 use Rattle.sampler.specs.Standing.{IsSample, IsPlanOf, PointStands, Stands, AllStand, SomeTaken, AllTaken, KeepsOthers, InstAt, InstTaken}
 use Rattle.sampler.specs.Walking.{IsInstWork, IsWork, AllInstFit, WalkAt}
 use Rattle.sampler.specs.Quick.{IsQuickItem, AreQuick, IsQuickInst, AreQuickUpTo, IsReady, AreReady, AreKept}
-use Rattle.sampler.proofs.Items.{some_more}
+use Rattle.sampler.proofs.Items.{read_at, some_more}
 use Rattle.sampler.proofs.Walks.{walk_sample, at_sample, holds_bare, writes_none}
 
 -- ---- a quick item
@@ -114,6 +115,27 @@ kept_then first second third h g = λ k expr e. g k expr (h k expr e)
 
 pub quick_kept : (old new : List Term) (item : ItemInfo) (p : ItemPlan) (quick : QuickItem) → AreKept old new → IsQuickItem old item p quick → IsQuickItem new item p quick
 quick_kept old new item p quick h is = record { expr = is.expr; is_expr = h quick.expr is.expr is.is_expr; shape = is.shape; unguarded = is.unguarded; first = is.first; is_plan = is.is_plan; is_quick = is.is_quick }
+
+-- the items of a list are quick
+abbrev pub Quicks : List Term → List ItemInfo → List ItemPlan → (chosen : List ℕ) → List QuickItem → Type 0
+Quicks exprs items plans chosen list = (i k : ℕ) (item : ItemInfo) (p : ItemPlan) (quick : QuickItem) → slice_get chosen i ≡ Some k → slice_get items k ≡ Some item → slice_get plans k ≡ Some p → slice_get list i ≡ Some quick → IsQuickItem exprs item p quick
+
+pub quicks_more : (old new : List Term) (items : List ItemInfo) (plans : List ItemPlan) (chosen : List ℕ) (list : List QuickItem) (one : QuickItem) (n t : ℕ) (item : ItemInfo) (p : ItemPlan) → AreKept old new → length list ≡ n → slice_get chosen n ≡ Some t → slice_get items t ≡ Some item → slice_get plans t ≡ Some p
+    → IsQuickItem new item p one → Quicks old items plans chosen list → Quicks new items plans chosen (list ++ one ∷ [])
+quicks_more old new items plans chosen list one n t item p more len at_t at_item at_plan is h = λ i k item' p' quick c e f g. elim (cases_lt i n) [
+    | inl lower ↦
+        let before : i < length list = omega (arith, lower, len) in
+        quick_kept old new item' p' quick more (h i k item' p' quick c e f
+        (read_at list i quick before (sym (get_or_from_slice_get (list ++ one ∷ []) i quick quick g) ∙ get_or_append_left list (one ∷ []) quick i before)))
+    | inr past ↦
+        let within : i < length (list ++ one ∷ []) = slice_get_within (list ++ one ∷ []) i quick g in
+        let same : i ≡ n = omega (arith, past, within, len, length-append list (one ∷ [])) in
+        let is_one : quick ≡ one = sym (get_or_from_slice_get (list ++ one ∷ []) i quick quick g) ∙ (ap (λ (j : ℕ). get_or (list ++ one ∷ []) j quick) (same ∙ sym len) ∙ get_or-append_seam list one [] quick) in
+        let is_t : k ≡ t = sym (get_or_from_slice_get chosen i k t c) ∙ (ap (λ (j : ℕ). get_or chosen j t) same ∙ get_or_from_slice_get chosen n t t at_t) in
+        let is_item : item' ≡ item = sym (get_or_from_slice_get items k item' item e) ∙ (ap (λ (j : ℕ). get_or items j item) is_t ∙ get_or_from_slice_get items t item item at_item) in
+        let is_plan : p' ≡ p = sym (get_or_from_slice_get plans k p' p f) ∙ (ap (λ (j : ℕ). get_or plans j p) is_t ∙ get_or_from_slice_get plans t p p at_plan) in
+        subst (λ (x : ItemInfo). IsQuickItem new x p' quick) (sym is_item) (subst (λ (x : ItemPlan). IsQuickItem new item x quick) (sym is_plan) (subst (λ (x : QuickItem). IsQuickItem new item p x) (sym is_one) is))
+  ]
 
 inst_kept : (r : Record) (j : ℕ) (old new : List Term) (items : List ItemInfo) (plans : List ItemPlan) (chosen : List ℕ) (list : List QuickItem) → AreKept old new → (list ≡ []) ⊎ IsQuickInst r j old items plans chosen list → (list ≡ []) ⊎ IsQuickInst r j new items plans chosen list
 inst_kept r j old new items plans chosen list h (inl none) = inl none

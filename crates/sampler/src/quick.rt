@@ -186,23 +186,23 @@ impl QuickTable {
     }
 }
 
-/// Counts the quick items of an instance at a sample whose values are `env`.
+/// Counts the quick items of an instance, whose expressions are among these, at a sample whose values are `env`.
 #[inline(always)]
 pub(crate) fn count_items(
-    table: &QuickTable,
+    exprs: &[Bound],
     list: &[QuickItem],
     env: &[Option<Int>],
     counts: &mut [u64],
 )
-    requires { AreReady table.now.exprs.items (length counts.old) list.now }
+    requires { AreReady exprs.now (length counts.old) list.now }
     ensures { (items : List Item) (plans : List AnyPlan) (chosen : List ℕ) (states : List ItemState) (all : List Env) (m : ℕ)
-        → IsInstWork items plans chosen (length counts.old) → AreQuick table.now.exprs.items items plans chosen list.now
+        → IsInstWork items plans chosen (length counts.old) → AreQuick exprs.now items plans chosen list.now
         → length states ≡ length chosen → IsSample all m env.now
         → AllStand items plans chosen all (λ shape. m) states counts.old
         → AllTaken items plans chosen all (λ shape. m + 1) counts.old states counts.new }
 {
     for quick in list {
-        let expr = &table.exprs[quick.expr as usize];
-        quick.plan.get().count(expr, quick.first_bin, env, counts);
+        let plan = quick.plan.get();
+        plan.count(&exprs[quick.expr as usize], quick.first_bin, env, counts);
     }
 }

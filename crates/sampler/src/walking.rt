@@ -198,7 +198,7 @@ fn take_quick(
     if list.is_empty() {
         return false;
     }
-    count_items(table, list, values, counts);
+    count_items(table.exprs.as_slice(), list, values, counts);
     true
 }
 

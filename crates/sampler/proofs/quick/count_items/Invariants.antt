@@ -11,7 +11,7 @@ use Rattle.sampler.proofs.quick.count_items.Given as goal
 abbrev pub invariant-loop-quick : goal.invariant-loop-quick
 invariant-loop-quick l = record {
   same : length l.counts ≡ length l.initial.counts;
-  taken : (items : List ItemInfo) (plans : List ItemPlan) (chosen : List ℕ) (states : List ItemState) (all : List Env) (m : ℕ) → IsInstWork items plans chosen (length l.initial.counts) → AreQuick l.table.exprs.items items plans chosen l.list
+  taken : (items : List ItemInfo) (plans : List ItemPlan) (chosen : List ℕ) (states : List ItemState) (all : List Env) (m : ℕ) → IsInstWork items plans chosen (length l.initial.counts) → AreQuick l.exprs items plans chosen l.list
       → length states ≡ length chosen → IsSample all m l.env → AllStand items plans chosen all (λ shape. m) states l.initial.counts
       → SomeTaken items plans chosen all (λ shape. m) (λ shape. m + 1) l.quick-index l.initial.counts states l.counts;
 }
