@@ -173,7 +173,7 @@ module _ (plan : PointPlan) (w : List Value) (v : Value) (met found both next : 
   found_both p c = subst (λ (ps : List ℕ). Contains ps p) (sym joined) (Contains-append_right met found p c)
 
   pub trans_met : Answered plan.machines.items plan.removers (w ++ v ∷ []) met ended → ((p : ℕ) → Contains found p ↔ EndsAt plan.words (w ++ v ∷ []) p) → (IsTrue some ↔ (0 < length found)) → (IsTrue now ↔ (IsTrue ended ⊎ IsTrue some))
-      → (IsTrue begun ↔ (0 < length w))
+      → (0 < length plan.sequences.items → IsTrue begun ↔ (0 < length w))
       → (0 < length plan.sequences.items → IsTrue alone ↔ (IsTrue begun × (IsTrue now → ⊥) × (EndsWindow plan.others (w ++ v ∷ []) → ⊥)))
       → AreTransMet plan w v next
   trans_met h are is_some either later says = λ p. (
@@ -184,7 +184,7 @@ module _ (plan : PointPlan) (w : List Value) (v : Value) (met found both next : 
           inr (inr (
             new.1,
             record {
-              later = later.0 all.0;
+              later = (later (some_in plan.sequences.items p new.1)).0 all.0;
               machines = λ e. all.1 (either.1 (inl (h.ended_by.1 e)));
               words = λ q e. all.1 (either.1 (inr (is_some.1 (some_in found q ((are q).1 e)))));
               others = all.2;
@@ -199,7 +199,7 @@ module _ (plan : PointPlan) (w : List Value) (v : Value) (met found both next : 
             | inl e ↦ new.1.machines (h.ended_by.0 e)
             | inr s ↦ let q = get_or found 0 0 in new.1.words q ((are q).0 (Contains-get_or found 0 0 (is_some.0 s)))
           ] in
-          joined_new alone both plan.sequences.items p ((says (some_in plan.sequences.items p new.0)).1 (later.1 new.1.later, quiet, new.1.others)) new.0
+          joined_new alone both plan.sequences.items p ((says (some_in plan.sequences.items p new.0)).1 ((later (some_in plan.sequences.items p new.0)).1 new.1.later, quiet, new.1.others)) new.0
     ])),
   )
 

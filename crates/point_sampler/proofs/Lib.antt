@@ -5,6 +5,7 @@ pub mod Taking
 pub mod Meeting
 pub mod Standing
 mod Still
+mod Raising
 mod Keyed
 mod Asking
 mod Resting

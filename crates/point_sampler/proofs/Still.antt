@@ -4,7 +4,8 @@ use Rattle.std.specs.Prelude.{Contains, AllPairs}
 use Rattle.design_data.specs.Laws.{Value}
 use Rattle.word_table.specs.declared.row.PlacedWord.{PlacedWord}
 use Rattle.point_sampler.specs.declared.plan.PointPlan.{PointPlan}
-use Rattle.point_sampler.specs.Points.{RunsStand, OthersStand, AreRecent}
+use Rattle.point_sampler.specs.declared.state.PointState.{PointState}
+use Rattle.point_sampler.specs.Points.{RunsStand, OthersStand, AreRecent, Remembers}
 use Rattle.point_sampler.specs.Met.{IsTracePlace, AreTransMet}
 use Rattle.point_sampler.proofs.Places.{in_none}
 
@@ -17,6 +18,14 @@ module _ (plan : PointPlan) (none : length plan.machines.items ≡ 0) (no_words 
 
   pub still_recent : (recent w : List Value) → AreRecent plan.words recent w
   still_recent recent w = λ some. absurd (omega (arith, some, ap (λ (rows : List PlacedWord). length rows) no_words))
+
+  pub still_remembers : (state : PointState) (w : List Value) → Remembers plan state w
+  still_remembers state w = record {
+    begun = λ some. absurd (omega (arith, some, alone));
+    runs = still_runs state.runs.items w;
+    others = still_others state.others w;
+    recent = still_recent state.ending.recent w;
+  }
 
   pub still_met : (w : List Value) (v : Value) (met : List ℕ) → met ≡ [] → AreTransMet plan w v met
   still_met w v met e = λ place. (

@@ -3,3 +3,4 @@ pub mod Points
 pub mod Met
 pub mod Keys
 pub mod Divided
+pub mod Quick

@@ -78,10 +78,6 @@ pub record StandApart (plan : PointPlan) : Type 0 where
   pub once : AllPairs (λ a b. a ≢ b) plan.sequences.items
   pub apart : (place : ℕ) → IsTransPlace plan place → Contains plan.sequences.items place → ⊥
 
--- there are neither automata nor words nor default sequences
-abbrev pub IsStill : PointPlan → Type 0
-IsStill plan = (length plan.machines.items ≡ 0) × (plan.words ≡ []) × (length plan.sequences.items ≡ 0)
-
 -- the place is that of a transition bin or of a default sequence
 abbrev pub IsTracePlace : PointPlan → ℕ → Type 0
 IsTracePlace plan place = IsTransPlace plan place ⊎ Contains plan.sequences.items place

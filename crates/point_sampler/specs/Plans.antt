@@ -219,3 +219,7 @@ pub record IsPlanOf (item : ItemInfo) (plan : PointPlan) : Type 0 where
   pub lookup : IfSome plan.lookup (IsLookupOf item.bins)
   pub questions : AreQuestionsOf item.bins plan.questions
   pub sequences : plan.sequences.items ≡ places_from (λ bin. is_default_sequence bin.rule) 0 item.bins
+
+-- there are neither automata nor words nor default sequences
+abbrev pub IsStill : PointPlan → Type 0
+IsStill plan = (length plan.machines.items ≡ 0) × (plan.words ≡ []) × (length plan.sequences.items ≡ 0)

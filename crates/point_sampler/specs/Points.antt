@@ -43,9 +43,13 @@ OthersStand plan others w = 0 < length plan.sequences.items → Stands plan.othe
 abbrev pub AreRecent : List PlacedWord → (recent w : List Value) → Type 0
 AreRecent rows recent w = 0 < length rows → AreLast recent w
 
+-- the state says whether a value came before, where there is a default sequence
+abbrev pub HasBegun : PointPlan → PointState → List Value → Type 0
+HasBegun plan state w = 0 < length plan.sequences.items → IsTrue state.begun ↔ (0 < length w)
+
 -- the state stands after these values of the point's trace
 pub record Remembers (plan : PointPlan) (state : PointState) (w : List Value) : Type 0 where
-  pub begun : IsTrue state.begun ↔ (0 < length w)
+  pub begun : HasBegun plan state w
   pub runs : RunsStand plan.machines.items plan.removers state.runs.items w
   pub others : OthersStand plan state.others w
   pub recent : AreRecent plan.words state.ending.recent w

@@ -14,6 +14,7 @@ mod plan;
 mod planning;
 mod point;
 mod questions;
+mod quick;
 mod rules;
 mod state;
 mod values;

@@ -3,9 +3,9 @@ ghost use Rattle.std.specs.Prelude.{◌≡◌, ◌≢◌, ◌↔◌, ◌⊎◌, 
 ghost use Rattle.trans_seq.specs.Windows.{EndsKept, EndsWindow};
 ghost use Rattle.trans_auto.specs.State.{Stands, SaysKept, SaysWindow, TakesSample};
 ghost use Rattle.design_data.specs.Laws.{Value};
-ghost use Rattle.point_sampler.specs.Plans.{removed_by, AreEntrances};
+ghost use Rattle.point_sampler.specs.Plans.{removed_by, AreEntrances, IsStill};
 ghost use Rattle.point_sampler.specs.Points.{FitsPlan, RunsStand, OthersStand, AreRecent, Remembers};
-ghost use Rattle.point_sampler.specs.Met.{AreSteps, IsStill, Answered, Ascend, IsPlaceOf, StandApart, IsTracePlace, AreTransMet};
+ghost use Rattle.point_sampler.specs.Met.{AreSteps, Answered, Ascend, IsPlaceOf, StandApart, IsTracePlace, AreTransMet};
 
 use crate::entrances::first_stirring;
 use crate::plan::{Entrance, Machine, PointPlan, Removers};
@@ -205,7 +205,8 @@ fn push_all(
         → OthersStand plan.now others.new (w ++ value.now ∷ [])) }
     ensures recent { OnOk result ((w : List Value) → AreRecent plan.now.words ending.old.recent w
         → AreRecent plan.now.words ending.new.recent (w ++ value.now ∷ [])) }
-    ensures met { OnOk result ((w : List Value) → IsTrue begun ↔ (0 < length w)
+    ensures met { OnOk result ((w : List Value)
+        → (0 < length plan.now.sequences.items → IsTrue begun ↔ (0 < length w))
         → RunsStand plan.now.machines.items plan.now.removers runs.old w → OthersStand plan.now others.old w
         → AreRecent plan.now.words ending.old.recent w → AreTransMet plan.now w value.now met.new.items) }
     ensures among { OnOk result ((place : ℕ) → Contains met.new.items place → IsTracePlace plan.now place) }
@@ -250,7 +251,8 @@ fn push_some(
         → OthersStand plan.now others.new (w ++ value.now ∷ [])) }
     ensures recent { OnOk result ((w : List Value) → AreRecent plan.now.words ending.old.recent w
         → AreRecent plan.now.words ending.new.recent (w ++ value.now ∷ [])) }
-    ensures met { OnOk result ((w : List Value) → IsTrue begun ↔ (0 < length w)
+    ensures met { OnOk result ((w : List Value)
+        → (0 < length plan.now.sequences.items → IsTrue begun ↔ (0 < length w))
         → RunsStand plan.now.machines.items plan.now.removers runs.old w → OthersStand plan.now others.old w
         → AreRecent plan.now.words ending.old.recent w → AreTransMet plan.now w value.now met.new.items) }
     ensures among { OnOk result ((place : ℕ) → Contains met.new.items place → IsTracePlace plan.now place) }

@@ -305,7 +305,7 @@ fn plan_with(
 
 impl PointPlan {
     /// What is prepared of a point. It takes memory linear in its bins, their intervals and their sequences, and beside
-    /// that the time to sort the intervals.
+    /// that the time to sort the intervals and the words.
     pub fn new(alloc: Global, item: &ItemInfo) -> Result<PointPlan, Memory>
         requires { IsPoint item.now }
         ensures { IfOk result (λ plan. IsPlanOf item.now plan) }

@@ -2,9 +2,9 @@
 ghost use Rattle.std.specs.Prelude.{◌≡◌, ◌∷◌, ◌++◌, ◌+ℤ◌, [], ℕ, ◌+◌, ◌≤◌, pos, List, length, slice_index, Some, IfSome, OnOk};
 ghost use Rattle.design_data.specs.Laws.{Value};
 ghost use Rattle.record_codec.specs.Samples.{Env};
-ghost use Rattle.point_sampler.specs.Plans.{IsPoint, IsPlanOf, IsLookupOf};
+ghost use Rattle.point_sampler.specs.Plans.{IsPoint, IsPlanOf, IsLookupOf, IsStill};
 ghost use Rattle.point_sampler.specs.Points.{IsSample, FitsPlan, Remembers, PointStands, RowStands, IsOutside};
-ghost use Rattle.point_sampler.specs.Met.{ValueTaken, IsStill};
+ghost use Rattle.point_sampler.specs.Met.{ValueTaken};
 
 use crate::counting::count_met;
 use crate::keys::key_of;
@@ -29,14 +29,13 @@ fn key_in(lookup: &Lookup, value: &Option<Int>) -> Option<u64>
 }
 
 /// Takes a point of bins of values alone over the next value of its trace, which has this key: its bins are counted as the
-/// index has them.
+/// index has them. It has nothing to remember.
 #[inline(always)]
 fn sample_key(
     plan: &PointPlan,
     lookup: &Lookup,
     key: u64,
     item: &ItemInfo,
-    state: &mut PointState,
     env: &[Option<Int>],
     value: &Option<Int>,
     counts: &mut [u64],
@@ -47,18 +46,13 @@ fn sample_key(
     requires still { IsStill plan.now }
     requires lookup { IsLookupOf item.now.bins lookup.now }
     requires key { value.now ≡ Some (lookup.now.least +ℤ pos key) }
-    requires fits { FitsPlan plan.now state.old }
     requires counts { item.now.first_bin + length item.now.bins ≤ length counts.old }
     requires none { row.old.items ≡ [] }
-    ensures fits { OnOk result (FitsPlan plan.now state.new) }
-    ensures remembers { OnOk result ((w : List Value) → Remembers plan.now state.old w
-        → Remembers plan.now state.new (w ++ value.now ∷ [])) }
-    ensures taken { OnOk result ((w : List Value) → Remembers plan.now state.old w
+    ensures taken { OnOk result ((w : List Value)
         → ValueTaken item.now env.now w value.now counts.old counts.new row.new.items) }
     ensures others { OnOk result ((number : ℕ) → IsOutside item.now number
         → slice_index counts.new number ≡ slice_index counts.old number) }
 {
-    state.begun = true;
     let hits = lookup.index.hits(key);
     count_met(plan.entries.as_slice(), item, env, hits, counts, row)?;
     Ok(())
@@ -128,7 +122,7 @@ fn sample_value(
     if is_still(plan) {
         if let Some(lookup) = &plan.lookup {
             if let Some(key) = key_in(lookup, value) {
-                sample_key(plan, lookup, key, item, state, env, value, counts, row)?;
+                sample_key(plan, lookup, key, item, env, value, counts, row)?;
                 return Ok(());
             }
         }

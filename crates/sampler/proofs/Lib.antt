@@ -8,3 +8,5 @@ mod Expressions
 pub mod Designs
 mod OneRecord
 pub mod Alone
+mod Flat
+mod Ready

@@ -8,3 +8,4 @@ pub mod Alike
 pub mod Starting
 pub mod Encoded
 pub mod Preparing
+pub mod Quick

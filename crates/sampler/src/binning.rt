@@ -7,6 +7,7 @@ ghost use Rattle.sampler.specs.Shares.{IsShareOf, AreTogether, IsPartTally};
 ghost use Rattle.sampler.specs.Plans.{IsDesignPlan, IsTallyOf};
 
 use crate::plan::{InstPlan, Plan};
+use crate::quick::QuickTable;
 use crate::sharing::share_of;
 use crate::starting::{inst_states, unknown_values};
 use crate::walking::walk;
@@ -32,11 +33,13 @@ fn count_share(
 {
     let mut kept = inst_states(alloc, instances, plans, share, counts)?;
     let mut values = unknown_values(alloc)?;
+    let table = QuickTable::of(alloc, rec, instances, plans, share, counts)?;
     walk(
         rec,
         instances,
         plans,
         share,
+        &table,
         values.as_mut_slice(),
         &mut kept,
         counts,

@@ -1,14 +1,16 @@
 //! The walk over a record's events.
-ghost use Rattle.std.specs.Prelude.{◌≡◌, ◌+◌, ◌-◌, ◌^◌, ◌<◌, ◌≤◌, ◌∷◌, [], ℕ, List, length, slice_get, OnOk};
+ghost use Rattle.std.specs.Prelude.{◌≡◌, ◌+◌, ◌-◌, ◌^◌, ◌<◌, ◌≤◌, ◌∷◌, [], ℕ, List, Option, true, false, length, slice_get, OnOk};
 ghost use Rattle.record_codec.specs.declared.record.Event.{Event as AnyEvent};
 ghost use Rattle.record_codec.specs.declared.record.Event.TheVariants.{Sample};
 ghost use Rattle.record_codec.specs.Samples.{args_of};
 ghost use Rattle.sampler.specs.Values.{places, Holds};
 ghost use Rattle.sampler.specs.Standing.{AreNumbered, ArePlans, AreChosen, InstAt, InstTaken};
+ghost use Rattle.sampler.specs.Quick.{AreQuickUpTo};
 ghost use Rattle.sampler.specs.Walking.{IsInstWork, IsWork, InstFits, AllInstFit, WalkAt, ShareCounted};
 
 use crate::instance::{InstState, sample_instance};
 use crate::plan::{InstPlan, ItemPlan};
+use crate::quick::{QuickTable, count_items};
 use crate::values::{clear_args, set_signal, write_args};
 use cov_base::{Int, Memory};
 use cov_tree::{List, Shared};
@@ -16,7 +18,7 @@ use design_data::{InstInfo, ItemInfo};
 use record_codec::{ArgRow, Event, InstRow, Record};
 
 /// The arguments of the instance at this index.
-fn arguments(instances: &[InstRow], index: usize) -> &[ArgRow]
+pub(crate) fn arguments(instances: &[InstRow], index: usize) -> &[ArgRow]
     ensures { result.now ≡ args_of (slice_get instances.now index) }
 {
     match instances.get(index) {
@@ -123,8 +125,9 @@ fn take_sample(
     Ok(())
 }
 
-/// Takes the instances over one event.
-fn take_event(
+/// Takes the instances over one event, whether they have quick items or not.
+#[inline(never)]
+fn take_any(
     rec: &Record,
     instances: &[InstInfo],
     plans: &[InstPlan],
@@ -163,25 +166,96 @@ fn take_event(
     }
 }
 
+/// Takes the instance at this index over its sample by its quick items, and says whether it has some.
+#[inline(always)]
+fn take_quick(
+    rec: &Record,
+    instances: &[InstInfo],
+    plans: &[InstPlan],
+    share: &[Shared<List<u32>>],
+    table: &QuickTable,
+    values: &[Option<Int>],
+    kept: &Vec<InstState>,
+    index: usize,
+    counts: &mut [u64],
+) -> bool
+    requires work { IsWork instances.now plans.now share.now (length counts.old) }
+    requires table { AreQuickUpTo (length instances.now) rec.now instances.now plans.now share.now table.now.exprs.items table.now.lists }
+    requires fits { AllInstFit instances.now plans.now share.now kept.now.items }
+    ensures at { result ≡ true → (start : List ℕ) (args : List (Option ℕ)) (before events : List AnyEvent) → length before < 2 ^ 32 - 1
+        → WalkAt rec.now instances.now plans.now share.now before (Sample index args ∷ events) values.now start kept.now.items counts.old
+        → WalkAt rec.now instances.now plans.now share.now (Sample index args ∷ before) events values.now start kept.now.items counts.new }
+    ensures same { result ≡ false → counts.new ≡ counts.old }
+{
+    let _ = rec;
+    let _ = plans;
+    let _ = share;
+    let _ = kept;
+    if index >= instances.len() {
+        return false;
+    }
+    let list = table.lists.list(index);
+    if list.is_empty() {
+        return false;
+    }
+    count_items(table.exprs.as_slice(), list, values, counts);
+    true
+}
+
+/// Takes the instances over one event.
+fn take_event(
+    rec: &Record,
+    instances: &[InstInfo],
+    plans: &[InstPlan],
+    share: &[Shared<List<u32>>],
+    table: &QuickTable,
+    values: &mut [Option<Int>],
+    kept: &mut Vec<InstState>,
+    event: &Event,
+    counts: &mut [u64],
+) -> Result<(), Memory>
+    requires places { length values.old ≡ places }
+    requires work { IsWork instances.now plans.now share.now (length counts.old) }
+    requires table { AreQuickUpTo (length instances.now) rec.now instances.now plans.now share.now table.now.exprs.items table.now.lists }
+    requires fits { AllInstFit instances.now plans.now share.now kept.old.items }
+    ensures fits { OnOk result (AllInstFit instances.now plans.now share.now kept.new.items) }
+    ensures at { OnOk result ((start : List ℕ) (before events : List AnyEvent) → length before < 2 ^ 32 - 1
+        → WalkAt rec.now instances.now plans.now share.now before (event.now ∷ events) values.old start kept.old.items counts.old
+        → WalkAt rec.now instances.now plans.now share.now (event.now ∷ before) events values.new start kept.new.items counts.new) }
+{
+    if let Event::Sample { instance, .. } = event {
+        let index = *instance as usize;
+        if take_quick(rec, instances, plans, share, table, values, kept, index, counts) {
+            return Ok(());
+        }
+    }
+    take_any(rec, instances, plans, share, values, kept, event, counts)?;
+    Ok(())
+}
+
 /// Takes the items of a share over a record's events, each event once.
 pub(crate) fn walk(
     rec: &Record,
     instances: &[InstInfo],
     plans: &[InstPlan],
     share: &[Shared<List<u32>>],
+    table: &QuickTable,
     values: &mut [Option<Int>],
     kept: &mut Vec<InstState>,
     counts: &mut [u64],
 ) -> Result<(), Memory>
     requires places { length values.old ≡ places }
     requires work { IsWork instances.now plans.now share.now (length counts.old) }
+    requires table { AreQuickUpTo (length instances.now) rec.now instances.now plans.now share.now table.now.exprs.items table.now.lists }
     requires fits { AllInstFit instances.now plans.now share.now kept.old.items }
     requires few { length rec.now.events < 2 ^ 32 - 1 }
     requires at { WalkAt rec.now instances.now plans.now share.now [] rec.now.events values.old counts.old kept.old.items counts.old }
     ensures { OnOk result (ShareCounted rec.now instances.now share.now counts.old counts.new) }
 {
     for event in rec.events.as_slice() {
-        take_event(rec, instances, plans, share, values, kept, event, counts)?;
+        take_event(
+            rec, instances, plans, share, table, values, kept, event, counts,
+        )?;
     }
     Ok(())
 }

@@ -5,7 +5,7 @@ use Rattle.point_sampler.proofs.machines.push_value.Goals as goal
 
 pub returns-clause-remembers : goal.returns-clause-remembers
 returns-clause-remembers c = λ w h. record {
-  begun = ((λ t. omega (arith, length-append w (c.args.value.now ∷ []))), (λ l. refl));
+  begun = λ some. ((λ t. omega (arith, length-append w (c.args.value.now ∷ []))), (λ l. refl));
   runs =
       let len : length c.push_some.new.runs ≡ c.args.state.now.runs.len = omega (arith, c.push_some.auto.runs, c.as_mut_slice.ensures.len, ap (λ (rs : List (List (ℕ × ℕ))). length rs) c.as_mut_slice.ensures.value, c.args.state.now.runs.ok.0) in
       subst (λ (rs : List (List (ℕ × ℕ))). RunsStand c.args.plan.now.machines.items c.args.plan.now.removers rs (w ++ c.args.value.now ∷ [])) (sym (with_items_is c.args.state.now.runs c.push_some.new.runs len))

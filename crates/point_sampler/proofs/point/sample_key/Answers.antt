@@ -1,10 +1,10 @@
-use Rattle.std.proofs.Common.{◌<◌, ◌∙◌, ap, sym, [], ◌++◌, ◌∷◌, length, refl, arith, inl, inr, length-append}
+use Rattle.std.proofs.Common.{◌<◌, ◌∙◌, ap, sym, [], length, refl, arith, inl, inr}
 use Rattle.std.proofs.lemmas.Option.{slice_get_within}
 use Rattle.design_data.specs.declared.infos.BinInfo.{BinInfo}
 use Rattle.design_data.specs.Laws.{Value}
 use Rattle.point_sampler.specs.Plans.{places_from, has_value}
 use Rattle.point_sampler.proofs.Meeting.{are_met, met_within, met_once}
-use Rattle.point_sampler.proofs.Still.{still_runs, still_others, still_recent, still_met, none_among, none_once}
+use Rattle.point_sampler.proofs.Still.{still_met, none_among, none_once}
 use Rattle.point_sampler.proofs.point.sample_key.Goals as goal
 
 pub count_met-requires-clause-within : goal.count_met-requires-clause-within
@@ -22,16 +22,8 @@ count_met-requires-clause-once c =
     ∙ sym (ap (λ (v : Value). places_from (λ (bin : BinInfo). has_value c.args.item.now.bins v bin.rule) 0 c.args.item.now.bins) c.requires.key))
     (none_once [] refl)
 
-pub returns-clause-remembers : goal.returns-clause-remembers
-returns-clause-remembers c = λ w h. record {
-  begun = ((λ t. omega (arith, length-append w (c.args.value.now ∷ []))), (λ l. refl));
-  runs = still_runs c.args.plan.now c.requires.still.0 c.requires.still.1 c.requires.still.2 c.args.state.now.runs.items (w ++ c.args.value.now ∷ []);
-  others = still_others c.args.plan.now c.requires.still.0 c.requires.still.1 c.requires.still.2 c.args.state.now.others (w ++ c.args.value.now ∷ []);
-  recent = still_recent c.args.plan.now c.requires.still.0 c.requires.still.1 c.requires.still.2 c.args.state.now.ending.recent (w ++ c.args.value.now ∷ []);
-}
-
 pub returns-clause-taken : goal.returns-clause-taken
-returns-clause-taken c = let found = c.requires.lookup in λ w h. record {
+returns-clause-taken c = let found = c.requires.lookup in λ w. record {
   met = c.hits-hits.result.now;
   are_met = are_met c.args.item.now c.args.plan.now c.requires.plan w c.args.value.now [] c.hits-hits.result.now
       (still_met c.args.plan.now c.requires.still.0 c.requires.still.1 c.requires.still.2 w c.args.value.now [] refl)
