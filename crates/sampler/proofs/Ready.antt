@@ -123,19 +123,19 @@ Quicks exprs items plans chosen list = (i k : ℕ) (item : ItemInfo) (p : ItemPl
 pub quicks_more : (old new : List Term) (items : List ItemInfo) (plans : List ItemPlan) (chosen : List ℕ) (list : List QuickItem) (one : QuickItem) (n t : ℕ) (item : ItemInfo) (p : ItemPlan) → AreKept old new → length list ≡ n → slice_get chosen n ≡ Some t → slice_get items t ≡ Some item → slice_get plans t ≡ Some p
     → IsQuickItem new item p one → Quicks old items plans chosen list → Quicks new items plans chosen (list ++ one ∷ [])
 quicks_more old new items plans chosen list one n t item p more len at_t at_item at_plan is h = λ i k item' p' quick c e f g. elim (cases_lt i n) [
-    | inl lower ↦
-        let before : i < length list = omega (arith, lower, len) in
-        quick_kept old new item' p' quick more (h i k item' p' quick c e f
-        (read_at list i quick before (sym (get_or_from_slice_get (list ++ one ∷ []) i quick quick g) ∙ get_or_append_left list (one ∷ []) quick i before)))
-    | inr past ↦
-        let within : i < length (list ++ one ∷ []) = slice_get_within (list ++ one ∷ []) i quick g in
-        let same : i ≡ n = omega (arith, past, within, len, length-append list (one ∷ [])) in
-        let is_one : quick ≡ one = sym (get_or_from_slice_get (list ++ one ∷ []) i quick quick g) ∙ (ap (λ (j : ℕ). get_or (list ++ one ∷ []) j quick) (same ∙ sym len) ∙ get_or-append_seam list one [] quick) in
-        let is_t : k ≡ t = sym (get_or_from_slice_get chosen i k t c) ∙ (ap (λ (j : ℕ). get_or chosen j t) same ∙ get_or_from_slice_get chosen n t t at_t) in
-        let is_item : item' ≡ item = sym (get_or_from_slice_get items k item' item e) ∙ (ap (λ (j : ℕ). get_or items j item) is_t ∙ get_or_from_slice_get items t item item at_item) in
-        let is_plan : p' ≡ p = sym (get_or_from_slice_get plans k p' p f) ∙ (ap (λ (j : ℕ). get_or plans j p) is_t ∙ get_or_from_slice_get plans t p p at_plan) in
-        subst (λ (x : ItemInfo). IsQuickItem new x p' quick) (sym is_item) (subst (λ (x : ItemPlan). IsQuickItem new item x quick) (sym is_plan) (subst (λ (x : QuickItem). IsQuickItem new item p x) (sym is_one) is))
-  ]
+  | inl lower ↦
+      let before : i < length list = omega (arith, lower, len) in
+      quick_kept old new item' p' quick more (h i k item' p' quick c e f
+      (read_at list i quick before (sym (get_or_from_slice_get (list ++ one ∷ []) i quick quick g) ∙ get_or_append_left list (one ∷ []) quick i before)))
+  | inr past ↦
+      let within : i < length (list ++ one ∷ []) = slice_get_within (list ++ one ∷ []) i quick g in
+      let same : i ≡ n = omega (arith, past, within, len, length-append list (one ∷ [])) in
+      let is_one : quick ≡ one = sym (get_or_from_slice_get (list ++ one ∷ []) i quick quick g) ∙ (ap (λ (j : ℕ). get_or (list ++ one ∷ []) j quick) (same ∙ sym len) ∙ get_or-append_seam list one [] quick) in
+      let is_t : k ≡ t = sym (get_or_from_slice_get chosen i k t c) ∙ (ap (λ (j : ℕ). get_or chosen j t) same ∙ get_or_from_slice_get chosen n t t at_t) in
+      let is_item : item' ≡ item = sym (get_or_from_slice_get items k item' item e) ∙ (ap (λ (j : ℕ). get_or items j item) is_t ∙ get_or_from_slice_get items t item item at_item) in
+      let is_plan : p' ≡ p = sym (get_or_from_slice_get plans k p' p f) ∙ (ap (λ (j : ℕ). get_or plans j p) is_t ∙ get_or_from_slice_get plans t p p at_plan) in
+      subst (λ (x : ItemInfo). IsQuickItem new x p' quick) (sym is_item) (subst (λ (x : ItemPlan). IsQuickItem new item x quick) (sym is_plan) (subst (λ (x : QuickItem). IsQuickItem new item p x) (sym is_one) is))
+]
 
 inst_kept : (r : Record) (j : ℕ) (old new : List Term) (items : List ItemInfo) (plans : List ItemPlan) (chosen : List ℕ) (list : List QuickItem) → AreKept old new → (list ≡ []) ⊎ IsQuickInst r j old items plans chosen list → (list ≡ []) ⊎ IsQuickInst r j new items plans chosen list
 inst_kept r j old new items plans chosen list h (inl none) = inl none

@@ -225,7 +225,9 @@ fn take_event(
 {
     if let Event::Sample { instance, .. } = event {
         let index = *instance as usize;
-        if take_quick(rec, instances, plans, share, table, values, kept, index, counts) {
+        if take_quick(
+            rec, instances, plans, share, table, values, kept, index, counts,
+        ) {
             return Ok(());
         }
     }

@@ -61,14 +61,14 @@ loop-quick-preserved c =
     record {
       same = omega arith;
       taken = λ items plans chosen states all m work are len sample stand.
-        quick_more exprs (length start) items plans chosen list work are i quick states all m start old new at len
-        (λ item expr state is_expr own first unguarded h.
+          quick_more exprs (length start) items plans chosen list work are i quick states all m start old new at len
+          (λ item expr state is_expr own first unguarded h.
           let same : e ≡ expr = c.index-exprs-quick.is ∙ get_or_from_slice_get exprs quick.expr expr e is_expr in
           let before : points_stand.PointStands item e got all m state old = subst (λ (x : Term). points_stand.PointStands item x got all m state old) (sym same) (subst (λ (q : PointPlan). points_stand.PointStands item expr q all m state old) (sym plan_is) h) in
           let after : points_stand.PointStands item e got all (m + 1) state new = c.count.ensures.stands item all m state (subst (λ (q : PointPlan). points.IsPlanOf item q) (sym plan_is) own) first unguarded (record { within = sample.within; few = omega (arith, sample.few); is = sample.is }) before in
           subst (λ (q : PointPlan). points_stand.PointStands item expr q all (m + 1) state new) plan_is (subst (λ (x : Term). points_stand.PointStands item x got all (m + 1) state new) same after))
-        (λ item own first. c.count.ensures.others item (subst (λ (q : PointPlan). points.IsPlanOf item q) (sym plan_is) own) first)
-        (c.loop-quick.invariant.taken items plans chosen states all m work are len sample stand);
+          (λ item own first. c.count.ensures.others item (subst (λ (q : PointPlan). points.IsPlanOf item q) (sym plan_is) own) first)
+          (c.loop-quick.invariant.taken items plans chosen states all m work are len sample stand);
     }
 
 pub returns : goal.returns

@@ -28,6 +28,6 @@ loop-i-preserved c =
     record {
       same = ap (λ (xs : List QuickItem). length xs) pushed ∙ (length-append list (one ∷ []) ∙ ap (λ (n : ℕ). n + 1) inv.same);
       quick = subst (λ (xs : List QuickItem). Quicks new items plans chosen xs) (sym pushed)
-        (quicks_more old new items plans chosen list one i t item p c.in_ok-quick.ensures.kept inv.same c.chosen_at-t.ensures.at at_item at_plan (subst (λ (made : Option QuickItem). IfSome made (IsQuickItem new item p)) c.in-Some.is c.in_ok-quick.ensures.quick) inv.quick);
+          (quicks_more old new items plans chosen list one i t item p c.in_ok-quick.ensures.kept inv.same c.chosen_at-t.ensures.at at_item at_plan (subst (λ (made : Option QuickItem). IfSome made (IsQuickItem new item p)) c.in-Some.is c.in_ok-quick.ensures.quick) inv.quick);
       kept = kept_then start old new inv.kept c.in_ok-quick.ensures.kept;
     }

@@ -80,10 +80,10 @@ loop-j-preserved c =
     subst (λ (lists : List (List QuickItem)). AreQuickUpTo (j + 1) r instances plans share new lists) (sym c.in_ok-push.ensures)
     (up_to_more j r instances plans share old new c.loop-j.lists list c.in_ok-list.ensures.kept
     (λ inst' p' own' e f g.
-      let is_inst : inst ≡ inst' = sym (get_or_from_slice_get instances j inst inst at_inst) ∙ get_or_from_slice_get instances j inst' inst e in
-      let is_plan : p ≡ p' = sym (get_or_from_slice_get plans j p p at_plan) ∙ get_or_from_slice_get plans j p' p f in
-      let is_own : own ≡ own' = sym (get_or_from_slice_get share j own own at_share) ∙ get_or_from_slice_get share j own' own g in
-      subst (λ (ks : List ℕ). (list ≡ []) ⊎ IsQuickInst r j new inst'.items p'.items ks list) is_own
-      (subst (λ (q : InstPlan). (list ≡ []) ⊎ IsQuickInst r j new inst'.items q.items own list) is_plan
-      (subst (λ (x : InstInfo). (list ≡ []) ⊎ IsQuickInst r j new x.items p.items own list) is_inst here)))
+    let is_inst : inst ≡ inst' = sym (get_or_from_slice_get instances j inst inst at_inst) ∙ get_or_from_slice_get instances j inst' inst e in
+    let is_plan : p ≡ p' = sym (get_or_from_slice_get plans j p p at_plan) ∙ get_or_from_slice_get plans j p' p f in
+    let is_own : own ≡ own' = sym (get_or_from_slice_get share j own own at_share) ∙ get_or_from_slice_get share j own' own g in
+    subst (λ (ks : List ℕ). (list ≡ []) ⊎ IsQuickInst r j new inst'.items p'.items ks list) is_own
+    (subst (λ (q : InstPlan). (list ≡ []) ⊎ IsQuickInst r j new inst'.items q.items own list) is_plan
+    (subst (λ (x : InstInfo). (list ≡ []) ⊎ IsQuickInst r j new x.items p.items own list) is_inst here)))
     c.loop-j.invariant)
