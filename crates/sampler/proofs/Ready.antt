@@ -1,11 +1,11 @@
 -- Instances that are counted by their quick items.
-use Rattle.std.proofs.Common.{◌≡◌, ◌⊎◌, ℕ, ◌+◌, ◌-◌, ◌^◌, ◌<◌, ◌≤◌, List, [], ◌∷◌, ◌++◌, length, get_or, set, Some, None, refl, ap, sym, subst, ◌∙◌, inl, inr, arith, length-append}
+use Rattle.std.proofs.Common.{◌≡◌, ◌⊎◌, ℕ, ◌+◌, ◌-◌, ◌^◌, ◌<◌, List, [], ◌∷◌, ◌++◌, length, get_or, set, Some, None, refl, ap, sym, subst, ◌∙◌, inl, inr, arith, length-append}
 use Rattle.std.specs.Prelude.{slice_get, slice_index_or}
 use Rattle.std.proofs.lemmas.Bool.{cases_lt}
 use Rattle.std.proofs.Math.Seq.{get_or-append_seam}
 use Rattle.std.proofs.lemmas.List.{set-get_or, get_or_append_left}
-use Rattle.std.proofs.lemmas.Option.{slice_get_within, get_or_from_slice_get, slice_get-get_or}
-use Rattle.const_eval.specs.Terms.{Term, typ_of}
+use Rattle.std.proofs.lemmas.Option.{slice_get_within, get_or_from_slice_get}
+use Rattle.const_eval.specs.Terms.{Term}
 use Rattle.design_data.specs.declared.infos.ItemInfo.{ItemInfo}
 use Rattle.design_data.specs.declared.infos.ItemShape.{ItemShape}
 use Rattle.design_data.specs.declared.infos.ItemShape.TheVariants.{Point}
@@ -25,9 +25,9 @@ use Rattle.sampler.specs.declared.instance.ItemState.{ItemState}
 use Rattle.sampler.specs.declared.instance.ItemState.TheVariants as kept
 use Rattle.sampler.specs.declared.instance.InstState.{InstState}
 use Rattle.sampler.specs.declared.lists.QuickItem.{QuickItem}
-use Rattle.sampler.specs.Standing.{IsSample, IsPlanOf, PointStands, Stands, AllStand, SomeTaken, AllTaken, KeepsOthers, InstAt, InstTaken}
+use Rattle.sampler.specs.Standing.{IsSample, IsPlanOf, PointStands, Stands, AllStand, SomeTaken, AllTaken, KeepsOthers, InstAt}
 use Rattle.sampler.specs.Walking.{IsInstWork, IsWork, AllInstFit, WalkAt}
-use Rattle.sampler.specs.Quick.{IsQuickItem, AreQuick, IsQuickInst, AreQuickUpTo, IsReady, AreReady, AreKept}
+use Rattle.sampler.specs.Quick.{IsQuickItem, AreQuick, IsQuickInst, AreQuickUpTo, AreReady, AreKept}
 use Rattle.sampler.proofs.Items.{read_at, some_more}
 use Rattle.sampler.proofs.Walks.{walk_sample, at_sample, holds_bare, writes_none}
 

@@ -1,5 +1,5 @@
 -- The shape of a record: its tables beside those of the design.
-use Rattle.std.specs.Prelude.{◌≡◌, ◌≢◌, ◌⊎◌, ℕ, ◌+◌, List, length, take, slice_get, Result, Ok, Err, if◌then◌else◌}
+use Rattle.std.specs.Prelude.{◌≡◌, ◌≢◌, ◌⊎◌, ℕ, ◌+◌, List, length, take, slice_get, Result, Ok, Err}
 use Rattle.record_codec.specs.declared.record.Record.{Record}
 use Rattle.design_data.specs.declared.design.Design.{Design}
 use Rattle.cov_counting.specs.Tables.{signals_of, instances_of}

@@ -1,4 +1,4 @@
-use Rattle.std.proofs.Common.{◌≡◌, ◌+◌, ◌<◌, ◌≤◌, ◌∙◌, ℕ, List, length, get_or, Some, refl, ap, sym, subst, arith}
+use Rattle.std.proofs.Common.{◌≡◌, ◌+◌, ◌<◌, ◌≤◌, ◌∙◌, ℕ, length, Some, sym, subst, arith}
 use Rattle.std.specs.Prelude.{slice_get}
 use Rattle.std.proofs.lemmas.Option.{slice_get_within, get_or_from_slice_get}
 use Rattle.const_eval.specs.Terms.{Term, typ_of}
@@ -6,8 +6,6 @@ use Rattle.point_sampler.specs.declared.plan.PointPlan.{PointPlan}
 use Rattle.point_sampler.specs.Plans as points
 use Rattle.point_sampler.specs.Points as points_stand
 use Rattle.point_sampler.specs.Quick.{IsQuick, HasRoom}
-use Rattle.sampler.specs.declared.lists.QuickItem.{QuickItem}
-use Rattle.sampler.specs.Quick.{IsReady}
 use Rattle.sampler.proofs.Items.{read_at, some_last}
 use Rattle.sampler.proofs.Ready.{quick_more}
 use Rattle.sampler.proofs.quick.count_items.Goals as goal

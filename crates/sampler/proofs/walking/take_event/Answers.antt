@@ -1,6 +1,5 @@
 use Rattle.std.proofs.Common.{◌≡◌, ◌∷◌, ◌∙◌, ℕ, List, sym, subst}
 use Rattle.record_codec.specs.declared.record.Event.{Event}
-use Rattle.record_codec.specs.declared.record.Event.TheVariants.{Sample}
 use Rattle.sampler.specs.Walking.{WalkAt}
 use Rattle.sampler.proofs.walking.take_event.Goals.{in-Sample+else-take_quick, in_default}
 use Rattle.sampler.proofs.walking.take_event.Goals as goal
