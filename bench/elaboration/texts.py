@@ -62,6 +62,26 @@ def small_box(k):
     return "(" + "=>".join(span(3) for place in range(10)) + "),"
 
 
+def cube(k):
+    """A sequence of three ranges."""
+    return "(" + "=>".join(span(36) for place in range(3)) + "),"
+
+
+def varied_cube(k):
+    """The same behind an item of two lengths."""
+    return "(1[*1:2]=>" + "=>".join(span(32) for place in range(3)) + "),"
+
+
+def odd_box(k):
+    """A sequence of nine small ranges, and a number that few others have."""
+    return "(" + "=>".join(span(3) for place in range(9)) + f"=>{draw.randrange(200)}),"
+
+
+def waits(k):
+    """A sequence of a few numbers that are waited for, and a repetition."""
+    return f"({span(4)}[->1:{draw.randrange(1, 4)}]=>{span(6)}[*1:3]),"
+
+
 texts = {
     # values
     "one_set": group("bit [63:0] v;", point("bins b = {[0:$]};")),
@@ -97,6 +117,10 @@ texts = {
     "boxes": group("bit [7:0] v;", point("bins b[] = " + many(box, LONGEST - 200) + "(0=>0);")),
     "varied_lengths": group("bit [7:0] v;", point("bins b[] = " + many(varied, LONGEST - 200) + "(0=>0);")),
     "small_boxes": group("bit [1:0] v;", point("bins b[] = " + many(small_box, LONGEST - 200) + "(3);")),
+    "cubes": group("bit [7:0] v;", point("bins b[] = " + many(cube, LONGEST - 200) + "(0);")),
+    "varied_cubes": group("bit [7:0] v;", point("bins b[] = " + many(varied_cube, LONGEST - 200) + "(0=>0);")),
+    "odd_boxes": group("bit [7:0] v;", point("bins b[] = " + many(odd_box, LONGEST - 200) + "(3);")),
+    "waits": group("bit [7:0] v;", point("bins b[] = " + many(waits, LONGEST - 200) + "(0);")),
     "single_steps": group("bit [7:0] v;", point("bins b[] = (" + "1=>" * 118 + "[0:255]=>[0:255]);")),
     "two_lengths": group("bit [15:0] v;", point("bins b[] = (" + "5[*1:2]=>" * 59 + "[0:1000]=>6);")),
     # items of one list between items of several: the lists behind are not to be gone through for each of them
