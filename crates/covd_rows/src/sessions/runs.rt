@@ -1,7 +1,9 @@
 //! The rows of sessions over streams.
 use crate::sessions::Table;
 use crate::sessions::replies::{show_ended, show_last, show_replies};
-use crate::sessions::words::{copy_of, number_of, numbers_of, piece_of, say, show_number, split, take};
+use crate::sessions::words::{
+    copy_of, number_of, numbers_of, piece_of, say, show_number, split, take,
+};
 use cov_base::{MemLink, OpenGate, SureLink, SureShelf};
 use cov_session::{Alone, session};
 use covd_core::{Status, compile, run};
