@@ -1,5 +1,5 @@
 //! The files that commands run over.
-use crate::hex::bytes_of;
+use crate::digits::bytes_of;
 use cov_base::{Memory, Shelf};
 use cov_net::FileShelf;
 use covd_core::LONGEST_DUMP;

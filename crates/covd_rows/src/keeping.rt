@@ -1,6 +1,6 @@
 //! Commands whose text is the record from then on.
+use crate::digits::{show_bytes, show_digest};
 use crate::files::{Files, all_files};
-use crate::hex::{show_bytes, show_digest};
 use crate::{out_of_memory, show_status, words_of};
 use cov_base::{MemLink, Memory, SureShelf};
 use covd_core::{Status, run};

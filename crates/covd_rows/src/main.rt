@@ -13,18 +13,18 @@
 //! the replies of sessions written from the form and not by the program.
 #![tactic(auto)]
 
+mod digits;
 mod failing;
 mod files;
-mod hex;
 mod keeping;
 mod sessions;
 
 use cov_base::{Memory, Pair, SureShelf, SureSource};
 use cov_net::{FileShelf, StdSink, StdSource};
 use covd_core::{Status, run};
+use digits::bytes_of;
 use failing::failing;
 use files::{Files, all_files, blanks, changed, file, take_files, text_of};
-use hex::bytes_of;
 use keeping::{keep_bytes, keep_digest};
 use sessions::{Table, session};
 use std::alloc::Global;

@@ -2,7 +2,6 @@
 //! written is missing: the rows then aren't as `stdout` has them.
 ghost use Rattle.std.specs.Prelude.{◌<◌};
 
-use crate::hex;
 use std::alloc::Global;
 use std::io::Print;
 use std::mem;
@@ -47,7 +46,7 @@ pub(crate) fn numbers_of(alloc: Global, list: &str) -> Vec<u64> {
 
 /// The bytes that a word spells in hexadecimal.
 pub(crate) fn bytes_of(alloc: Global, digits: &str) -> Vec<u8> {
-    hex::bytes_of(alloc, digits).unwrap_or(Vec::new(alloc))
+    hex::decode(alloc, digits).unwrap_or(Vec::new(alloc))
 }
 
 /// The same bytes.
