@@ -11,5 +11,6 @@ mod refusals;
 
 pub use compiled::Compiled;
 pub use compiling::compile;
+pub use cov_design::elaborate;
 pub use fault::CompileFault;
 pub use refusals::{Refusal, refusal_of};

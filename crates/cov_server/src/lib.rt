@@ -8,6 +8,8 @@ mod serving;
 mod shared;
 mod turns;
 
+pub use cov_session::{Alone, Ended, session};
 pub use port::SharedPort;
 pub use serving::{serve_connection, serve_rounds};
 pub use shared::Shared;
+pub use store_core::Core;

@@ -7,12 +7,11 @@ ghost use Rattle.cov_workers.specs.Seated.{IsHere};
 
 use cov_base::{Memory, OpenGate};
 use cov_net::TcpDoor;
-use cov_server::{Shared, serve_rounds};
+use cov_server::{Core, Shared, serve_rounds};
 use std::alloc::Global;
 use std::net::TcpListener;
 use std::sync::Wait;
 use std::thread::{Threads, for_each_mut};
-use store_core::Core;
 use turn_lock::Seat;
 
 /// Serves the listener's connections with the seat that lies here, and gives the seat up.

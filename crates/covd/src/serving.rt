@@ -1,19 +1,17 @@
 //! The command `serve`.
 ghost use Rattle.std.specs.Prelude.{◌≡◌, ◌≤◌, length, map, string_bytes, IfOk};
 ghost use Rattle.turn_lock.specs.Seats.{free, left};
-ghost use Rattle.merge_store.specs.Sound.{IsSound};
-ghost use Rattle.merge_store.specs.Stores.{opening_of};
-ghost use Rattle.cov_server.specs.Shares.{HasSeat};
+ghost use Rattle.cov_workers.specs.Sound.{IsSound};
+ghost use Rattle.cov_workers.specs.Stores.{opening_of};
+ghost use Rattle.cov_workers.specs.Shares.{HasSeat};
 ghost use Rattle.covd_core.specs.Starts.{IsServable};
 ghost use Rattle.covd.specs.Serving.{is_serve, built};
 
 use crate::hints::{print_address_hint, print_hint};
 use cov_base::Pair;
 use cov_net::{FileShelf, StdSink, StdSource};
-use cov_server::Shared;
-use cov_workers::{open, serve_store};
+use cov_workers::{Shared, Store, open, serve_store};
 use covd_core::{Compiled, ServeWords, Status, serve_start, serve_words};
-use merge_store::Store;
 use std::alloc::Global;
 use std::io;
 use std::net::{Net, TcpListener, TcpStream};

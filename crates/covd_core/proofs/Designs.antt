@@ -3,7 +3,7 @@ use Rattle.std.proofs.Common.{◌≡◌}
 use mathlib.Core.HLevel.{is_prop→PathP}
 use Rattle.design_data.specs.declared.design.Design.{Design}
 use Rattle.design_data.specs.Limits.{IsDesign, IsDesign-prop}
-use Rattle.cov_design.specs.Elaboration.{parts_of}
+use Rattle.cov_compile.specs.Elaboration.{parts_of}
 
 pub design_is : (d e : Design) → parts_of d ≡ parts_of e → d ≡ e
 design_is d e same = λ i. record {

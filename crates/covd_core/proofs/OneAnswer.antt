@@ -9,7 +9,7 @@ use Rattle.record_codec.specs.declared.record.Fields.{Fields}
 use Rattle.record_codec.specs.Bytes.{bytes_of}
 use Rattle.record_codec.specs.Spelling.{Encodes, fields_of}
 use Rattle.design_data.specs.declared.design.Design.{Design}
-use Rattle.cov_design.specs.Elaboration.{parts_of}
+use Rattle.cov_compile.specs.Elaboration.{parts_of}
 use Rattle.covd_core.specs.declared.status.Status.{Status}
 use Rattle.covd_core.specs.declared.status.Status.TheVariants as status
 use Rattle.cov_compile.specs.declared.fault.CompileFault.{CompileFault}

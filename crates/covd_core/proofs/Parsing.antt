@@ -13,7 +13,7 @@ use Rattle.cov_parser.specs.declared.fault.ParseFault.TheVariants as parsing
 use Rattle.cov_parser.specs.Parse.{IsParseFault}
 use Rattle.elab_base.specs.declared.fault.ElabFault.{ElabFault}
 use Rattle.elab_base.specs.declared.fault.ElabFault.TheVariants as elaborating
-use Rattle.cov_design.specs.Elaboration.{Elaborates, GivesDesign}
+use Rattle.cov_compile.specs.Elaboration.{Elaborates, GivesDesign}
 use Rattle.cov_compile.specs.declared.fault.CompileFault.TheVariants.{Lex, Parse, Elab}
 use Rattle.cov_compile.specs.Compiling.{Compiles}
 

@@ -13,7 +13,7 @@ use Rattle.record_codec.specs.Reading.{HasFault}
 use Rattle.cov_compile.specs.declared.fault.CompileFault.{CompileFault}
 use Rattle.cov_compile.specs.Compiling.{IsDesign, IsDesignFault}
 use Rattle.cov_counting.specs.Tallies.{IsTally}
-use Rattle.cov_design.specs.Elaboration.{Parts, parts_of}
+use Rattle.cov_compile.specs.Elaboration.{Parts, parts_of}
 use Rattle.cov_ground.specs.Limits.{longest_design, longest_record, most_events}
 use Rattle.cov_tree.specs.declared.declarations.DesignText.{DesignText}
 use Rattle.design_data.specs.declared.design.Design.{Design}

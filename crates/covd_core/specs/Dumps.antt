@@ -6,7 +6,7 @@ use Rattle.cov_tree.specs.declared.declarations.DesignText.{DesignText}
 use Rattle.cov_base.specs.Loads.{HasFile}
 use Rattle.cov_ground.specs.Limits.{longest_design}
 use Rattle.cov_compile.specs.Compiling.{Declares}
-use Rattle.cov_design.specs.Elaboration.{Elaborates, parts_of}
+use Rattle.cov_compile.specs.Elaboration.{Elaborates, parts_of}
 use Rattle.design_data.specs.declared.design.Design.{Design}
 use Rattle.record_codec.specs.Limits.{longest_id}
 use Rattle.record_codec.specs.declared.record.Fields.{Fields}

@@ -17,7 +17,7 @@ pub use Rattle.cov_base.specs.Loads
 pub use Rattle.cov_compile.specs.Compiling
 pub use Rattle.cov_counting.specs.Tables
 pub use Rattle.cov_counting.specs.Tallies
-pub use Rattle.cov_design.specs.Elaboration
+pub use Rattle.cov_compile.specs.Elaboration
 pub use Rattle.cov_spec.specs.Causes
 pub use Rattle.cov_spec.specs.Files
 pub use Rattle.cov_spec.specs.Number

@@ -2,7 +2,7 @@
 ghost use Rattle.std.specs.Prelude.{◌≡◌, ◌≤◌, map, length, string_bytes, IsNone, IfOk, IfErr, IfSome, MatchOption, Ok};
 ghost use Rattle.std.specs.List.{list_all};
 ghost use Rattle.cov_compile.specs.Compiling.{Declares, Compiles};
-ghost use Rattle.cov_design.specs.Elaboration.{Elaborates, parts_of};
+ghost use Rattle.cov_compile.specs.Elaboration.{Elaborates, parts_of};
 ghost use Rattle.cov_ground.specs.Limits.{longest_design};
 ghost use Rattle.record_codec.specs.Spelling.{fields_of, spelling};
 ghost use Rattle.vcd_reader.specs.declared.fault.DumpFault.TheVariants as dumping;
@@ -19,8 +19,7 @@ use crate::answer::Answer;
 use crate::loading::{Loaded, load, uncompiled};
 use crate::texts::dump_refused;
 use cov_base::{Memory, Shelf};
-use cov_compile::CompileFault;
-use cov_design::elaborate;
+use cov_compile::{CompileFault, elaborate};
 use cov_ground::limits::LONGEST_DESIGN;
 use cov_lexer::lex;
 use cov_parser::parse;

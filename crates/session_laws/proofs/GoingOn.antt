@@ -28,9 +28,9 @@ use Rattle.cov_proto.specs.declared.requests.Request.TheVariants as request
 use Rattle.cov_proto.specs.declared.replies.Body.{Body}
 use Rattle.cov_proto.specs.declared.replies.Reply.{Reply}
 use Rattle.cov_proto.specs.Requests.{request_read}
-use Rattle.session_table.specs.Contents.{Content, NoRecord, OtherShape, Fitting, Text, LongText, NoDesign, OtherTables, Revising}
-use Rattle.session_table.specs.Table.{Row, IsRow, IsCommitRow, IsReviseRow, lost, stage_refusal, record_refusal, said_to, said_to_text, begin_row, piece_row}
-use Rattle.session_table.specs.Serves.{Place, Lacks, BySaid, Replied, Step, Serves}
+use Rattle.cov_session.specs.Contents.{Content, NoRecord, OtherShape, Fitting, Text, LongText, NoDesign, OtherTables, Revising}
+use Rattle.cov_session.specs.Table.{Row, IsRow, IsCommitRow, IsReviseRow, lost, stage_refusal, record_refusal, said_to, said_to_text, begin_row, piece_row}
+use Rattle.cov_session.specs.Serves.{Place, Lacks, BySaid, Replied, Step, Serves}
 use Rattle.session_laws.specs.Laws.{is_body_of, is_reply_of, NoneIs, is_late}
 use Rattle.session_laws.proofs.OneServing.{tight, stop_taken, step_grows, serves_grows}
 

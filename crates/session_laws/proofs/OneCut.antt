@@ -5,7 +5,7 @@ use Rattle.std.specs.Int.{w32, to_be_bytes, from_be_bytes}
 use Rattle.std.proofs.lemmas.List.{take_at, drop_at, take-append-le, take-append-drop}
 use Rattle.std.proofs.lemmas.Nat.{from_be_bytes-to_be_bytes_4}
 use Rattle.cov_proto.specs.Frames.{IsBody, IsTorn, HasBadLength, frame, frames, longest_body}
-use Rattle.session_table.specs.Table.{is_bye}
+use Rattle.cov_session.specs.Table.{is_bye}
 use Rattle.cov_session.specs.declared.ended.Ended.{Ended}
 use Rattle.cov_session.specs.declared.ended.Ended.TheVariants as ended
 use Rattle.cov_session.specs.Streams.{NoBye, LastBye, Rest}

@@ -9,7 +9,7 @@ use Rattle.design_data.specs.declared.design.Design.{Design}
 use Rattle.cov_history.specs.declared.entry.Entry.{Entry}
 use Rattle.cov_proto.specs.declared.replies.Reply.{Reply}
 use Rattle.cov_proto.specs.Frames.{frames}
-use Rattle.session_table.specs.Serves.{Serves}
+use Rattle.cov_session.specs.Serves.{Serves}
 use Rattle.cov_session.specs.declared.ended.Ended.{Ended}
 use Rattle.cov_session.specs.declared.ended.Ended.TheVariants as ended
 use Rattle.cov_session.specs.Streams.{Out, Took, begins_at, reply_frame}

@@ -10,15 +10,15 @@ use Rattle.record_codec.specs.Reading.{reading}
 use Rattle.record_codec.proofs.RecordLaws.{same_record}
 use Rattle.sampler.specs.Shape.{Fits, IsWrongAt}
 use Rattle.sampler.proofs.Tables.{place_one, does_not_fit}
-use Rattle.cov_design.specs.Elaboration.{parts_of}
+use Rattle.cov_compile.specs.Elaboration.{parts_of}
 use Rattle.cov_compile.proofs.Texts.{design_one, design_or_fault, fault_one}
 use Rattle.cov_history.specs.declared.entry.Revision.{Revision}
 use Rattle.upload_stage.specs.declared.fault.StageFault.{StageFault}
 use Rattle.upload_stage.specs.Uploads.{Upload, finish_fault, finished, bytes_of}
 use Rattle.cov_proto.specs.declared.requests.Request.{Request}
 use Rattle.cov_proto.specs.declared.requests.Request.TheVariants as request
-use Rattle.session_table.specs.Contents.{Content, NoRecord, OtherShape, Fitting, Holds, IsContent, Text, LongText, NoDesign, OtherTables, Revising, Declaring, IsTextContent, tables_apart}
-use Rattle.session_table.specs.Table.{Row, said_to, said_to_text, IsCommitRow, IsReviseRow, IsRow}
+use Rattle.cov_session.specs.Contents.{Content, NoRecord, OtherShape, Fitting, Holds, IsContent, Text, LongText, NoDesign, OtherTables, Revising, Declaring, IsTextContent, tables_apart}
+use Rattle.cov_session.specs.Table.{Row, said_to, said_to_text, IsCommitRow, IsReviseRow, IsRow}
 
 -- ---- records
 

@@ -15,8 +15,8 @@ use Rattle.cov_proto.specs.declared.replies.Body.{Body}
 use Rattle.cov_proto.specs.declared.replies.Body.TheVariants as body
 use Rattle.cov_proto.specs.declared.replies.Reply.{Reply}
 use Rattle.cov_proto.specs.Requests.{request_read}
-use Rattle.session_table.specs.Table.{Row, lost}
-use Rattle.session_table.specs.Serves.{Place, Lacks, BySaid, Replied, Step, Serves}
+use Rattle.cov_session.specs.Table.{Row, lost}
+use Rattle.cov_session.specs.Serves.{Place, Lacks, BySaid, Replied, Step, Serves}
 use Rattle.session_laws.specs.Laws.{is_memory, is_body_of, is_reply_of, NoneIs, AreOne}
 use Rattle.session_laws.proofs.OneRow.{row_one}
 

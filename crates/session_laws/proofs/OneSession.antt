@@ -4,8 +4,8 @@ use Rattle.std.proofs.Math.Seq.{take-append_seam}
 use Rattle.design_data.specs.declared.design.Design.{Design}
 use Rattle.cov_history.specs.declared.entry.Entry.{Entry}
 use Rattle.cov_proto.specs.declared.replies.Reply.{Reply}
-use Rattle.session_table.specs.Alone.{own_from, others}
-use Rattle.session_table.specs.Serves.{Place}
+use Rattle.cov_session.specs.Alone.{own_from, others}
+use Rattle.cov_session.specs.Serves.{Place}
 use Rattle.session_laws.specs.Laws.{IsAlone, AloneIsOne, AloneIsNeverLate}
 use Rattle.session_laws.proofs.OneServing.{serves_one, serves_within}
 use Rattle.session_laws.proofs.GoingOn.{serves_on}

@@ -9,8 +9,8 @@ use Rattle.cov_history.specs.History.{has_stop}
 use Rattle.cov_proto.specs.declared.replies.Body.{Body}
 use Rattle.cov_proto.specs.declared.replies.Body.TheVariants as body
 use Rattle.cov_proto.specs.declared.replies.Reply.{Reply}
-use Rattle.session_table.specs.Alone.{own_from, others}
-use Rattle.session_table.specs.Serves.{Place, Serves}
+use Rattle.cov_session.specs.Alone.{own_from, others}
+use Rattle.cov_session.specs.Serves.{Place, Serves}
 
 -- ---- what replies say
 

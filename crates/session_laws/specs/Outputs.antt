@@ -3,7 +3,7 @@ use Rattle.std.specs.Prelude.{◌≡◌, ℕ, ◌<◌, ◌^◌, List, ◌++◌, 
 use Rattle.design_data.specs.declared.design.Design.{Design}
 use Rattle.cov_history.specs.declared.entry.Entry.{Entry}
 use Rattle.cov_history.specs.History.{has_stop}
-use Rattle.session_table.specs.Alone.{own_from, others}
+use Rattle.cov_session.specs.Alone.{own_from, others}
 use Rattle.cov_session.specs.declared.ended.Ended.{Ended}
 use Rattle.cov_session.specs.declared.ended.Ended.TheVariants as ended
 use Rattle.cov_session.specs.Streams.{Outside, Session}

@@ -1,23 +1,22 @@
 //! The rows of two callers at once, of whom the first is held at a place.
 ghost use Rattle.std.specs.Prelude.{◌≡◌, Some};
 ghost use Rattle.std.specs.Thread.{IsSync};
-ghost use Rattle.merge_store.specs.Sound.{IsSound};
-ghost use Rattle.merge_store.specs.Stores.{opening_of};
-ghost use Rattle.cov_server.specs.Shares.{HasSeat};
+ghost use Rattle.cov_workers.specs.Sound.{IsSound};
+ghost use Rattle.cov_workers.specs.Stores.{opening_of};
+ghost use Rattle.cov_workers.specs.Shares.{HasSeat};
 ghost use Rattle.cov_workers.specs.Seated.{IsHere};
 
 use crate::sessions::Table;
 use crate::sessions::seats::{PIECE, Seated, Served, seats_of, show_served};
 use crate::sessions::words::{count_of, say, show, take};
 use cov_base::{Gate, OpenGate, SureLink};
-use cov_server::{Shared, serve_connection};
+use cov_workers::{Core, Shared, serve_connection};
 use std::alloc::Global;
 use std::hint::spin_loop;
 use std::io::Print;
 use std::sync::Wait;
 use std::sync::atomic::{AtomicBool, Ordering};
 use std::thread::{Threads, for_each_mut};
-use store_core::Core;
 use turn_lock::Seat;
 
 /// How often a caller looks for a sign before it goes on without it.

@@ -1,7 +1,7 @@
 //! The replies of a session.
 use crate::sessions::words::{say, show, show_number};
 use cov_proto::{FrameStep, next_frame};
-use cov_session::Ended;
+use cov_workers::Ended;
 use std::alloc::Global;
 use std::io::Print;
 

@@ -5,10 +5,9 @@ use crate::sessions::words::{
     copy_of, number_of, numbers_of, piece_of, say, show_number, split, take,
 };
 use cov_base::{MemLink, OpenGate, SureLink, SureShelf};
-use cov_session::{Alone, session};
+use cov_workers::{Alone, Store, session};
 use covd_core::{Status, compile, run};
 use design_data::Design;
-use merge_store::Store;
 use std::alloc::Global;
 use std::io::Print;
 use std::sync::Arc;

@@ -1,19 +1,16 @@
 //! The rows of callers of one store behind its lock.
 ghost use Rattle.std.specs.Prelude.{IfSome};
-ghost use Rattle.merge_store.specs.Sound.{IsSound};
-ghost use Rattle.merge_store.specs.Stores.{opening_of};
-ghost use Rattle.cov_server.specs.Shares.{HasSeat};
+ghost use Rattle.cov_workers.specs.Sound.{IsSound};
+ghost use Rattle.cov_workers.specs.Stores.{opening_of};
+ghost use Rattle.cov_workers.specs.Shares.{HasSeat};
 
 use crate::sessions::Table;
 use crate::sessions::replies::show_caller;
 use crate::sessions::runs::design_of;
 use crate::sessions::words::{number_of, say, take};
 use cov_base::{MemDoor, MemLink, OpenGate, SureLink};
-use cov_server::{Shared, serve_connection, serve_rounds};
-use cov_session::Ended;
-use cov_workers::open;
+use cov_workers::{Ended, Shared, Store, open, serve_connection, serve_rounds};
 use design_data::Design;
-use merge_store::Store;
 use std::alloc::Global;
 use std::io::Print;
 use std::sync::{Arc, Wait};
