@@ -1,5 +1,5 @@
 -- Lists with one number of each of several sets, and those that are found already.
-use Rattle.std.proofs.Common.{◌≡◌, ◌≤◌, List, [], ◌∷◌, ◌++◌, length, map, filter, refl, ap, sym, ◌∙◌, subst, inl, inr, arith, append_assoc, append-nil, length-append, Result, Ok, Err, OnOk, Bool, true, false, cond}
+use Rattle.std.proofs.Common.{◌≡◌, ◌≤◌, ◌≤ℤ◌, int_le, List, [], ◌∷◌, ◌++◌, length, map, filter, refl, ap, sym, ◌∙◌, subst, inl, inr, arith, append_assoc, append-nil, length-append, Result, Ok, Err, OnOk, Bool, true, false, cond}
 use Rattle.std.specs.Prelude.{ℤ, ◌==◌, not, ◌&&◌, ◌||◌, Some, Option}
 use Rattle.std.specs.Cmp.Lexicographic.{pointwise}
 use Rattle.std.proofs.lemmas.List.Concat.{flat_map-append}
@@ -7,6 +7,9 @@ use Rattle.std.specs.Ordering.{int_eq}
 use Rattle.std.specs.List.{flat_map, list_any}
 use Rattle.std.proofs.lemmas.Bool.{false≢true, true≢false, or_cases, or_left, or_right}
 use Rattle.std.proofs.lemmas.Bool.Decides.{Decides-int_eq}
+use Rattle.std.proofs.lemmas.Grind.{common_steps}
+use Rattle.std.proofs.lemmas.Int.{ints}
+use Rattle.cov_base.proofs.Members.{is_in-written}
 use Rattle.cov_base.specs.Sets.{written, is_in, without}
 use Rattle.trans_seq.specs.declared.seq.Item.{Item}
 use Rattle.trans_seq.specs.declared.found.Found.{Found}
@@ -74,11 +77,11 @@ by-from first (x ∷ vs) items v w h k = elim (or_cases (int_eq v x) (is_in vs v
 pub has-none : (lists : List Word) (first : Word) (set : List (ℤ × ℤ)) (items : List Item) → set ≡ [] → HasAll lists (begun_by first (written set) items)
 has-none lists first set items none w h = absurd (false≢true (subst (λ vs. is_among (begun_by first vs items) w ≡ true) (ap written none ∙ none_written) h))
 
-pub has-both : (lists : List Word) (first : Word) (a b both : List (ℤ × ℤ)) (items : List Item) → ((v : ℤ) → is_in (written both) v ≡ (is_in (written a) v || is_in (written b) v))
+pub has-both : (lists : List Word) (first : Word) (a b both : List (ℤ × ℤ)) (items : List Item) → ((v : ℤ) → is_in (written both) v ≡ true → (is_in (written a) v || is_in (written b) v) ≡ true)
     → HasAll lists (begun_by first (written a) items) → HasAll lists (begun_by first (written b) items) → HasAll lists (begun_by first (written both) items)
 has-both lists first a b both items each has_a has_b w h =
     let r = by-of first (written both) items w h in
-    elim (or_cases (is_in (written a) r.0) (is_in (written b) r.0) (sym (each r.0) ∙ r.1)) [
+    elim (or_cases (is_in (written a) r.0) (is_in (written b) r.0) (each r.0 r.1)) [
       | inl in_a ↦ has_a w (by-from first (written a) items r.0 w in_a r.2)
       | inr in_b ↦ has_b w (by-from first (written b) items r.0 w in_b r.2)
     ]
@@ -175,6 +178,13 @@ begun-parts first vs us items others part parts w h =
 
 pub words-parts : (item other : Item) (items others : List Item) → IsPart (written item.set) (written other.set) → HasAll (words others) (words items) → HasAll (words (other ∷ others)) (words (item ∷ items))
 words-parts item other items others part parts = begun-parts [] (written item.set) (written other.set) items others part parts
+
+within : (low high least most v : ℤ) → least ≤ℤ low → high ≤ℤ most → ((int_le low v && int_le v high) || false) ≡ true → ((int_le least v && int_le v most) || false) ≡ true
+within low high least most v under over h = grind (arith, common_steps, ints)
+
+pub part-within : (range other : ℤ × ℤ) → other.0 ≤ℤ range.0 → range.1 ≤ℤ other.1 → IsPart (written (range ∷ [])) (written (other ∷ []))
+part-within range other under over v h =
+    is_in-written (other ∷ []) v ∙ within range.0 range.1 other.0 other.1 v under over (sym (is_in-written (range ∷ []) v) ∙ h)
 
 pub part-of : (set other left : List (ℤ × ℤ)) → left ≡ [] → ((v : ℤ) → is_in (written left) v ≡ (is_in (written set) v && not (is_in (written other) v))) → IsPart (written set) (written other)
 part-of set other left none each v h =

@@ -1,6 +1,6 @@
 //! Which lists are known to be found, by the numbers that they begin with and how many follow.
-ghost use Rattle.std.specs.Prelude.{◌≡◌, [], ◌∷◌, ◌++◌, ℤ, List, pos, IsTrue, IfOk, IfSome, OnOk};
-ghost use Rattle.cov_base.specs.Sets.{written};
+ghost use Rattle.std.specs.Prelude.{◌≡◌, [], ◌∷◌, ◌++◌, ◌||◌, true, ℤ, List, pos, IsTrue, IfOk, IfSome, OnOk};
+ghost use Rattle.cov_base.specs.Sets.{written, is_in};
 ghost use Rattle.trans_seq.specs.Held.{words, begun, begun_by, HasAll, IsPart, AreHeld};
 
 use crate::alone::only_number;
@@ -45,13 +45,60 @@ fn key_of(alloc: Global, first: &[Int], more: usize) -> Result<Vec<i128>, Memory
     Ok(key)
 }
 
-/// Whether each number of the set is in the other. It takes no memory where that is so.
+/// The interval of a set that has one alone.
+fn only_range(set: &ValueSet) -> Option<(Int, Int)>
+    ensures { IfSome result (λ range. set.now ≡ range ∷ []) }
+{
+    match set.intervals() {
+        [range] => Some(*range),
+        _ => None,
+    }
+}
+
+/// Whether each number of the first range is in the second one.
+fn is_within(range: (Int, Int), other: (Int, Int)) -> bool
+    ensures { IsTrue result → IsPart (written (range ∷ [])) (written (other ∷ [])) }
+{
+    if range.0.get() < other.0.get() {
+        return false;
+    }
+    range.1.get() <= other.1.get()
+}
+
+/// Whether each number of the set is in the other. It takes no memory where that is so, nor where each is one interval.
 pub(crate) fn is_part(alloc: Global, set: &ValueSet, other: &ValueSet) -> Result<bool, Memory>
     ensures { IfOk result
         (λ part. IsTrue part → IsPart (written set.now) (written other.now)) }
 {
+    if let Some(range) = only_range(set) {
+        if let Some(wide) = only_range(other) {
+            return Ok(is_within(range, wide));
+        }
+    }
     let left = set.minus(alloc, other)?;
     Ok(left.intervals().is_empty())
+}
+
+/// The numbers of both sets. Where one of them has the other it is copied.
+pub(crate) fn joined_set(
+    alloc: Global,
+    set: &ValueSet,
+    other: &ValueSet,
+) -> Result<ValueSet, Memory>
+    ensures { IfOk result
+        (λ both. (v : ℤ) → is_in (written both) v ≡ true →
+        (is_in (written set.now) v || is_in (written other.now) v) ≡ true) }
+{
+    if other.intervals().is_empty() {
+        return set.copy(alloc);
+    }
+    if is_part(alloc, set, other)? {
+        return other.copy(alloc);
+    }
+    if is_part(alloc, other, set)? {
+        return set.copy(alloc);
+    }
+    set.union(alloc, other)
 }
 
 /// Whether the items are as many as the others, and each set is in the one at its place.
@@ -153,23 +200,20 @@ fn is_full_behind(
     Ok(full)
 }
 
-/// A copy of what is known to be found of the lists that begin with the first numbers and have so many behind the next one.
-pub(crate) fn held_behind(
+/// What is known to be found of the lists that begin with the first numbers and have so many behind the next one.
+pub(crate) fn held_behind<'a>(
     alloc: Global,
     first: &[Int],
     more: usize,
-    known: &Known,
-) -> Result<Option<Held>, Memory>
+    known: &'a Known,
+) -> Result<Option<&'a Held>, Memory>
     ensures { IfOk result
         (λ held. IfSome held (λ held. (lists : List (List ℤ)) → AreHeld known.now lists
-        → HasAll lists (begun_by first.now (written held.numbers) held.rest))) }
+        → HasAll lists (begun_by first.now (written held.now.numbers) held.now.rest))) }
 {
     let key = key_of(alloc, first, more)?;
     match known.kept.get(&key) {
-        Some(held) => Ok(Some(Held {
-            numbers: held.numbers.copy(alloc)?,
-            rest: List::of(copied_items(alloc, held.rest.as_slice())?),
-        })),
+        Some(held) => Ok(Some(held)),
         None => Ok(None),
     }
 }
@@ -191,7 +235,7 @@ pub(crate) fn remember(
 {
     let key = key_of(alloc, first, rest.len())?;
     let held = Held {
-        numbers: numbers.union(alloc, others)?,
+        numbers: joined_set(alloc, numbers, others)?,
         rest: List::of(copied_items(alloc, rest)?),
     };
     known.kept.insert(key, held)?;

@@ -7,44 +7,45 @@ use cov_base::{Memory, ValueSet};
 use std::alloc::Global;
 use std::collections::HashMap;
 
-/// By what sequences are written of, the place of the first such one. What is found is tested before it is believed.
+/// By a number that tells much of what sequences are written of, the place of the first such one. What is found is tested
+/// before it is believed.
 #[derive(Drop)]
 pub(crate) struct Met {
-    places: HashMap<Vec<i128>, usize>,
+    places: HashMap<i128, usize>,
 }
 
-fn add_repeat(repeat: Repeat, key: &mut Vec<i128>) -> Result<(), Memory> {
+const FACTOR: i128 = 0x2360_ed05_1fc6_5da4_4385_df64_9fcc_f645;
+
+/// A number that tells much of a key and one more number.
+fn mixed(key: i128, number: i128) -> i128 {
+    key.wrapping_add(number).wrapping_mul(FACTOR)
+}
+
+fn with_repeat(key: i128, repeat: Repeat) -> i128 {
     let (word, low, high) = match repeat {
         Repeat::Once => (0, 1, 1),
         Repeat::Consec { low, high } => (1, low, high),
         Repeat::Goto { low, high } => (2, low, high),
         Repeat::NonConsec { low, high } => (3, low, high),
     };
-    key.push(word)?;
-    key.push(i128::from(low))?;
-    key.push(i128::from(high))?;
-    Ok(())
+    mixed(mixed(mixed(key, word), i128::from(low)), i128::from(high))
 }
 
-fn add_set(set: &ValueSet, key: &mut Vec<i128>) -> Result<(), Memory> {
+fn with_set(key: i128, set: &ValueSet) -> i128 {
+    let mut key = key;
     for range in set.intervals() {
-        key.push(range.0.get())?;
-        key.push(range.1.get())?;
+        key = mixed(mixed(key, range.0.get()), range.1.get());
     }
-    Ok(())
+    key
 }
-
-/// How many numbers tell an item whose set has one interval.
-const NUMBERS_OF_ITEM: usize = 5;
 
 /// What the items are written of. Unlike items may have one key: it only tells where to look.
-fn key_of(alloc: Global, items: &[Item]) -> Result<Vec<i128>, Memory> {
-    let mut key = Vec::with_capacity(alloc, items.len().saturating_mul(NUMBERS_OF_ITEM))?;
+fn key_of(items: &[Item]) -> i128 {
+    let mut key = 0;
     for item in items {
-        add_repeat(item.repeat, &mut key)?;
-        add_set(&item.set, &mut key)?;
+        key = with_set(with_repeat(key, item.repeat), &item.set);
     }
-    Ok(key)
+    key
 }
 
 /// Whether the first of the two places is the earlier one, and the same sequence stands there.
@@ -75,7 +76,7 @@ pub(crate) fn is_held(
     requires { place < length seqs.now }
     ensures { IfOk result (λ held. IsTrue held → IsHeldBefore seqs.now place) }
 {
-    let key = key_of(alloc, seqs[place].items.as_slice())?;
+    let key = key_of(seqs[place].items.as_slice());
     if let Some(first) = met.places.get(&key) {
         return Ok(is_repeated(seqs, *first, place));
     }

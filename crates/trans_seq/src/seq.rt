@@ -101,7 +101,7 @@ pub fn append_copies(alloc: Global, seqs: &[Seq], copies: &mut Vec<Seq>) -> Resu
 pub(crate) fn copied_items(alloc: Global, items: &[Item]) -> Result<Vec<Item>, Memory>
     ensures { IfOk result (λ copies. copies.items ≡ items.now) }
 {
-    let mut copies = Vec::new(alloc);
+    let mut copies = Vec::with_capacity(alloc, items.len())?;
     for item in items {
         copies.push(item.copy(alloc)?)?;
     }

@@ -5,7 +5,7 @@ ghost use Rattle.cov_base.specs.Sets.{written};
 ghost use Rattle.trans_seq.specs.Held.{begun_by, HasAll, AreHeld};
 
 use crate::alone::count_ahead;
-use crate::held::{Held, Known, are_parts, held_behind, is_full, is_part, remember};
+use crate::held::{Held, Known, are_parts, held_behind, is_full, joined_set, remember};
 use crate::seq::{Item, Repeat};
 use cov_base::{Int, Memory, ValueSet};
 use std::alloc::Global;
@@ -13,15 +13,12 @@ use std::alloc::Global;
 /// Numbers that are looked up for each number that was gone through, to learn whether more is found than was known.
 const TRIES: u128 = 4;
 
-/// A set of so few numbers isn't kept where all its lists were new: to go through them once more costs less.
-const FEW_NUMBERS: u128 = 3;
-
-/// The numbers of both sets.
-fn joined_set(alloc: Global, set: &ValueSet, other: &ValueSet) -> Result<ValueSet, Memory> {
-    if is_part(alloc, set, other)? {
-        return other.copy(alloc);
+/// The numbers of the set that aren't in the other.
+fn numbers_without(alloc: Global, set: &ValueSet, other: &ValueSet) -> Result<ValueSet, Memory> {
+    if other.intervals().is_empty() {
+        return set.copy(alloc);
     }
-    set.union(alloc, other)
+    set.minus(alloc, other)
 }
 
 /// The items, each with the numbers of the other one at its place too.
@@ -153,8 +150,9 @@ fn widened(
     let wide = joined(alloc, rest, held.rest.as_slice())?;
     let ours = numbers_for(alloc, set, rest, wide.as_slice())?;
     let theirs = numbers_for(alloc, &held.numbers, held.rest.as_slice(), wide.as_slice())?;
-    let sure = ours.union(alloc, &theirs)?;
-    let others = set.union(alloc, &held.numbers)?.minus(alloc, &sure)?;
+    let sure = joined_set(alloc, &ours, &theirs)?;
+    let all = joined_set(alloc, set, &held.numbers)?;
+    let others = numbers_without(alloc, &all, &sure)?;
     let few = if others.count() <= left.saturating_mul(TRIES) {
         others
     } else {
@@ -169,8 +167,7 @@ fn widened(
 }
 
 /// Keeps that the lists with a number of the set, or of those before, and one of each set of the rest are found, where
-/// that is more than what is kept of lists that begin so; `left` numbers of the set were gone through, and maybe gave new
-/// lists alone.
+/// that is more than what is kept of lists that begin so; `left` numbers of the set were gone through.
 pub(crate) fn keep(
     alloc: Global,
     first: &mut Vec<Int>,
@@ -178,7 +175,6 @@ pub(crate) fn keep(
     before: &ValueSet,
     left: u128,
     rest: &[Item],
-    is_new: bool,
     known: &mut Known,
 ) -> Result<(), Memory>
     ensures first { OnOk result (first.new.items ≡ first.old.items) }
@@ -188,16 +184,13 @@ pub(crate) fn keep(
         → HasAll lists (begun_by first.old.items (written before.now) rest.now)
         → AreHeld known.new lists) }
 {
-    if is_new && set.count() <= FEW_NUMBERS {
-        return Ok(());
-    }
     if rest.is_empty() {
         return remember(alloc, first.as_slice(), set, before, rest, known);
     }
     let Some(held) = held_behind(alloc, first.as_slice(), rest.len(), known)? else {
         return remember(alloc, first.as_slice(), set, before, rest, known);
     };
-    let wider = widened(alloc, first, set, left, rest, &held, known)?;
+    let wider = widened(alloc, first, set, left, rest, held, known)?;
     let numbers = wider.sure.count().saturating_add(wider.full.count());
     let many = count_ahead(wider.rest.as_slice(), numbers);
     let kept = count_ahead(held.rest.as_slice(), held.numbers.count());

@@ -1,9 +1,9 @@
-use Rattle.std.proofs.Common.{rules, ◌≡◌, ap, sym, subst, ◌∙◌}
+use Rattle.std.proofs.Common.{rules, ◌≡◌, refl, ap}
 use Rattle.std.specs.Prelude.{Some}
 use Rattle.std.specs.Ordering.{int_eq}
 use Rattle.std.specs.Cmp.Lexicographic.{pointwise}
 use Rattle.std.specs.HashMap.{get}
-use Rattle.trans_seq.specs.Held.{words, HasAll, behind_one}
+use Rattle.trans_seq.specs.Held.{behind_one}
 use Rattle.trans_seq.proofs.HeldLemmas.{held-at}
 use Rattle.trans_seq.proofs.held.held_behind.Goals as goal
 
@@ -12,6 +12,4 @@ returns-in-Some c = λ lists all.
     let held = c.in-Some.held.now in
     let key = c.in_ok-key.key in
     let there : get (λ a b. pointwise int_eq a.items b.items) c.args.known.now.kept key ≡ Some held = search (rules, c.in-Some.ensures.value, c.get.ensures.value, c.in-Some.is) in
-    let same : c.of.result ≡ held.rest = c.of.ensures ∙ (c.in_ok-copied_items-in-Some.ensures ∙ c.as_slice.ensures) in
-    held-at lists (behind_one key.items) c.args.first.now held.numbers c.in_ok-copy-in-Some.field-0 held.rest c.of.result (ap behind_one c.in_ok-key.ensures) c.in_ok-copy-in-Some.ensures
-    (subst (λ l. HasAll (words held.rest) (words l)) (sym same) (λ w k. k)) (all key held there)
+    held-at lists (behind_one key.items) c.args.first.now held.numbers held.numbers held.rest held.rest (ap behind_one c.in_ok-key.ensures) refl (λ w k. k) (all key held there)

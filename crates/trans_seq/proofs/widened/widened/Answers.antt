@@ -14,4 +14,4 @@ returns-clause-sure c = λ lists had kept.
     let from_ours : HasAll lists (begun_by first (written ours) wide) = subst (λ l. HasAll lists (begun_by first (written ours) l)) c.as_slice-2.ensures.value (c.in_ok-ours.ensures first lists had) in
     let behind : HasAll lists (begun_by first (written held.numbers) c.as_slice-3.result.now) = subst (λ l. HasAll lists (begun_by first (written held.numbers) l)) (sym c.as_slice-3.ensures) kept in
     let from_theirs : HasAll lists (begun_by first (written theirs) wide) = subst (λ l. HasAll lists (begun_by first (written theirs) l)) c.as_slice-4.ensures.value (c.in_ok-theirs.ensures first lists behind) in
-    has-both lists first ours theirs c.in_ok-sure.sure wide c.in_ok-sure.ensures.numbers from_ours from_theirs
+    has-both lists first ours theirs c.in_ok-sure.sure wide c.in_ok-sure.ensures from_ours from_theirs
