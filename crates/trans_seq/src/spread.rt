@@ -8,7 +8,7 @@ ghost use Rattle.trans_seq.specs.Held.{begun, begun_by, once as item_once, AreHe
 use crate::alone::count_ahead;
 use crate::fault::ExpandFault;
 use crate::found::{Found, found_count, list_of, take_list};
-use crate::held::{Known, known_numbers};
+use crate::held::{Known, is_none, known_numbers};
 use crate::listing::ends;
 use crate::seq::{Item, Repeat};
 use crate::widened::keep;
@@ -71,14 +71,6 @@ fn unknown_numbers(alloc: Global, set: &ValueSet, known: &ValueSet) -> Result<Va
         return Ok(set.copy(alloc)?);
     }
     set.minus(alloc, known)
-}
-
-/// Whether a set has no number.
-#[tactic(auto, using(crate::proofs::HeldLemmas::no_ranges))]
-fn is_none(set: &ValueSet) -> bool
-    ensures { IsTrue result → set.now ≡ [] }
-{
-    set.intervals().is_empty()
 }
 
 /// Whether a set has several numbers, so that what is found of it is kept: that costs about as much as one of its lists.
