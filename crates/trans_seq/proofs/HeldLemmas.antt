@@ -77,11 +77,11 @@ by-from first (x ∷ vs) items v w h k = elim (or_cases (int_eq v x) (is_in vs v
 pub has-none : (lists : List Word) (first : Word) (set : List (ℤ × ℤ)) (items : List Item) → set ≡ [] → HasAll lists (begun_by first (written set) items)
 has-none lists first set items none w h = absurd (false≢true (subst (λ vs. is_among (begun_by first vs items) w ≡ true) (ap written none ∙ none_written) h))
 
-pub has-both : (lists : List Word) (first : Word) (a b both : List (ℤ × ℤ)) (items : List Item) → ((v : ℤ) → is_in (written both) v ≡ true → (is_in (written a) v || is_in (written b) v) ≡ true)
+pub has-both : (lists : List Word) (first : Word) (a b both : List (ℤ × ℤ)) (items : List Item) → ((v : ℤ) → is_in (written both) v ≡ (is_in (written a) v || is_in (written b) v))
     → HasAll lists (begun_by first (written a) items) → HasAll lists (begun_by first (written b) items) → HasAll lists (begun_by first (written both) items)
 has-both lists first a b both items each has_a has_b w h =
     let r = by-of first (written both) items w h in
-    elim (or_cases (is_in (written a) r.0) (is_in (written b) r.0) (each r.0 r.1)) [
+    elim (or_cases (is_in (written a) r.0) (is_in (written b) r.0) (sym (each r.0) ∙ r.1)) [
       | inl in_a ↦ has_a w (by-from first (written a) items r.0 w in_a r.2)
       | inr in_b ↦ has_b w (by-from first (written b) items r.0 w in_b r.2)
     ]
@@ -185,6 +185,28 @@ within low high least most v under over h = grind (arith, common_steps, ints)
 pub part-within : (range other : ℤ × ℤ) → other.0 ≤ℤ range.0 → range.1 ≤ℤ other.1 → IsPart (written (range ∷ [])) (written (other ∷ []))
 part-within range other under over v h =
     is_in-written (other ∷ []) v ∙ within range.0 range.1 other.0 other.1 v under over (sym (is_in-written (range ∷ []) v) ∙ h)
+
+pub part-none : (set other : List (ℤ × ℤ)) → set ≡ [] → IsPart (written set) (written other)
+part-none set other none v h = absurd (false≢true (subst (λ vs. is_in vs v ≡ true) (ap written none ∙ none_written) h))
+
+either : (a b : Bool) → (a ≡ true → b ≡ true) → b ≡ (a || b)
+either true b part = part refl
+either false b part = refl
+
+other-either : (a b : Bool) → (b ≡ true → a ≡ true) → a ≡ (a || b)
+other-either true b part = refl
+other-either false true part = part refl
+other-either false false part = refl
+
+-- the second set, which has all numbers of the first one, has the numbers of both
+pub joined-other : (set other both : List (ℤ × ℤ)) → IsPart (written set) (written other) → both ≡ other → (v : ℤ) → is_in (written both) v ≡ (is_in (written set) v || is_in (written other) v)
+joined-other set other both part is v =
+    ap (λ rs. is_in (written rs) v) is ∙ either (is_in (written set) v) (is_in (written other) v) (part v)
+
+-- the first set, which has all numbers of the second one, has the numbers of both
+pub joined-set : (set other both : List (ℤ × ℤ)) → IsPart (written other) (written set) → both ≡ set → (v : ℤ) → is_in (written both) v ≡ (is_in (written set) v || is_in (written other) v)
+joined-set set other both part is v =
+    ap (λ rs. is_in (written rs) v) is ∙ other-either (is_in (written set) v) (is_in (written other) v) (part v)
 
 pub part-of : (set other left : List (ℤ × ℤ)) → left ≡ [] → ((v : ℤ) → is_in (written left) v ≡ (is_in (written set) v && not (is_in (written other) v))) → IsPart (written set) (written other)
 part-of set other left none each v h =

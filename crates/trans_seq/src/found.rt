@@ -35,6 +35,11 @@ pub(crate) fn none_found(alloc: Global) -> Found
     }
 }
 
+/// How many lists are found.
+pub(crate) fn found_count(found: &Found) -> usize {
+    found.count
+}
+
 /// The numbers of a list, as a key.
 fn key_of(alloc: Global, list: &[Int]) -> Result<Vec<i128>, Memory>
     ensures { IfOk result (λ key. key.items ≡ list.now) }

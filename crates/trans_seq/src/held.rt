@@ -1,5 +1,5 @@
 //! Which lists are known to be found, by the numbers that they begin with and how many follow.
-ghost use Rattle.std.specs.Prelude.{◌≡◌, [], ◌∷◌, ◌++◌, ◌||◌, true, ℤ, List, pos, IsTrue, IfOk, IfSome, OnOk};
+ghost use Rattle.std.specs.Prelude.{◌≡◌, [], ◌∷◌, ◌++◌, ◌||◌, ℤ, List, pos, IsTrue, IfOk, IfSome, OnOk};
 ghost use Rattle.cov_base.specs.Sets.{written, is_in};
 ghost use Rattle.trans_seq.specs.Held.{words, begun, begun_by, HasAll, IsPart, AreHeld};
 
@@ -45,6 +45,14 @@ fn key_of(alloc: Global, first: &[Int], more: usize) -> Result<Vec<i128>, Memory
     Ok(key)
 }
 
+/// Whether a set has no number.
+#[tactic(auto, using(crate::proofs::HeldLemmas::no_ranges))]
+pub(crate) fn is_none(set: &ValueSet) -> bool
+    ensures { IsTrue result → set.now ≡ [] }
+{
+    set.intervals().is_empty()
+}
+
 /// The interval of a set that has one alone.
 fn only_range(set: &ValueSet) -> Option<(Int, Int)>
     ensures { IfSome result (λ range. set.now ≡ range ∷ []) }
@@ -70,6 +78,9 @@ pub(crate) fn is_part(alloc: Global, set: &ValueSet, other: &ValueSet) -> Result
     ensures { IfOk result
         (λ part. IsTrue part → IsPart (written set.now) (written other.now)) }
 {
+    if is_none(other) {
+        return Ok(is_none(set));
+    }
     if let Some(range) = only_range(set) {
         if let Some(wide) = only_range(other) {
             return Ok(is_within(range, wide));
@@ -86,12 +97,9 @@ pub(crate) fn joined_set(
     other: &ValueSet,
 ) -> Result<ValueSet, Memory>
     ensures { IfOk result
-        (λ both. (v : ℤ) → is_in (written both) v ≡ true →
-        (is_in (written set.now) v || is_in (written other.now) v) ≡ true) }
+        (λ both. (v : ℤ) → is_in (written both) v ≡
+        (is_in (written set.now) v || is_in (written other.now) v)) }
 {
-    if other.intervals().is_empty() {
-        return set.copy(alloc);
-    }
     if is_part(alloc, set, other)? {
         return other.copy(alloc);
     }

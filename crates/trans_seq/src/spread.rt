@@ -5,9 +5,10 @@ ghost use Rattle.trans_seq.specs.Found.{Holds, Takes, FailsAfter, lists_of};
 ghost use Rattle.trans_seq.specs.Alone.{IsFront};
 ghost use Rattle.trans_seq.specs.Held.{begun, begun_by, once as item_once, AreHeld};
 
+use crate::alone::count_ahead;
 use crate::fault::ExpandFault;
-use crate::found::{Found, list_of, take_list};
-use crate::held::{Known, known_numbers};
+use crate::found::{Found, found_count, list_of, take_list};
+use crate::held::{Known, is_none, known_numbers};
 use crate::listing::ends;
 use crate::seq::{Item, Repeat};
 use crate::widened::keep;
@@ -72,17 +73,14 @@ fn unknown_numbers(alloc: Global, set: &ValueSet, known: &ValueSet) -> Result<Va
     set.minus(alloc, known)
 }
 
-/// Whether a set has no number.
-#[tactic(auto, using(crate::proofs::HeldLemmas::no_ranges))]
-fn is_none(set: &ValueSet) -> bool
-    ensures { IsTrue result → set.now ≡ [] }
-{
-    set.intervals().is_empty()
-}
-
 /// Whether a set has several numbers, so that what is found of it is kept: that costs about as much as one of its lists.
 fn is_large(set: &ValueSet) -> bool {
     set.count() > 1
+}
+
+/// Whether all lists with one number of the set and one of each set of the rest were new, of which so many were.
+fn has_only_new(set: &ValueSet, rest: &[Item], added: usize) -> bool {
+    count_ahead(rest, set.count()) == added as u128
 }
 
 /// Takes the lists that begin with the first numbers and go on with one of each item's set.
@@ -148,8 +146,19 @@ fn take_unknown(
     if is_none(&left) {
         return Ok(());
     }
+    let old = found_count(found);
     take_numbers(alloc, &left, rest, first, known, found)?;
-    keep(alloc, first, set, &before, left.count(), rest, known)?;
+    let is_new = has_only_new(&left, rest, found_count(found).saturating_sub(old));
+    keep(
+        alloc,
+        first,
+        set,
+        &before,
+        left.count(),
+        rest,
+        is_new,
+        known,
+    )?;
     Ok(())
 }
 

@@ -13,6 +13,10 @@ use std::alloc::Global;
 /// Numbers that are looked up for each number that was gone through, to learn whether more is found than was known.
 const TRIES: u128 = 4;
 
+/// A set of so few numbers with sets behind it isn't kept where all its lists were new: to go through them once more costs
+/// less.
+const FEW_NUMBERS: u128 = 3;
+
 /// The numbers of the set that aren't in the other.
 fn numbers_without(alloc: Global, set: &ValueSet, other: &ValueSet) -> Result<ValueSet, Memory> {
     if other.intervals().is_empty() {
@@ -167,7 +171,8 @@ fn widened(
 }
 
 /// Keeps that the lists with a number of the set, or of those before, and one of each set of the rest are found, where
-/// that is more than what is kept of lists that begin so; `left` numbers of the set were gone through.
+/// that is more than what is kept of lists that begin so; `left` numbers of the set were gone through, and maybe gave new
+/// lists alone.
 pub(crate) fn keep(
     alloc: Global,
     first: &mut Vec<Int>,
@@ -175,6 +180,7 @@ pub(crate) fn keep(
     before: &ValueSet,
     left: u128,
     rest: &[Item],
+    is_new: bool,
     known: &mut Known,
 ) -> Result<(), Memory>
     ensures first { OnOk result (first.new.items ≡ first.old.items) }
@@ -186,6 +192,9 @@ pub(crate) fn keep(
 {
     if rest.is_empty() {
         return remember(alloc, first.as_slice(), set, before, rest, known);
+    }
+    if is_new && set.count() <= FEW_NUMBERS {
+        return Ok(());
     }
     let Some(held) = held_behind(alloc, first.as_slice(), rest.len(), known)? else {
         return remember(alloc, first.as_slice(), set, before, rest, known);
