@@ -5,13 +5,13 @@ ghost use Rattle.cov_grammar.specs.declared.place.Room.{Room};
 ghost use Rattle.cov_grammar.specs.Rule.{Rule};
 ghost use Rattle.cov_grammar.specs.Parses.{Reads, Fails, Parses};
 ghost use Rattle.cov_grammar.specs.Groups.{Entry, put};
-ghost use Rattle.cov_parser.specs.Reading.{over};
+ghost use Rattle.expr_parser.specs.Reading.{over};
 ghost use Rattle.cov_parser.specs.Bodies.{body_of, entry_of, BesideOptions};
 
-use crate::held::{Held, add};
-use crate::reader::Reader;
+use crate::options::option;
 use cov_grammar::{Kind, Place, Room, Stop};
 use cov_tree::{List, OptDecl};
+use expr_parser::{Held, Reader, add};
 
 /// What a body declares beside options.
 pub(crate) trait Declared: Drop + Sized {
@@ -25,49 +25,47 @@ pub(crate) trait Declared: Drop + Sized {
         BesideOptions text tokens (rule text tokens) };
 }
 
-impl Reader<'_> {
-    /// `;`, or options and declarations in braces.
-    pub(crate) fn body<D: Declared>(
-        self,
-        place: Place,
-        room: Room,
-    ) -> Result<((List<OptDecl>, List<D>), Place), Stop>
-        ensures { Parses (over self.entry (body_of D.rule)) room place result }
-    {
-        let mut options = List::new(self.alloc);
-        let mut declarations = List::new(self.alloc);
-        if let Some((_, after)) = self.take(place, &[Kind::Semi]) {
+/// `;`, or options and declarations in braces.
+pub(crate) fn body<D: Declared>(
+    reader: Reader<'_>,
+    place: Place,
+    room: Room,
+) -> Result<((List<OptDecl>, List<D>), Place), Stop>
+    ensures { Parses (over reader.entry (body_of D.rule)) room place result }
+{
+    let mut options = List::new(reader.alloc);
+    let mut declarations = List::new(reader.alloc);
+    if let Some((_, after)) = reader.take(place, &[Kind::Semi]) {
+        return Ok(((options, declarations), after));
+    }
+    let (_, mut at) = reader.word(place, Kind::OpenBrace)?;
+    loop {
+        if let Some((_, after)) = reader.take(at, &[Kind::CloseBrace]) {
             return Ok(((options, declarations), after));
         }
-        let (_, mut at) = self.word(place, Kind::OpenBrace)?;
-        loop {
-            if let Some((_, after)) = self.take(at, &[Kind::CloseBrace]) {
-                return Ok(((options, declarations), after));
-            }
-            at = self.read_entry(at, room, &mut options, &mut declarations)?;
-        }
+        at = read_entry(reader, at, room, &mut options, &mut declarations)?;
     }
+}
 
-    /// An option or a declaration, put behind those that were read.
-    fn read_entry<D: Declared>(
-        self,
-        place: Place,
-        room: Room,
-        options: &mut List<OptDecl>,
-        declarations: &mut List<D>,
-    ) -> Result<Place, Stop>
-        ensures read { IfOk result (λ after. (entry : Entry D) ×
-            Reads (over self.entry (entry_of D.rule)) room place entry after ×
-            ((options.new, declarations.new) ≡ put (options.old, declarations.old) entry)) }
-        ensures fails { IfErr result (Fails (over self.entry (entry_of D.rule)) room place) }
-    {
-        if let Some(_) = self.take(place, &[Kind::OptionWord, Kind::TypeOptionWord]) {
-            let (option, after) = self.option(place, room)?;
-            add(options, option)?;
-            return Ok(after);
-        }
-        let (declaration, after) = D::read(self, place, room)?;
-        add(declarations, declaration)?;
-        Ok(after)
+/// An option or a declaration, put behind those that were read.
+fn read_entry<D: Declared>(
+    reader: Reader<'_>,
+    place: Place,
+    room: Room,
+    options: &mut List<OptDecl>,
+    declarations: &mut List<D>,
+) -> Result<Place, Stop>
+    ensures read { IfOk result (λ after. (entry : Entry D) ×
+        Reads (over reader.entry (entry_of D.rule)) room place entry after ×
+        ((options.new, declarations.new) ≡ put (options.old, declarations.old) entry)) }
+    ensures fails { IfErr result (Fails (over reader.entry (entry_of D.rule)) room place) }
+{
+    if let Some(_) = reader.take(place, &[Kind::OptionWord, Kind::TypeOptionWord]) {
+        let (option, after) = option(reader, place, room)?;
+        add(options, option)?;
+        return Ok(after);
     }
+    let (declaration, after) = D::read(reader, place, room)?;
+    add(declarations, declaration)?;
+    Ok(after)
 }

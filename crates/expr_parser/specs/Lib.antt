@@ -1,0 +1,4 @@
+pub mod Operating
+pub mod Reading
+pub mod Parts
+pub mod Listing
