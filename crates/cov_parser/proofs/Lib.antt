@@ -1,4 +1,3 @@
-pub mod BinsWalks
 pub mod GroupWalks
 pub mod DesignWalks
 pub mod CovergroupWalks

@@ -1,18 +1,15 @@
 -- Parts of the grammar's rules that have a reader of their own, over a text and its tokens.
-use Rattle.std.specs.Prelude.{ℕ, List, [], ◌∷◌, Option, not, codes}
+use Rattle.std.specs.Prelude.{ℕ, List, [], ◌∷◌, Option, codes}
 use Rattle.cov_tree.specs.declared.expr.Expr.{Expr}
-use Rattle.cov_tree.specs.declared.bins.Size.{Size}
-use Rattle.cov_tree.specs.declared.bins.Right.{Right}
-use Rattle.cov_tree.specs.declared.bins.Right.TheVariants.{Trans}
 use Rattle.cov_tree.specs.declared.groups.Formal.{Formal}
 use Rattle.cov_tree.specs.declared.groups.EdgeText.{EdgeText}
 use Rattle.cov_tree.specs.declared.declarations.TypeText.{TypeText}
-use Rattle.cov_lexer.specs.declared.kind.Kind.TheVariants.{Ident, OpenParen, CloseParen, Comma, Semi, WildcardWord, SequenceWord, InputWord, RefWord, OtherWord, OrWord, PosedgeWord, NegedgeWord, EdgeWord}
+use Rattle.cov_lexer.specs.declared.kind.Kind.TheVariants.{Ident, OpenParen, CloseParen, Comma, Semi, InputWord, RefWord, OtherWord, OrWord, PosedgeWord, NegedgeWord, EdgeWord}
 use Rattle.cov_grammar.specs.declared.marked.Marked.{Marked}
 use Rattle.cov_grammar.specs.declared.place.Room.{Room}
-use Rattle.cov_grammar.specs.Rule.{Rule, one, word, same_word, either, many, map_to, fold, ◌▸◌, ◌◂◌, allow, maybe}
+use Rattle.cov_grammar.specs.Rule.{Rule, one, word, same_word, many, map_to, fold, ◌▸◌, ◌◂◌, maybe}
 use Rattle.cov_grammar.specs.Expressions.{snoc, expr, list_in}
-use Rattle.cov_grammar.specs.Bins.{ident, guard, values, seqs, is_scalar, is_fixed}
+use Rattle.cov_grammar.specs.Bins.{ident}
 use Rattle.cov_grammar.specs.Groups.{label}
 use Rattle.cov_grammar.specs.Designs.{vector, arguments, argument_parens, edge}
 
@@ -20,22 +17,8 @@ module _ (text : List ℕ) (ts : List Marked) where
   abbrev pub exprs : Room → Rule (List Expr)
   exprs = λ r. list_in text ts (expr text ts r)
 
-  abbrev pub maybe_guard : Room → Rule (Option Expr)
-  maybe_guard = λ r. maybe (guard text ts r)
-
   abbrev pub maybe_vector : Room → Rule (Option TypeText)
   maybe_vector = λ r. maybe (vector text ts r)
-
-  abbrev pub maybe_wildcard : Rule (Option Marked)
-  maybe_wildcard = maybe (word ts WildcardWord)
-
-  -- values or sequences, by the size of the bins
-  abbrev pub listed : Size → Room → Rule Right
-  listed size = λ r. either (values text ts r) (allow (not (is_fixed size)) (map_to Trans (seqs text ts r)))
-
-  -- what stands behind "default"
-  abbrev pub default_end : Size → Rule (Option Marked)
-  default_end size = maybe (allow (is_scalar size) (word ts SequenceWord))
 
   abbrev pub maybe_label : Rule (Option (List ℕ))
   maybe_label = maybe (label text ts)

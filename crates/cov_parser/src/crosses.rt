@@ -4,16 +4,12 @@ ghost use Rattle.cov_lexer.specs.declared.kind.Kind.TheVariants.{Comma};
 ghost use Rattle.cov_grammar.specs.Parses.{Parses};
 ghost use Rattle.cov_grammar.specs.Expressions.{snoc};
 ghost use Rattle.cov_grammar.specs.Bins.{ident};
-ghost use Rattle.cov_grammar.specs.Groups.{cross, crossed, cross_bins};
+ghost use Rattle.cov_grammar.specs.Groups.{cross, crossed};
 ghost use Rattle.cov_grammar.proofs.BinsLaws.{ident_lawful};
-ghost use Rattle.cov_grammar.proofs.GroupLaws.{cross_bins_lawful, cross_entry_lawful};
 ghost use Rattle.expr_parser.specs.Reading.{ParsesAlways, over};
 
-use crate::bins::bins_word_of;
-use crate::bodies::{Declared, body};
-use crate::options::guard;
 use cov_grammar::{Kind, Place, Room, Stop};
-use cov_tree::{CrossBins, CrossDecl, List, Member, Name};
+use cov_tree::{CrossDecl, List, Member, Name};
 use expr_parser::{Held, Item, NO_ROOM, Reader};
 
 /// Names of coverpoints, with commas between them.
@@ -62,8 +58,8 @@ pub(crate) fn cross(
 {
     let (_, at) = reader.word(place, Kind::CrossWord)?;
     let (points, at) = crossed(reader, at)?;
-    let (guard, at) = guard(reader, at, room)?;
-    let ((options, bins), after) = body(reader, at, room)?;
+    let (guard, at) = reader.guard(at, room)?;
+    let ((options, bins), after) = reader.body(at, room)?;
     let cross = CrossDecl {
         label: label.put(),
         points,
@@ -86,56 +82,4 @@ fn crossed(reader: Reader<'_>, place: Place) -> Result<(List<Name>, Place), Stop
     names.push(first)?;
     names.push(second)?;
     reader.more(at, NO_ROOM, &PointNameList, names)
-}
-
-/// A bin of a cross.
-fn cross_bins(
-    reader: Reader<'_>,
-    place: Place,
-    room: Room,
-) -> Result<(Held<CrossBins>, Place), Stop>
-    ensures { Parses (over reader.entry cross_bins) room place result }
-{
-    let Some((token, next)) = reader.take(
-        place,
-        &[Kind::BinsWord, Kind::IllegalBinsWord, Kind::IgnoreBinsWord],
-    ) else {
-        return Err(Stop::Syntax(place.at));
-    };
-    let (name, at) = reader.ident(next)?;
-    let (_, at) = reader.word(at, Kind::Assign)?;
-    let (sel, at) = reader.selection(at, room)?;
-    let (guard, at) = guard(reader, at, room)?;
-    let (_, after) = reader.word(at, Kind::Semi)?;
-    let declaration = CrossBins {
-        word: bins_word_of(token.kind),
-        name,
-        sel: sel.put(),
-        guard: guard.put(),
-        at: token.at,
-    };
-    Ok((Held::of(declaration), after))
-}
-
-impl Declared for CrossBins {
-    ghost rule = { cross_bins };
-
-    fn read(
-        reader: Reader<'_>,
-        place: Place,
-        room: Room,
-    ) -> Result<(Held<CrossBins>, Place), Stop> {
-        cross_bins(reader, place, room)
-    }
-
-    ghost beside = { λ text tokens. record {
-      lawful = cross_bins_lawful text tokens;
-      full = refl;
-      other = refl;
-      entries = cross_entry_lawful text tokens;
-      filled = refl;
-      again = refl;
-      shut = refl;
-      closed = refl;
-    } };
 }

@@ -13,7 +13,6 @@ ghost use Rattle.expr_parser.specs.Reading.{ParsesAlways, Took, over};
 ghost use Rattle.cov_parser.specs.Parts.{direction, edge_parens, edge_word, edges, maybe_input, maybe_label, sample_function};
 
 use crate::crosses::cross;
-use crate::options::option;
 use crate::points::point;
 use cov_grammar::{Kind, Marked, Place, Room, Stop};
 use cov_tree::{Decl, EdgeKind, EdgeText, Formal, List, Member, Name};
@@ -426,7 +425,7 @@ fn member(reader: Reader<'_>, place: Place, room: Room) -> Result<(Held<Member>,
     ensures fault { IfErr result (Fails (over reader.entry member) room place) }
 {
     if let Some((_, _)) = reader.take(place, &[Kind::OptionWord, Kind::TypeOptionWord]) {
-        let (option, after) = option(reader, place, room)?;
+        let (option, after) = reader.option(place, room)?;
         return Ok((Held::of(Member::Opt(option.put())), after));
     }
     item(reader, place, room)

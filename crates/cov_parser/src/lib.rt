@@ -3,13 +3,10 @@
 //! The syntax tree of a design text, or the exact place of its first fault.
 #![tactic(auto)]
 
-mod bins;
-mod bodies;
 mod crosses;
 mod declarations;
 mod fault;
 mod groups;
-mod options;
 mod parsing;
 mod points;
 

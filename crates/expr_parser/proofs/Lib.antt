@@ -3,6 +3,8 @@ pub mod Operating
 pub mod ExprWalks
 pub mod Chains
 pub mod ValueWalks
+pub mod BinsWalks
+pub mod BodyWalks
 pub mod SelWalks
 pub mod TypeWalks
 pub mod Keeping

@@ -1,19 +1,22 @@
 -- Parts of the grammar's rules that have a reader of their own, over a text and its tokens.
-use Rattle.std.specs.Prelude.{ℕ, List, [], ◌∷◌, Option}
+use Rattle.std.specs.Prelude.{ℕ, List, [], ◌∷◌, Option, not}
 use Rattle.cov_tree.specs.declared.expr.Expr.{Expr}
 use Rattle.cov_tree.specs.declared.bins.Elem.{Elem}
 use Rattle.cov_tree.specs.declared.bins.Step.{Step}
 use Rattle.cov_tree.specs.declared.bins.Times.{Times}
+use Rattle.cov_tree.specs.declared.bins.Size.{Size}
+use Rattle.cov_tree.specs.declared.bins.Right.{Right}
+use Rattle.cov_tree.specs.declared.bins.Right.TheVariants.{Trans}
 use Rattle.cov_tree.specs.declared.groups.Sel.{Sel}
 use Rattle.cov_lexer.specs.declared.kind.Kind.{Kind}
-use Rattle.cov_lexer.specs.declared.kind.Kind.TheVariants.{OpenParen, CloseParen, OpenBrace, CloseBrace, Colon, Dot, FatArrow, IntersectWord}
+use Rattle.cov_lexer.specs.declared.kind.Kind.TheVariants.{OpenParen, CloseParen, OpenBrace, CloseBrace, Colon, Dot, FatArrow, WildcardWord, SequenceWord, IntersectWord}
 use Rattle.cov_grammar.specs.declared.marked.Marked.{Marked}
 use Rattle.cov_grammar.specs.declared.place.Room.{Room}
 use Rattle.cov_grammar.specs.declared.place.Standing.{Standing}
 use Rattle.cov_grammar.specs.declared.place.Standing.TheVariants.{Plain}
-use Rattle.cov_grammar.specs.Rule.{Rule, one, word, counted, map_to, fold, ◌▸◌, ◌◂◌, maybe}
+use Rattle.cov_grammar.specs.Rule.{Rule, one, word, counted, either, map_to, fold, ◌▸◌, ◌◂◌, allow, maybe}
 use Rattle.cov_grammar.specs.Expressions.{Inner, snoc, expr, part_expr, list_in, inner_at, index_in, primary_in, unary_in, binary_in}
-use Rattle.cov_grammar.specs.Bins.{ident, elems, keep, step, repetition}
+use Rattle.cov_grammar.specs.Bins.{ident, guard, elems, values, keep, step, seqs, repetition, is_scalar, is_fixed}
 use Rattle.cov_grammar.specs.Groups.{sel_inner_at, sand_in, sunary_in}
 use Rattle.cov_grammar.specs.Designs.{vector_span}
 
@@ -56,6 +59,9 @@ module _ (text : List ℕ) (ts : List Marked) where
   abbrev pub maybe_keep : Room → Rule (Option Expr)
   maybe_keep = λ r. maybe (keep text ts r)
 
+  abbrev pub maybe_guard : Room → Rule (Option Expr)
+  maybe_guard = λ r. maybe (guard text ts r)
+
   abbrev pub maybe_span : Room → Rule (Option (Expr × Expr))
   maybe_span = λ r. maybe (vector_span text ts r)
 
@@ -65,6 +71,17 @@ module _ (text : List ℕ) (ts : List Marked) where
 
   abbrev pub maybe_repetition : Room → Rule (Option Times)
   maybe_repetition = λ r. maybe (repetition text ts r)
+
+  abbrev pub maybe_wildcard : Rule (Option Marked)
+  maybe_wildcard = maybe (word ts WildcardWord)
+
+  -- values or sequences, by the size of the bins
+  abbrev pub listed : Size → Room → Rule Right
+  listed size = λ r. either (values text ts r) (allow (not (is_fixed size)) (map_to Trans (seqs text ts r)))
+
+  -- what stands behind "default"
+  abbrev pub default_end : Size → Rule (Option Marked)
+  default_end size = maybe (allow (is_scalar size) (word ts SequenceWord))
 
   abbrev pub conjunction : Room → Rule Sel
   conjunction = λ r. sand_in text ts r (sel_inner_at text ts r.operators r.levels)

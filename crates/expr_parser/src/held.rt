@@ -48,7 +48,7 @@ impl<T: Drop> Held<T> {
     }
 }
 
-/// A list of this part alone.
+/// A list of this part alone, or Memory.
 pub fn alone<T: Drop>(alloc: Global, part: Held<T>) -> Result<List<T>, Memory>
     ensures { IfOk result (λ list. list ≡ part ∷ []) }
 {
@@ -57,7 +57,7 @@ pub fn alone<T: Drop>(alloc: Global, part: Held<T>) -> Result<List<T>, Memory>
     Ok(list)
 }
 
-/// The part behind the others of the list.
+/// The part behind the others of the list, or Memory.
 pub fn add<T: Drop>(list: &mut List<T>, part: Held<T>) -> Result<(), Memory>
     ensures { OnOk result (list.new ≡ list.old ++ part ∷ []) }
 {

@@ -51,7 +51,7 @@ pub trait Item {
 }
 
 impl Reader<'_> {
-    /// Items with separators between them.
+    /// Items with separators between them, one at least.
     pub fn list<I: Item>(
         self,
         place: Place,
@@ -66,7 +66,7 @@ impl Reader<'_> {
         self.more(at, room, item, list)
     }
 
-    /// Further items with separators before them, put to these.
+    /// Further items with separators before them, put to these; where there is none, these alone.
     pub fn more<I: Item>(
         self,
         place: Place,

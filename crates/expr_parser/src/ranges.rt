@@ -92,7 +92,7 @@ impl Reader<'_> {
     }
 
     /// The values of bins: a list in braces that `with` may filter, or a name that it filters (19.5.1.1).
-    pub fn values(self, place: Place, room: Room) -> Result<(Held<Right>, Place), Stop>
+    pub(crate) fn values(self, place: Place, room: Room) -> Result<(Held<Right>, Place), Stop>
         ensures { Parses (over self.entry values) room place result }
     {
         let Some((_, next)) = self.take(place, &[Kind::OpenBrace]) else {
@@ -121,7 +121,7 @@ impl Reader<'_> {
     }
 
     /// An expression in the parentheses of a construct around it.
-    pub fn in_parens(self, place: Place, room: Room) -> Result<(Held<Expr>, Place), Stop>
+    pub(crate) fn in_parens(self, place: Place, room: Room) -> Result<(Held<Expr>, Place), Stop>
         ensures { Parses (over self.entry in_parens) room place result }
     {
         let (_, next) = self.word(place, Kind::OpenParen)?;

@@ -14,11 +14,14 @@ use cov_lexer::literal;
 use cov_tree::{Literal, Memory, Name};
 use std::alloc::Global;
 
-/// What never changes while a text is read.
+/// What never changes while a text is read. A reader of a part is passed the place where it stands, and the room where levels
+/// or operators count. It answers the part and the place behind it, or why reading stops: Syntax at the first token with
+/// which nothing goes on, TooDeep at the token that takes more room than there is, or Memory.
 #[derive(Clone, Copy)]
 pub struct Reader<'a> {
     /// What the tree's memory is taken from.
     pub alloc: Global,
+    /// The bytes of the text.
     pub text: &'a [u8],
     /// The tokens of the text, with their kinds.
     pub tokens: &'a [Marked],
@@ -47,7 +50,7 @@ impl<'a> Reader<'a> {
         ))
     }
 
-    /// The token at this place, which is of this kind, and the place behind it.
+    /// The token at this place, which is of this kind, and the place behind it; Syntax there where it is of another kind.
     pub fn word(self, place: Place, kind: Kind) -> Result<(Marked, Place), Stop>
         ensures { ParsesAlways (word self.entry.tokens.now kind) place result }
     {
@@ -87,14 +90,14 @@ impl<'a> Reader<'a> {
         Ok(Some((token, behind)))
     }
 
-    /// What the token spells.
+    /// What the token spells, as far as the text has its bytes.
     pub fn spelled(self, token: Marked) -> &'a [u8]
         ensures { result.now ≡ spelled self.entry.text.now token }
     {
         piece(self.text, token.at, token.len)
     }
 
-    /// The name at this place.
+    /// The name at this place (5.6), or Syntax there.
     pub fn ident(self, place: Place) -> Result<(Name, Place), Stop>
         ensures { ParsesAlways (over self.entry ident) place result }
     {
@@ -125,7 +128,7 @@ impl<'a> Reader<'a> {
         }
     }
 
-    /// The first byte of the token at this place.
+    /// The first byte of the token at this place; 0 behind the last one.
     pub fn start_at(self, at: usize) -> u32
         ensures { result ≡ offset self.entry.tokens.now at }
     {
@@ -137,7 +140,7 @@ impl<'a> Reader<'a> {
 }
 
 /// The bytes of the text from a place up to another, as far as it has them.
-pub fn between(text: &[u8], start: usize, end: usize) -> &[u8]
+pub(crate) fn between(text: &[u8], start: usize, end: usize) -> &[u8]
     ensures { result.now ≡ slice_range text.now start end }
 {
     let end = end.min(text.len());

@@ -14,7 +14,7 @@ use std::alloc::Global;
 
 impl Reader<'_> {
     /// A selection that stands in no other: its operators are counted by themselves.
-    pub fn selection(self, place: Place, room: Room) -> Result<(Held<Sel>, Place), Stop>
+    pub(crate) fn selection(self, place: Place, room: Room) -> Result<(Held<Sel>, Place), Stop>
         ensures { Parses (over self.entry sel) room place result }
     {
         let start = Place {

@@ -85,7 +85,11 @@ impl Item for StepList {
 impl Reader<'_> {
     /// Sequences with commas between them.
     #[tactic(auto, unfolding(cov_grammar::specs::Bins::seqs))]
-    pub fn sequences(self, place: Place, room: Room) -> Result<(List<List<Step>>, Place), Stop>
+    pub(crate) fn sequences(
+        self,
+        place: Place,
+        room: Room,
+    ) -> Result<(List<List<Step>>, Place), Stop>
         ensures { Parses (over self.entry seqs) room place result }
     {
         self.list(place, room, &SequenceList)

@@ -3,7 +3,8 @@ use Rattle.cov_lexer.specs.declared.kind.Kind.TheVariants.{Semi, OptionWord, Typ
 use Rattle.cov_grammar.proofs.Sets.{In_more}
 use Rattle.cov_grammar.proofs.Steps.{exits, one_next}
 use Rattle.cov_grammar.proofs.GroupLaws.{member_firsts, member_lawful}
-use Rattle.cov_parser.proofs.GroupWalks.{is_of, is_not_of, entry_falls}
+use Rattle.expr_parser.proofs.BodyWalks.{entry_falls}
+use Rattle.cov_parser.proofs.GroupWalks.{is_of, is_not_of}
 use Rattle.cov_parser.proofs.DesignWalks.{members_start, members_next, members_end, member_semi}
 use Rattle.cov_parser.proofs.CovergroupWalks.{other_kind, word_of, member_breaks, nothing_more}
 use Rattle.cov_parser.proofs.groups.members.Goals as goal
