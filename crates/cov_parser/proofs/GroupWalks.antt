@@ -8,7 +8,7 @@ use Rattle.cov_grammar.specs.declared.place.Place.{Place}
 use Rattle.cov_grammar.specs.declared.place.Room.{Room}
 use Rattle.cov_grammar.specs.declared.place.Stop.{Stop}
 use Rattle.cov_lexer.specs.Kinds.{has}
-use Rattle.cov_grammar.specs.Rule.{Rule, In, one, word, both, many, ahead, behind, maybe}
+use Rattle.cov_grammar.specs.Rule.{Rule, In, one, word, both, many, ahead, maybe}
 use Rattle.cov_grammar.specs.Parses.{Reads, Fails}
 use Rattle.cov_grammar.specs.Expressions.{pair, snoc, expr}
 use Rattle.cov_grammar.specs.Bins.{ident, guard, bins}

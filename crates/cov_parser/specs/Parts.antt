@@ -9,7 +9,6 @@ use Rattle.cov_grammar.specs.declared.marked.Marked.{Marked}
 use Rattle.cov_grammar.specs.declared.place.Room.{Room}
 use Rattle.cov_grammar.specs.Rule.{Rule, one, word, same_word, many, map_to, fold, ◌▸◌, ◌◂◌, maybe}
 use Rattle.cov_grammar.specs.Expressions.{snoc, expr, list_in}
-use Rattle.cov_grammar.specs.Bins.{ident}
 use Rattle.cov_grammar.specs.Groups.{label}
 use Rattle.cov_grammar.specs.Designs.{vector, arguments, argument_parens, edge}
 

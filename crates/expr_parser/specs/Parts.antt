@@ -14,7 +14,7 @@ use Rattle.cov_grammar.specs.declared.marked.Marked.{Marked}
 use Rattle.cov_grammar.specs.declared.place.Room.{Room}
 use Rattle.cov_grammar.specs.declared.place.Standing.{Standing}
 use Rattle.cov_grammar.specs.declared.place.Standing.TheVariants.{Plain}
-use Rattle.cov_grammar.specs.Rule.{Rule, one, word, counted, either, map_to, fold, ◌▸◌, ◌◂◌, allow, maybe}
+use Rattle.cov_grammar.specs.Rule.{Rule, word, counted, either, map_to, fold, ◌▸◌, ◌◂◌, allow, maybe}
 use Rattle.cov_grammar.specs.Expressions.{Inner, snoc, expr, part_expr, list_in, inner_at, index_in, primary_in, unary_in, binary_in}
 use Rattle.cov_grammar.specs.Bins.{ident, guard, elems, values, keep, step, seqs, repetition, is_scalar, is_fixed}
 use Rattle.cov_grammar.specs.Groups.{sel_inner_at, sand_in, sunary_in}
