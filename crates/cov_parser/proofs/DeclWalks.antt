@@ -25,7 +25,7 @@ use Rattle.cov_grammar.proofs.Steps.{Leads, leads_self, then, both_opens, one_he
 use Rattle.cov_grammar.proofs.ExprLaws.{expr_firsts}
 use Rattle.cov_grammar.proofs.BinsLaws.{ident_lawful}
 use Rattle.cov_grammar.proofs.DesignLaws.{vector_lawful, built_in_lawful, value_lawful, enum_names_lawful, enum_body_lawful, enum_rest_lawful, enum_decl_lawful, more_name_lawful, built_in_decl_lawful, expr_list_lawful, arguments_lawful, instance_rest_lawful, variables_rest_lawful, two_names_lawful, named_rest_lawful, named_decl_lawful, group_lawful}
-use Rattle.cov_parser.proofs.Chains.{chain_first, chain_fails}
+use Rattle.expr_parser.proofs.Chains.{chain_first, chain_fails}
 
 -- where a part stops at its beginning, it is left out
 pub maybe_stuck : {T : Type 0} {ts : List Marked} {A : Room → Rule T} (la : Lawful ts A) {d : Room} {p : Place} → Stops A d p p.at → Reads (λ e. maybe (A e)) d p None p

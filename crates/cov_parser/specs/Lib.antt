@@ -1,8 +1,3 @@
 pub mod Parse
 pub mod Told
-pub mod Operating
-pub mod Reading
 pub mod Parts
-pub mod Heads
-pub mod Listing
-pub mod Bodies

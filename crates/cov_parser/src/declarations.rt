@@ -10,20 +10,18 @@ ghost use Rattle.cov_grammar.specs.Designs.{enum_name, enum_names, enum_decl, bu
 ghost use Rattle.cov_grammar.proofs.Lawful.{lawful_word};
 ghost use Rattle.cov_grammar.proofs.ExprLaws.{expr_lawful};
 ghost use Rattle.cov_grammar.proofs.DesignLaws.{enum_name_lawful};
-ghost use Rattle.cov_parser.specs.Reading.{ParsesAlways, over};
+ghost use Rattle.expr_parser.specs.Reading.{ParsesAlways, over};
 ghost use Rattle.cov_parser.specs.Parts.{exprs, maybe_arguments, maybe_vector, more_names, name_list};
 
-use crate::held::{Held, add, alone};
-use crate::lists::{Item, NO_ROOM, put_last};
-use crate::reader::Reader;
 use cov_grammar::{Kind, Marked, Place, Room, Standing, Stop};
 use cov_tree::{Decl, Expr, List, Memory, Name, Shared, TypeText};
+use expr_parser::{Held, Item, NO_ROOM, Reader, add, alone, put_last};
 
 /// Arguments of an instance, with commas between them.
 #[derive(Drop)]
-struct Arguments;
+struct ArgumentList;
 
-impl Item for Arguments {
+impl Item for ArgumentList {
     type Tree = Expr;
 
     ghost Written = { Expr };
@@ -38,7 +36,7 @@ impl Item for Arguments {
         &[Kind::Comma]
     }
 
-    #[tactic(auto, using(crate::proofs::Chains::put_parses))]
+    #[tactic(auto, using(expr_parser::proofs::Chains::put_parses))]
     fn read(
         &self,
         reader: Reader<'_>,
@@ -54,9 +52,9 @@ impl Item for Arguments {
 
 /// Constants of an enumeration, with commas between them.
 #[derive(Drop)]
-struct Constants;
+struct ConstantList;
 
-impl Item for Constants {
+impl Item for ConstantList {
     type Tree = (Name, Option<Expr>);
 
     ghost Written = { List ℕ × Option Expr };
@@ -71,7 +69,7 @@ impl Item for Constants {
         &[Kind::Comma]
     }
 
-    #[tactic(auto, using(crate::proofs::Chains::put_parses))]
+    #[tactic(auto, using(expr_parser::proofs::Chains::put_parses))]
     fn read(
         &self,
         reader: Reader<'_>,
@@ -79,7 +77,7 @@ impl Item for Constants {
         room: Room,
         list: &mut List<(Name, Option<Expr>)>,
     ) -> Result<Place, Stop> {
-        put_last(list, reader.constant(place, room))
+        put_last(list, constant(reader, place, room))
     }
 
     ghost separable = { λ _ text ts. record { lawful = enum_name_lawful text ts; apart = refl } };
@@ -87,9 +85,9 @@ impl Item for Constants {
 
 /// Names of variables, with commas between them.
 #[derive(Drop)]
-struct Names;
+struct NameList;
 
-impl Item for Names {
+impl Item for NameList {
     type Tree = Marked;
 
     ghost Written = { Marked };
@@ -119,178 +117,213 @@ impl Item for Names {
     ghost separable = { λ _ text ts. record { lawful = lawful_word ts Ident; apart = refl } };
 }
 
-impl Reader<'_> {
-    /// Variables whose type has a word of its own.
-    pub(crate) fn variables(self, place: Place, room: Room) -> Result<(List<Decl>, Place), Stop>
-        ensures { Parses (over self.entry built_in_decl) room place result }
-    {
-        let (typ, at) = self.built_in(place, room)?;
-        let (names, after) = self.names(at)?;
-        let decls = self.typed(typ, names.as_slice())?;
-        Ok((decls, after))
-    }
+/// Variables whose type has a word of its own.
+pub(crate) fn variables(
+    reader: Reader<'_>,
+    place: Place,
+    room: Room,
+) -> Result<(List<Decl>, Place), Stop>
+    ensures { Parses (over reader.entry built_in_decl) room place result }
+{
+    let (typ, at) = reader.built_in(place, room)?;
+    let (names, after) = names(reader, at)?;
+    let decls = typed(reader, typ, names.as_slice())?;
+    Ok((decls, after))
+}
 
-    /// Names with commas between them, and a semicolon.
-    fn names(self, place: Place) -> Result<(List<Marked>, Place), Stop>
-        ensures { ParsesAlways (over self.entry name_list) place result }
-    {
-        let (first, at) = self.word(place, Kind::Ident)?;
-        let (names, at) = self.more_names(at, first)?;
-        let (_, after) = self.word(at, Kind::Semi)?;
-        Ok((names, after))
-    }
+/// Names with commas between them, and a semicolon.
+fn names(reader: Reader<'_>, place: Place) -> Result<(List<Marked>, Place), Stop>
+    ensures { ParsesAlways (over reader.entry name_list) place result }
+{
+    let (first, at) = reader.word(place, Kind::Ident)?;
+    let (names, at) = more_names(reader, at, first)?;
+    let (_, after) = reader.word(at, Kind::Semi)?;
+    Ok((names, after))
+}
 
-    /// Further names with commas before them, put to the first.
-    fn more_names(self, place: Place, first: Marked) -> Result<(List<Marked>, Place), Stop>
-        ensures { ParsesAlways (over self.entry more_names first) place result }
-    {
-        let names = alone(self.alloc, Held::of(first))?;
-        self.more(place, NO_ROOM, &Names, names)
-    }
+/// Further names with commas before them, put to the first.
+fn more_names(
+    reader: Reader<'_>,
+    place: Place,
+    first: Marked,
+) -> Result<(List<Marked>, Place), Stop>
+    ensures { ParsesAlways (over reader.entry more_names first) place result }
+{
+    let names = alone(reader.alloc, Held::of(first))?;
+    reader.more(place, NO_ROOM, &NameList, names)
+}
 
-    /// A variable of this type for each name.
-    fn typed(self, typ: Held<TypeText>, names: &[Marked]) -> Result<List<Decl>, Memory>
-        ensures { IfOk result (λ decls. decls ≡ variables self.entry.text.now typ names.now) }
-    {
-        let shared = Shared::of(self.alloc, typ.put())?;
-        let mut decls = List::new(self.alloc);
-        for token in names {
-            let decl = self.variable(&shared, *token)?;
-            add(&mut decls, decl)?;
-        }
-        Ok(decls)
+/// A variable of this type for each name.
+fn typed(reader: Reader<'_>, typ: Held<TypeText>, names: &[Marked]) -> Result<List<Decl>, Memory>
+    ensures { IfOk result (λ decls. decls ≡ variables reader.entry.text.now typ names.now) }
+{
+    let shared = Shared::of(reader.alloc, typ.put())?;
+    let mut decls = List::new(reader.alloc);
+    for token in names {
+        let decl = variable(reader, &shared, *token)?;
+        add(&mut decls, decl)?;
     }
+    Ok(decls)
+}
 
-    fn variable(self, shared: &Shared<TypeText>, token: Marked) -> Result<Held<Decl>, Memory>
-        ensures { IfOk result (λ decl.
-            decl ∷ [] ≡ variables self.entry.text.now shared.now (token ∷ [])) }
-    {
-        let name = self.name_of(token)?;
-        let typ = shared.share()?;
-        let at = token.at;
-        Ok(Held::of(Decl::Var { typ, name, at }))
-    }
+fn variable(
+    reader: Reader<'_>,
+    shared: &Shared<TypeText>,
+    token: Marked,
+) -> Result<Held<Decl>, Memory>
+    ensures { IfOk result (λ decl.
+        decl ∷ [] ≡ variables reader.entry.text.now shared.now (token ∷ [])) }
+{
+    let name = reader.name_of(token)?;
+    let typ = shared.share()?;
+    let at = token.at;
+    Ok(Held::of(Decl::Var { typ, name, at }))
+}
 
-    /// A variable for each name, of the type that this token names.
-    fn of_named_type(self, token: Marked, names: &[Marked]) -> Result<List<Decl>, Memory>
-        ensures { IfOk result (λ decls.
-            decls ≡
-            variables self.entry.text.now (named_type self.entry.text.now token) names.now) }
-    {
-        let name = self.name_of(token)?;
-        let at = token.at;
-        self.typed(Held::of(TypeText::Named { name, at }), names)
-    }
+/// A variable for each name, of the type that this token names.
+fn of_named_type(reader: Reader<'_>, token: Marked, names: &[Marked]) -> Result<List<Decl>, Memory>
+    ensures { IfOk result (λ decls.
+        decls ≡
+        variables reader.entry.text.now (named_type reader.entry.text.now token) names.now) }
+{
+    let name = reader.name_of(token)?;
+    let at = token.at;
+    typed(reader, Held::of(TypeText::Named { name, at }), names)
+}
 
-    /// An instance, or variables whose type is a name.
-    pub(crate) fn named(self, place: Place, room: Room) -> Result<(List<Decl>, Place), Stop>
-        ensures { Parses (over self.entry named_decl) room place result }
-    {
-        let (first, at) = self.word(place, Kind::Ident)?;
-        let (second, at) = self.word(at, Kind::Ident)?;
-        let Some((_, next)) = self.take(at, &[Kind::Assign]) else {
-            let (names, at) = self.more_names(at, second)?;
-            let (_, after) = self.word(at, Kind::Semi)?;
-            let decls = self.of_named_type(first, names.as_slice())?;
-            return Ok((decls, after));
-        };
-        let (_, made) = self.word(next, Kind::NewWord)?;
-        let (args, at) = self.maybe_arguments(made, room)?;
-        let (_, end) = self.word(at, Kind::Semi)?;
-        let instance = self.instance(first, second, args)?;
-        Ok((instance, end))
-    }
+/// An instance, or variables whose type is a name.
+pub(crate) fn named(
+    reader: Reader<'_>,
+    place: Place,
+    room: Room,
+) -> Result<(List<Decl>, Place), Stop>
+    ensures { Parses (over reader.entry named_decl) room place result }
+{
+    let (first, at) = reader.word(place, Kind::Ident)?;
+    let (second, at) = reader.word(at, Kind::Ident)?;
+    let Some((_, next)) = reader.take(at, &[Kind::Assign]) else {
+        let (names, at) = more_names(reader, at, second)?;
+        let (_, after) = reader.word(at, Kind::Semi)?;
+        let decls = of_named_type(reader, first, names.as_slice())?;
+        return Ok((decls, after));
+    };
+    let (_, made) = reader.word(next, Kind::NewWord)?;
+    let (args, at) = maybe_arguments(reader, made, room)?;
+    let (_, end) = reader.word(at, Kind::Semi)?;
+    let instance = instance(reader, first, second, args)?;
+    Ok((instance, end))
+}
 
-    /// An instance of the group `first` with the name `second`.
-    fn instance(self, first: Marked, second: Marked, args: List<Expr>) -> Result<List<Decl>, Memory>
-        ensures { IfOk result (λ decls.
-            decls ≡ instance_of self.entry.text.now (first, second) args) }
-    {
-        let group = self.name_of(first)?;
-        let name = self.name_of(second)?;
-        let at = first.at;
-        let instance = Held::of(Decl::Instance {
-            group,
-            name,
-            args,
-            at,
-        });
-        alone(self.alloc, instance)
-    }
+/// An instance of the group `first` with the name `second`.
+fn instance(
+    reader: Reader<'_>,
+    first: Marked,
+    second: Marked,
+    args: List<Expr>,
+) -> Result<List<Decl>, Memory>
+    ensures { IfOk result (λ decls.
+        decls ≡ instance_of reader.entry.text.now (first, second) args) }
+{
+    let group = reader.name_of(first)?;
+    let name = reader.name_of(second)?;
+    let at = first.at;
+    let instance = Held::of(Decl::Instance {
+        group,
+        name,
+        args,
+        at,
+    });
+    alone(reader.alloc, instance)
+}
 
-    /// Arguments in parentheses, or nothing; both none and empty parentheses give the empty list.
-    fn maybe_arguments(self, place: Place, room: Room) -> Result<(List<Expr>, Place), Stop>
-        ensures read { IfOk result (λ x. (a : _) ×
-            Reads (over self.entry maybe_arguments) room place a x.1 × (x.0 ≡ arguments_or a)) }
-        ensures fails { IfErr result (Fails (over self.entry maybe_arguments) room place) }
-    {
-        let Some((_, next)) = self.take(place, &[Kind::OpenParen]) else {
-            return Ok((List::new(self.alloc), place));
-        };
-        if let Some((_, after)) = self.take(next, &[Kind::CloseParen]) {
-            return Ok((List::new(self.alloc), after));
-        }
-        let (args, at) = self.exprs(next, room)?;
-        let (_, end) = self.word(at, Kind::CloseParen)?;
-        Ok((args, end))
+/// Arguments in parentheses, or nothing; both none and empty parentheses give the empty list.
+fn maybe_arguments(
+    reader: Reader<'_>,
+    place: Place,
+    room: Room,
+) -> Result<(List<Expr>, Place), Stop>
+    ensures read { IfOk result (λ x. (a : _) ×
+        Reads (over reader.entry maybe_arguments) room place a x.1 × (x.0 ≡ arguments_or a)) }
+    ensures fails { IfErr result (Fails (over reader.entry maybe_arguments) room place) }
+{
+    let Some((_, next)) = reader.take(place, &[Kind::OpenParen]) else {
+        return Ok((List::new(reader.alloc), place));
+    };
+    if let Some((_, after)) = reader.take(next, &[Kind::CloseParen]) {
+        return Ok((List::new(reader.alloc), after));
     }
+    let (args, at) = exprs(reader, next, room)?;
+    let (_, end) = reader.word(at, Kind::CloseParen)?;
+    Ok((args, end))
+}
 
-    /// Arguments with commas between them.
-    #[tactic(auto, unfolding(cov_grammar::specs::Expressions::list_in))]
-    fn exprs(self, place: Place, room: Room) -> Result<(List<Expr>, Place), Stop>
-        ensures { Parses (over self.entry exprs) room place result }
-    {
-        self.list(place, room, &Arguments)
-    }
+/// Arguments with commas between them.
+#[tactic(auto, unfolding(cov_grammar::specs::Expressions::list_in))]
+fn exprs(reader: Reader<'_>, place: Place, room: Room) -> Result<(List<Expr>, Place), Stop>
+    ensures { Parses (over reader.entry exprs) room place result }
+{
+    reader.list(place, room, &ArgumentList)
+}
 
-    /// An enumeration.
-    pub(crate) fn enumeration(self, place: Place, room: Room) -> Result<(List<Decl>, Place), Stop>
-        ensures { Parses (over self.entry enum_decl) room place result }
-    {
-        let (typedef, at) = self.word(place, Kind::TypedefWord)?;
-        let (_, typed) = self.word(at, Kind::EnumWord)?;
-        let (base, at) = self.maybe_vector(typed, room)?;
-        let (_, opened) = self.word(at, Kind::OpenBrace)?;
-        let (names, at) = self.constants(opened, room)?;
-        let (_, closed) = self.word(at, Kind::CloseBrace)?;
-        let (name, at) = self.ident(closed)?;
-        let (_, after) = self.word(at, Kind::Semi)?;
-        let enumeration = Held::of(Decl::Enum {
-            name,
-            base: base.put(),
-            names,
-            at: typedef.at,
-        });
-        Ok((alone(self.alloc, enumeration)?, after))
-    }
+/// An enumeration.
+pub(crate) fn enumeration(
+    reader: Reader<'_>,
+    place: Place,
+    room: Room,
+) -> Result<(List<Decl>, Place), Stop>
+    ensures { Parses (over reader.entry enum_decl) room place result }
+{
+    let (typedef, at) = reader.word(place, Kind::TypedefWord)?;
+    let (_, typed) = reader.word(at, Kind::EnumWord)?;
+    let (base, at) = maybe_vector(reader, typed, room)?;
+    let (_, opened) = reader.word(at, Kind::OpenBrace)?;
+    let (names, at) = constants(reader, opened, room)?;
+    let (_, closed) = reader.word(at, Kind::CloseBrace)?;
+    let (name, at) = reader.ident(closed)?;
+    let (_, after) = reader.word(at, Kind::Semi)?;
+    let enumeration = Held::of(Decl::Enum {
+        name,
+        base: base.put(),
+        names,
+        at: typedef.at,
+    });
+    Ok((alone(reader.alloc, enumeration)?, after))
+}
 
-    fn maybe_vector(self, place: Place, room: Room) -> Result<(Held<Option<TypeText>>, Place), Stop>
-        ensures { Parses (over self.entry maybe_vector) room place result }
-    {
-        let Some(_) = self.take(place, &[Kind::BitWord, Kind::LogicWord, Kind::RegWord]) else {
-            return Ok((Held::of(None), place));
-        };
-        let (base, after) = self.vector(place, room)?;
-        Ok((Held::of(Some(base.put())), after))
-    }
+fn maybe_vector(
+    reader: Reader<'_>,
+    place: Place,
+    room: Room,
+) -> Result<(Held<Option<TypeText>>, Place), Stop>
+    ensures { Parses (over reader.entry maybe_vector) room place result }
+{
+    let Some(_) = reader.take(place, &[Kind::BitWord, Kind::LogicWord, Kind::RegWord]) else {
+        return Ok((Held::of(None), place));
+    };
+    let (base, after) = reader.vector(place, room)?;
+    Ok((Held::of(Some(base.put())), after))
+}
 
-    /// Constants with commas between them.
-    #[tactic(auto, unfolding(cov_grammar::specs::Designs::enum_names))]
-    fn constants(
-        self,
-        place: Place,
-        room: Room,
-    ) -> Result<(List<(Name, Option<Expr>)>, Place), Stop>
-        ensures { Parses (over self.entry enum_names) room place result }
-    {
-        self.list(place, room, &Constants)
-    }
+/// Constants with commas between them.
+#[tactic(auto, unfolding(cov_grammar::specs::Designs::enum_names))]
+fn constants(
+    reader: Reader<'_>,
+    place: Place,
+    room: Room,
+) -> Result<(List<(Name, Option<Expr>)>, Place), Stop>
+    ensures { Parses (over reader.entry enum_names) room place result }
+{
+    reader.list(place, room, &ConstantList)
+}
 
-    fn constant(self, place: Place, room: Room) -> Result<(Held<(Name, Option<Expr>)>, Place), Stop>
-        ensures { Parses (over self.entry enum_name) room place result }
-    {
-        let (name, at) = self.ident(place)?;
-        let (value, after) = self.expr_behind(Kind::Assign, at, room)?;
-        Ok((Held::of((name, value.put())), after))
-    }
+fn constant(
+    reader: Reader<'_>,
+    place: Place,
+    room: Room,
+) -> Result<(Held<(Name, Option<Expr>)>, Place), Stop>
+    ensures { Parses (over reader.entry enum_name) room place result }
+{
+    let (name, at) = reader.ident(place)?;
+    let (value, after) = reader.expr_behind(Kind::Assign, at, room)?;
+    Ok((Held::of((name, value.put())), after))
 }

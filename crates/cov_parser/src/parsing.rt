@@ -9,14 +9,15 @@ ghost use Rattle.cov_grammar.specs.Fault.{DerivesWithin, Derives, IsCause, is_fo
 ghost use Rattle.cov_parser.specs.Parse.{place_of, IsParseFault};
 ghost use Rattle.cov_parser.specs.Told.{told};
 ghost use Rattle.cov_parser.specs.declared.fault.ParseFault.TheVariants.{Memory};
-ghost use Rattle.cov_parser.specs.Reading.{over};
+ghost use Rattle.expr_parser.specs.Reading.{over};
 
+use crate::declarations::{enumeration, named, variables};
 use crate::fault::ParseFault;
-use crate::marks::marks;
-use crate::reader::Reader;
+use crate::groups::group;
 use cov_grammar::{Kind, Place, Room, Stop};
 use cov_lexer::Token;
 use cov_tree::{Decl, DesignText, List};
+use expr_parser::{Reader, marks};
 use std::alloc::Global;
 
 /// What a text may use up.
@@ -51,90 +52,88 @@ pub fn parse(alloc: Global, text: &[u8], tokens: &[Token]) -> Result<DesignText,
         text,
         tokens: marked,
     };
-    match reader.design() {
+    match design(reader) {
         Ok(decls) => Ok(DesignText { decls }),
-        Err(stop) => Err(reader.fault(stop)),
+        Err(stop) => Err(fault(reader, stop)),
     }
 }
 
-impl Reader<'_> {
-    /// The declarations of the tokens, or where they have their fault.
-    fn design(self) -> Result<List<Decl>, Stop>
-        ensures read { IfOk result (λ decls.
-            DerivesWithin limits self.entry.text.now self.entry.tokens.now decls) }
-        ensures cause { IfErr result (λ stop.
-            IsCause limits self.entry.text.now self.entry.tokens.now stop) }
-    {
-        let mut decls = List::new(self.alloc);
-        let mut place = Place { at: 0, used: 0 };
-        while place.at < self.tokens.len() {
-            let (more, after) = self.declaration(place, LIMITS)?;
-            decls.append(more)?;
-            place = after;
-        }
-        Ok(decls)
+/// The declarations of the tokens, or where they have their fault.
+fn design(reader: Reader<'_>) -> Result<List<Decl>, Stop>
+    ensures read { IfOk result (λ decls.
+        DerivesWithin limits reader.entry.text.now reader.entry.tokens.now decls) }
+    ensures cause { IfErr result (λ stop.
+        IsCause limits reader.entry.text.now reader.entry.tokens.now stop) }
+{
+    let mut decls = List::new(reader.alloc);
+    let mut place = Place { at: 0, used: 0 };
+    while place.at < reader.tokens.len() {
+        let (more, after) = declaration(reader, place, LIMITS)?;
+        decls.append(more)?;
+        place = after;
     }
+    Ok(decls)
+}
 
-    /// A declaration.
-    fn declaration(self, place: Place, room: Room) -> Result<(List<Decl>, Place), Stop>
-        ensures { Parses (over self.entry decl) room place result }
-    {
-        if let Some(_) = self.take(place, &[Kind::TypedefWord]) {
-            return self.enumeration(place, room);
-        }
-        if let Some(_) = self.take(place, &[Kind::CovergroupWord]) {
-            return self.group(place, room);
-        }
-        if let Some(_) = self.take(place, &[Kind::Ident]) {
-            return self.named(place, room);
-        }
-        self.variables(place, room)
+/// A declaration.
+fn declaration(reader: Reader<'_>, place: Place, room: Room) -> Result<(List<Decl>, Place), Stop>
+    ensures { Parses (over reader.entry decl) room place result }
+{
+    if let Some(_) = reader.take(place, &[Kind::TypedefWord]) {
+        return enumeration(reader, place, room);
     }
+    if let Some(_) = reader.take(place, &[Kind::CovergroupWord]) {
+        return group(reader, place, room);
+    }
+    if let Some(_) = reader.take(place, &[Kind::Ident]) {
+        return named(reader, place, room);
+    }
+    variables(reader, place, room)
+}
 
-    /// The fault of the text, by what stopped its reading.
-    fn fault(self, stop: Stop) -> ParseFault
-        requires { length self.text.now ≤ longest_design }
-        ensures { result ≡ told self.entry.text.now self.entry.tokens.now stop }
-    {
-        match stop {
-            Stop::Memory => ParseFault::Memory,
-            Stop::TooDeep(k) => ParseFault::TooDeep {
-                at: self.byte_at(k),
-            },
-            Stop::Syntax(k) => {
-                let at = self.byte_at(k);
-                if self.is_foreign(k) {
-                    ParseFault::NotSupported { at }
-                } else {
-                    ParseFault::Syntax { at }
-                }
+/// The fault of the text, by what stopped its reading.
+fn fault(reader: Reader<'_>, stop: Stop) -> ParseFault
+    requires { length reader.text.now ≤ longest_design }
+    ensures { result ≡ told reader.entry.text.now reader.entry.tokens.now stop }
+{
+    match stop {
+        Stop::Memory => ParseFault::Memory,
+        Stop::TooDeep(k) => ParseFault::TooDeep {
+            at: byte_at(reader, k),
+        },
+        Stop::Syntax(k) => {
+            let at = byte_at(reader, k);
+            if is_foreign(reader, k) {
+                ParseFault::NotSupported { at }
+            } else {
+                ParseFault::Syntax { at }
             }
         }
     }
+}
 
-    /// The byte at which token k begins, or the text's length where there is none.
-    fn byte_at(self, k: usize) -> u32
-        requires { length self.text.now ≤ longest_design }
-        ensures { result ≡ place_of self.entry.text.now self.entry.tokens.now k }
-    {
-        match self.tokens.get(k) {
-            Some(token) => token.at,
-            None => self.text.len() as u32,
-        }
+/// The byte at which token k begins, or the text's length where there is none.
+fn byte_at(reader: Reader<'_>, k: usize) -> u32
+    requires { length reader.text.now ≤ longest_design }
+    ensures { result ≡ place_of reader.entry.text.now reader.entry.tokens.now k }
+{
+    match reader.tokens.get(k) {
+        Some(token) => token.at,
+        None => reader.text.len() as u32,
     }
+}
 
-    /// Whether the token is one that SystemVerilog has and a design text hasn't.
-    fn is_foreign(self, k: usize) -> bool
-        ensures { result ≡ is_foreign self.entry.tokens.now k }
-    {
-        match self.tokens.get(k) {
-            Some(token) => token.kind.is_one_of(&[
-                Kind::System,
-                Kind::NotSupported,
-                Kind::OtherWord,
-                Kind::WithWord,
-            ]),
-            None => false,
-        }
+/// Whether the token is one that SystemVerilog has and a design text hasn't.
+fn is_foreign(reader: Reader<'_>, k: usize) -> bool
+    ensures { result ≡ is_foreign reader.entry.tokens.now k }
+{
+    match reader.tokens.get(k) {
+        Some(token) => token.kind.is_one_of(&[
+            Kind::System,
+            Kind::NotSupported,
+            Kind::OtherWord,
+            Kind::WithWord,
+        ]),
+        None => false,
     }
 }

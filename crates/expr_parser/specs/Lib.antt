@@ -1,0 +1,6 @@
+pub mod Operating
+pub mod Reading
+pub mod Parts
+pub mod Heads
+pub mod Listing
+pub mod Bodies
