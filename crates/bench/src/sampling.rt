@@ -5,16 +5,18 @@
 //! The words: `plan` works the tables out of the design, `decode` decodes the record, `count` counts by ready tables,
 //! `threads` does so in threads, and `whole` does all of it once more, the design text aside.
 
+use crate::answers::Found;
+use crate::words::{bytes_at, number_at, text_at};
+use cov_base::Memory;
 use cov_compile::compile;
 use design_data::Design;
 use record_codec::{Record, decode};
 use sampler::{Plan, bin_record, counts_under};
 use sampler_threads::counts_par_under;
 use std::alloc::Global;
-use std::io::Print;
 use std::rt::Files;
 use std::thread::Threads;
-use std::{fs, io};
+use tally::Tally;
 
 /// The most bytes of a design text.
 const LONGEST_DESIGN: usize = 1_048_576;
@@ -31,31 +33,55 @@ fn sum_of(counts: &[u64]) -> u64 {
     sum
 }
 
-fn plans(alloc: Global, design: &Design, rounds: u32) -> Option<u64> {
-    for _ in 0..rounds {
-        Plan::of(alloc, design).ok()?;
+/// The sum of counts, if there are any.
+fn sum_if(counts: Result<Vec<u64>, Memory>) -> Option<u64> {
+    match counts {
+        Ok(counts) => Some(sum_of(&counts)),
+        Err(_) => None,
     }
-    Some(0)
+}
+
+/// How many bins a tally has counts of.
+fn rows_of(tally: Result<Tally, Memory>) -> Option<u64> {
+    match tally {
+        Ok(tally) => Some(tally.rows().len() as u64),
+        Err(_) => None,
+    }
+}
+
+/// No sum, where all rounds are done.
+fn none_if(done: bool) -> Option<u64> {
+    if done { Some(0) } else { None }
+}
+
+fn plans(alloc: Global, design: &Design, rounds: u32) -> Option<u64> {
+    let mut done = true;
+    for _ in 0..rounds {
+        done &= Plan::of(alloc, design).is_ok();
+    }
+    none_if(done)
 }
 
 fn decoded(alloc: Global, bytes: &[u8], rounds: u32) -> Option<u64> {
     if bytes.len() > MOST {
         return None;
     }
+    let mut done = true;
     for _ in 0..rounds {
-        decode(alloc, bytes).ok()?;
+        done &= decode(alloc, bytes).is_ok();
     }
-    Some(0)
+    none_if(done)
 }
 
 fn counted(alloc: Global, design: &Design, rec: &Record, rounds: u32) -> Option<u64> {
-    let plan = Plan::of(alloc, design).ok()?;
-    let mut sum = 0;
+    let Ok(plan) = Plan::of(alloc, design) else {
+        return None;
+    };
+    let mut sum = Some(0);
     for _ in 0..rounds {
-        let counts = counts_under(alloc, &plan, design, rec).ok()?;
-        sum = sum_of(counts.as_slice());
+        sum = sum_if(counts_under(alloc, &plan, design, rec));
     }
-    Some(sum)
+    sum
 }
 
 fn counted_in_threads<R: Threads + Sync>(
@@ -65,26 +91,56 @@ fn counted_in_threads<R: Threads + Sync>(
     rec: &Record,
     rounds: u32,
 ) -> Option<u64> {
-    let plan = Plan::of(alloc, design).ok()?;
-    let mut sum = 0;
+    let Ok(plan) = Plan::of(alloc, design) else {
+        return None;
+    };
+    let mut sum = Some(0);
     for _ in 0..rounds {
-        let counts = counts_par_under(rt, alloc, &plan, design, rec).ok()?;
-        sum = sum_of(counts.as_slice());
+        sum = sum_if(counts_par_under(rt, alloc, &plan, design, rec));
     }
-    Some(sum)
+    sum
 }
 
-fn whole(alloc: Global, design: &Design, bytes: &[u8], rounds: u32) -> Option<u64> {
+fn whole(alloc: Global, design: &Design, bytes: &[u8]) -> Option<u64> {
     if bytes.len() > MOST {
         return None;
     }
-    let mut rows = 0;
-    for _ in 0..rounds {
-        let rec = decode(alloc, bytes).ok()?;
-        let tally = bin_record(alloc, design, &rec).ok()?;
-        rows = tally.rows().len() as u64;
+    match decode(alloc, bytes) {
+        Ok(rec) => rows_of(bin_record(alloc, design, &rec)),
+        Err(_) => None,
     }
-    Some(rows)
+}
+
+fn whole_often(alloc: Global, design: &Design, bytes: &[u8], rounds: u32) -> Option<u64> {
+    let mut rows = Some(0);
+    for _ in 0..rounds {
+        rows = whole(alloc, design, bytes);
+    }
+    rows
+}
+
+/// The record of the bytes.
+fn record_of(alloc: Global, bytes: &[u8]) -> Option<Record> {
+    if bytes.len() > MOST {
+        return None;
+    }
+    decode(alloc, bytes).ok()
+}
+
+/// Counts the record of the bytes, in threads or not.
+fn record_counted<R: Threads + Sync>(
+    rt: &R,
+    alloc: Global,
+    design: &Design,
+    bytes: &[u8],
+    in_threads: bool,
+    rounds: u32,
+) -> Option<u64> {
+    match record_of(alloc, bytes) {
+        Some(rec) if in_threads => counted_in_threads(rt, alloc, design, &rec, rounds),
+        Some(rec) => counted(alloc, design, &rec, rounds),
+        None => None,
+    }
 }
 
 fn work<R: Threads + Sync>(
@@ -95,48 +151,60 @@ fn work<R: Threads + Sync>(
     word: &str,
     rounds: u32,
 ) -> Option<u64> {
-    if bytes.len() > MOST {
-        return None;
-    }
-    let rec = decode(alloc, bytes).ok()?;
     match word {
         "plan" => plans(alloc, design, rounds),
         "decode" => decoded(alloc, bytes, rounds),
-        "count" => counted(alloc, design, &rec, rounds),
-        "threads" => counted_in_threads(rt, alloc, design, &rec, rounds),
-        "whole" => whole(alloc, design, bytes, rounds),
+        "count" => record_counted(rt, alloc, design, bytes, false, rounds),
+        "threads" => record_counted(rt, alloc, design, bytes, true, rounds),
+        "whole" => whole_often(alloc, design, bytes, rounds),
         _ => None,
     }
 }
 
-fn compiled(alloc: Global, text: &[u8]) -> Option<Design> {
+/// The design that a text declares.
+fn design_of(alloc: Global, text: &[u8]) -> Option<Design> {
     if text.len() > LONGEST_DESIGN {
         return None;
     }
     compile(alloc, text).ok()
 }
 
-/// What the words name.
-fn measured<R: Threads + Sync + Files + AllocGlobal>(
+/// What the words behind the files name, done under a design.
+fn done<R: Threads + Sync>(
     rt: &R,
+    alloc: Global,
+    design: &Design,
+    bytes: &[u8],
     words: &[String],
-) -> Option<(u32, u64)> {
-    let text = fs::read(rt, words.first()?.as_str()).ok()?;
-    let bytes = fs::read(rt, words.get(1)?.as_str()).ok()?;
-    let word = words.get(2)?.as_str();
-    let rounds: u32 = words.get(3)?.parse().ok()?;
-    let alloc = rt.alloc();
-    let design = compiled(alloc, text.as_slice())?;
-    let sum = work(rt, alloc, &design, bytes.as_slice(), word, rounds)?;
-    Some((design.bin_count(), sum))
+) -> Option<Found> {
+    let rounds = number_at(words, 3)?;
+    let sum = work(rt, alloc, design, bytes, text_at(words, 2), rounds)?;
+    Some(Found::Two(u64::from(design.bin_count()), sum))
 }
 
-pub(crate) fn show<R: Threads + Sync + Files + Print + AllocGlobal>(
+/// The same, under the design of a text.
+fn done_under<R: Threads + Sync>(
+    rt: &R,
+    alloc: Global,
+    text: &[u8],
+    bytes: &[u8],
+    words: &[String],
+) -> Option<Found> {
+    match design_of(alloc, text) {
+        Some(design) => done(rt, alloc, &design, bytes, words),
+        None => None,
+    }
+}
+
+pub(crate) fn measured<R: Threads + Sync + Files + AllocGlobal>(
     rt: &R,
     words: &[String],
-) -> io::Result<()> {
-    match measured(rt, words) {
-        Some((bins, sum)) => println!(rt; "{bins} {sum}"),
-        None => println!(rt; "sampling DESIGN RECORD WORD ROUNDS"),
+) -> Option<Found> {
+    if let Some(text) = bytes_at(rt, words, 0)
+        && let Some(bytes) = bytes_at(rt, words, 1)
+    {
+        done_under(rt, rt.alloc(), &text, &bytes, words)
+    } else {
+        None
     }
 }
