@@ -131,6 +131,11 @@ fn number(width: u8, signed: bool, bits: u64) -> Expr {
     Expr::Num { lit, at: 0 }
 }
 
+/// Keeps an expression.
+fn keep(made: &mut Vec<Expr>, expr: Expr) {
+    let _ = made.push(expr);
+}
+
 /// The name of one letter, or one of none where memory ran out.
 fn name_of(alloc: Global, letter: u8) -> Name {
     Name::of(alloc, &[letter]).unwrap_or(Name::empty())
@@ -151,26 +156,26 @@ fn last(alloc: Global, made: &mut Vec<Expr>) -> Option<Boxed<Expr>> {
 
 fn push_name(alloc: Global, made: &mut Vec<Expr>, letter: u8) {
     let name = name_of(alloc, letter);
-    let _ = made.push(Expr::Name { name, at: 0 });
+    keep(made, Expr::Name { name, at: 0 });
 }
 
 fn push_part(alloc: Global, made: &mut Vec<Expr>, letter: u8, high: u64, low: u64) {
     if let Some(high) = place(alloc, high)
         && let Some(low) = place(alloc, low)
     {
-        let name = name_of(alloc, letter);
-        let _ = made.push(Expr::Part {
-            name,
+        let part = Expr::Part {
+            name: name_of(alloc, letter),
             high,
             low,
             at: 0,
-        });
+        };
+        keep(made, part);
     }
 }
 
 fn push_unary(alloc: Global, made: &mut Vec<Expr>, op: UnOp) {
     if let Some(arg) = last(alloc, made) {
-        let _ = made.push(Expr::Unary { op, arg, at: 0 });
+        keep(made, Expr::Unary { op, arg, at: 0 });
     }
 }
 
@@ -178,12 +183,13 @@ fn push_binary(alloc: Global, made: &mut Vec<Expr>, op: BinOp) {
     if let Some(right) = last(alloc, made)
         && let Some(left) = last(alloc, made)
     {
-        let _ = made.push(Expr::Binary {
+        let both = Expr::Binary {
             op,
             left,
             right,
             at: 0,
-        });
+        };
+        keep(made, both);
     }
 }
 
@@ -192,19 +198,20 @@ fn push_choice(alloc: Global, made: &mut Vec<Expr>) {
         && let Some(yes) = last(alloc, made)
         && let Some(test) = last(alloc, made)
     {
-        let _ = made.push(Expr::Cond {
+        let choice = Expr::Cond {
             test,
             yes,
             no,
             at: 0,
-        });
+        };
+        keep(made, choice);
     }
 }
 
 /// Moves the expression that was made last.
 fn move_last(made: &mut Vec<Expr>, parts: &mut Vec<Expr>) {
     if let Some(part) = made.pop() {
-        let _ = parts.push(part);
+        keep(parts, part);
     }
 }
 
@@ -215,18 +222,14 @@ fn push_concat(alloc: Global, made: &mut Vec<Expr>) {
     parts.reverse();
     if parts.len() == 2 {
         let parts = List::of(parts);
-        let _ = made.push(Expr::Concat { parts, at: 0 });
+        keep(made, Expr::Concat { parts, at: 0 });
     }
-}
-
-fn push_number(made: &mut Vec<Expr>, width: u8, signed: bool, bits: u64) {
-    let _ = made.push(number(width, signed, bits));
 }
 
 /// Takes a step. Where it can't be taken, fewer expressions are left, and in the end none.
 fn take_step(alloc: Global, made: &mut Vec<Expr>, step: Step) {
     match step {
-        Step::Num(width, signed, bits) => push_number(made, width, signed, bits),
+        Step::Num(width, signed, bits) => keep(made, number(width, signed, bits)),
         Step::Name(letter) => push_name(alloc, made, letter),
         Step::Part(letter, high, low) => push_part(alloc, made, letter, high, low),
         Step::Unary(op) => push_unary(alloc, made, op),
@@ -236,18 +239,20 @@ fn take_step(alloc: Global, made: &mut Vec<Expr>, step: Step) {
     }
 }
 
-/// The expression of some steps.
-fn expr_of(alloc: Global, steps: &[Step]) -> Option<Expr> {
+/// The expression of some steps, alone.
+fn made_by(alloc: Global, steps: &[Step]) -> Vec<Expr> {
     let mut made = Vec::new(alloc);
     for step in steps {
         take_step(alloc, &mut made, *step);
     }
-    made.pop()
+    made
 }
 
-/// Adds an expression with its names bound.
-fn add_bound(alloc: Global, scope: &Scope, all: &mut Vec<Bound>, expr: &Expr) {
-    if let Ok(bound) = bind(alloc, expr, scope) {
+/// Adds an expression with its names bound, if there is one alone.
+fn add_bound(alloc: Global, scope: &Scope, all: &mut Vec<Bound>, made: &[Expr]) {
+    if let [expr] = made
+        && let Ok(bound) = bind(alloc, expr, scope)
+    {
         let _ = all.push(bound);
     }
 }
@@ -256,9 +261,7 @@ fn add_bound(alloc: Global, scope: &Scope, all: &mut Vec<Bound>, expr: &Expr) {
 fn bounds(alloc: Global, scope: &Scope, rows: &[&[Step]]) -> Vec<Bound> {
     let mut all = Vec::new(alloc);
     for steps in rows {
-        if let Some(expr) = expr_of(alloc, steps) {
-            add_bound(alloc, scope, &mut all, &expr);
-        }
+        add_bound(alloc, scope, &mut all, &made_by(alloc, steps));
     }
     all
 }

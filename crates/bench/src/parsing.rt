@@ -1,29 +1,21 @@
 //! A design text of a file: `parsing FILE LEXES PARSES` lexes the file and parses its tokens that many times, and prints
 //! how many tokens and how many declarations it has.
-ghost use Rattle.std.specs.Prelude.{◌≤◌, length};
-ghost use Rattle.cov_ground.specs.Limits.{longest_design};
-ghost use Rattle.cov_lexer.specs.Lexes.{Lexes};
 
 use crate::answers::Found;
 use crate::words::{bytes_at, number_at};
-use cov_lexer::{Token, lex};
-use cov_parser::parse;
+use cov_lexer::lex;
+use cov_parser::{ParseFault, parse};
+use cov_tree::DesignText;
 use std::alloc::Global;
 use std::rt::Files;
 
 /// The most bytes of a design text.
 const MOST: usize = 1_048_576;
 
-/// The counts of a text's tokens, which are parsed once.
-fn parsed(alloc: Global, text: &[u8], tokens: &[Token]) -> Option<Found>
-    requires short { length text.now ≤ longest_design }
-    requires tokens { Lexes text.now tokens.now }
-{
-    match parse(alloc, text, tokens) {
-        Ok(design) => {
-            let decls = design.decls.as_slice().len() as u64;
-            Some(Found::Tree(tokens.len() as u64, decls))
-        }
+/// The counts of so many tokens with their tree.
+fn counts_of(tokens: usize, tree: Result<DesignText, ParseFault>) -> Option<Found> {
+    match tree {
+        Ok(tree) => Some(Found::Tree(tokens as u64, tree.decls.as_slice().len() as u64)),
         Err(_) => None,
     }
 }
@@ -40,14 +32,11 @@ fn counted(alloc: Global, text: &[u8], lexes: u32, parses: u32) -> Option<Found>
     let Ok(tokens) = lex(alloc, text) else {
         return None;
     };
-    for _ in 1..parses {
-        done &= parse(alloc, text, &tokens).is_ok();
+    let mut found = None;
+    for _ in 0..parses.max(1) {
+        found = counts_of(tokens.len(), parse(alloc, text, &tokens));
     }
-    if done {
-        parsed(alloc, text, &tokens)
-    } else {
-        None
-    }
+    if done { found } else { None }
 }
 
 pub(crate) fn measured<R: Files + AllocGlobal>(rt: &R, words: &[String]) -> Option<Found> {

@@ -23,22 +23,28 @@ fn written(alloc: Global, record: &Record, writes: u32) -> Option<Found> {
     }
 }
 
-/// Decodes the bytes so many times, and once more to encode their record so many times: how many events it has. None
-/// where the bytes are no record, or too many.
-fn read(alloc: Global, bytes: &[u8], reads: u32, writes: u32) -> Option<Found> {
+/// Decodes the bytes, and encodes their record so many times: how many events it has. None where the bytes are no record,
+/// or too many.
+fn decoded(alloc: Global, bytes: &[u8], writes: u32) -> Option<Found> {
     if bytes.len() > MOST {
-        return None;
-    }
-    let mut done = true;
-    for _ in 0..reads {
-        done &= decode(alloc, bytes).is_ok();
-    }
-    if !done {
         return None;
     }
     match decode(alloc, bytes) {
         Ok(record) => written(alloc, &record, writes),
         Err(_) => None,
+    }
+}
+
+/// The same, where the bytes are decoded so many times before.
+fn read(alloc: Global, bytes: &[u8], reads: u32, writes: u32) -> Option<Found> {
+    let mut done = true;
+    for _ in 0..reads {
+        done &= decoded(alloc, bytes, 0).is_some();
+    }
+    if done {
+        decoded(alloc, bytes, writes)
+    } else {
+        None
     }
 }
 
