@@ -106,12 +106,12 @@ fn done(alloc: Global, text: &[u8], bytes: &[u8], words: &[String]) -> Option<Fo
     if bytes.len() > LONGEST_DUMP {
         return None;
     }
-    match (number_at(words, 3), number_at(words, 4)) {
-        (Some(reads), Some(records)) if is_read(alloc, bytes, reads) => {
-            recorded(alloc, text, bytes, text_at(words, 2).as_bytes(), records)
-        }
-        _ => None,
+    let reads = number_at(words, 3)?;
+    let records = number_at(words, 4)?;
+    if !is_read(alloc, bytes, reads) {
+        return None;
     }
+    recorded(alloc, text, bytes, text_at(words, 2).as_bytes(), records)
 }
 
 pub(crate) fn measured<R: Files + AllocGlobal>(rt: &R, words: &[String]) -> Option<Found> {

@@ -49,28 +49,12 @@ fn rows_of(tally: Result<Tally, Memory>) -> Option<u64> {
     }
 }
 
-/// No sum, where all rounds are done.
-fn none_if(done: bool) -> Option<u64> {
-    if done { Some(0) } else { None }
-}
-
 fn plans(alloc: Global, design: &Design, rounds: u32) -> Option<u64> {
     let mut done = true;
     for _ in 0..rounds {
         done &= Plan::of(alloc, design).is_ok();
     }
-    none_if(done)
-}
-
-fn decoded(alloc: Global, bytes: &[u8], rounds: u32) -> Option<u64> {
-    if bytes.len() > MOST {
-        return None;
-    }
-    let mut done = true;
-    for _ in 0..rounds {
-        done &= decode(alloc, bytes).is_ok();
-    }
-    none_if(done)
+    if done { Some(0) } else { None }
 }
 
 fn counted(alloc: Global, design: &Design, rec: &Record, rounds: u32) -> Option<u64> {
@@ -101,46 +85,55 @@ fn counted_in_threads<R: Threads + Sync>(
     sum
 }
 
-fn whole(alloc: Global, design: &Design, bytes: &[u8]) -> Option<u64> {
-    if bytes.len() > MOST {
-        return None;
-    }
-    match decode(alloc, bytes) {
-        Ok(rec) => rows_of(bin_record(alloc, design, &rec)),
-        Err(_) => None,
+/// What the word says, done with a record.
+fn done_with<R: Threads + Sync>(
+    rt: &R,
+    alloc: Global,
+    design: &Design,
+    rec: &Record,
+    word: &str,
+    rounds: u32,
+) -> Option<u64> {
+    match word {
+        "count" => counted(alloc, design, rec, rounds),
+        "threads" => counted_in_threads(rt, alloc, design, rec, rounds),
+        "whole" => rows_of(bin_record(alloc, design, rec)),
+        _ => Some(0),
     }
 }
 
-fn whole_often(alloc: Global, design: &Design, bytes: &[u8], rounds: u32) -> Option<u64> {
-    let mut rows = Some(0);
-    for _ in 0..rounds {
-        rows = whole(alloc, design, bytes);
-    }
-    rows
-}
-
-/// The record of the bytes.
-fn record_of(alloc: Global, bytes: &[u8]) -> Option<Record> {
-    if bytes.len() > MOST {
-        return None;
-    }
-    decode(alloc, bytes).ok()
-}
-
-/// Counts the record of the bytes, in threads or not.
-fn record_counted<R: Threads + Sync>(
+/// The same, with the record of the bytes.
+fn decoded<R: Threads + Sync>(
     rt: &R,
     alloc: Global,
     design: &Design,
     bytes: &[u8],
-    in_threads: bool,
+    word: &str,
     rounds: u32,
 ) -> Option<u64> {
-    match record_of(alloc, bytes) {
-        Some(rec) if in_threads => counted_in_threads(rt, alloc, design, &rec, rounds),
-        Some(rec) => counted(alloc, design, &rec, rounds),
-        None => None,
+    if bytes.len() > MOST {
+        return None;
     }
+    match decode(alloc, bytes) {
+        Ok(rec) => done_with(rt, alloc, design, &rec, word, rounds),
+        Err(_) => None,
+    }
+}
+
+/// The same, so many times, with the record decoded each time.
+fn decoded_often<R: Threads + Sync>(
+    rt: &R,
+    alloc: Global,
+    design: &Design,
+    bytes: &[u8],
+    word: &str,
+    rounds: u32,
+) -> Option<u64> {
+    let mut found = Some(0);
+    for _ in 0..rounds {
+        found = decoded(rt, alloc, design, bytes, word, 1);
+    }
+    found
 }
 
 fn work<R: Threads + Sync>(
@@ -153,10 +146,8 @@ fn work<R: Threads + Sync>(
 ) -> Option<u64> {
     match word {
         "plan" => plans(alloc, design, rounds),
-        "decode" => decoded(alloc, bytes, rounds),
-        "count" => record_counted(rt, alloc, design, bytes, false, rounds),
-        "threads" => record_counted(rt, alloc, design, bytes, true, rounds),
-        "whole" => whole_often(alloc, design, bytes, rounds),
+        "count" | "threads" => decoded(rt, alloc, design, bytes, word, rounds),
+        "decode" | "whole" => decoded_often(rt, alloc, design, bytes, word, rounds),
         _ => None,
     }
 }
