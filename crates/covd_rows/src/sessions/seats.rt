@@ -7,7 +7,7 @@ ghost use Rattle.cov_server.specs.Shares.{HasSeat};
 use crate::sessions::Table;
 use crate::sessions::replies::show_caller;
 use crate::sessions::runs::design_of;
-use crate::sessions::words::{number_of, say, take};
+use crate::words::{number_of, say, take};
 use cov_base::{MemDoor, MemLink, OpenGate, SureLink};
 use cov_server::{Shared, serve_connection, serve_rounds};
 use cov_session::Ended;
