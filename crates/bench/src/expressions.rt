@@ -133,7 +133,7 @@ fn number(width: u8, signed: bool, bits: u64) -> Expr {
 
 /// Keeps an expression.
 fn keep(made: &mut Vec<Expr>, expr: Expr) {
-    let _ = made.push(expr);
+    let _ = made.push(expr).ok();
 }
 
 /// The name of one letter, or one of none where memory ran out.
