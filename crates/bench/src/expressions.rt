@@ -1,14 +1,14 @@
 //! Values of expressions: `expressions ROWS` evaluates three guards on so many rows of signals, and behind each guard that
 //! is true a point. It prints a checksum of the values, and how many evaluations there were.
 
+use crate::answers::Found;
 use crate::random::after;
+use crate::words::number_at;
 use bit_width::Width;
 use const_eval::{Bound, Meaning, Scope, Typ, bind, eval};
 use cov_base::Int;
 use cov_tree::{BinOp, Boxed, Expr, List, Literal, Name, UnOp};
 use std::alloc::Global;
-use std::io;
-use std::io::Print;
 
 /// The values so far, and how many evaluations they took.
 #[derive(Clone, Copy)]
@@ -131,71 +131,105 @@ fn number(width: u8, signed: bool, bits: u64) -> Expr {
     Expr::Num { lit, at: 0 }
 }
 
+/// Keeps an expression.
+fn keep(made: &mut Vec<Expr>, expr: Expr) {
+    let _ = made.push(expr).ok();
+}
+
+/// The name of one letter, or one of none where memory ran out.
+fn name_of(alloc: Global, letter: u8) -> Name {
+    Name::of(alloc, &[letter]).unwrap_or(Name::empty())
+}
+
+/// The bits of a place, in a box.
+fn place(alloc: Global, bits: u64) -> Option<Boxed<Expr>> {
+    Boxed::of(alloc, number(32, true, bits)).ok()
+}
+
 /// The expression that was made last, in a box.
 fn last(alloc: Global, made: &mut Vec<Expr>) -> Option<Boxed<Expr>> {
-    Boxed::of(alloc, made.pop()?).ok()
+    match made.pop() {
+        Some(expr) => Boxed::of(alloc, expr).ok(),
+        None => None,
+    }
 }
 
-fn push_name(alloc: Global, made: &mut Vec<Expr>, letter: u8) -> Option<()> {
-    let name = Name::of(alloc, &[letter]).ok()?;
-    made.push(Expr::Name { name, at: 0 }).ok()
+fn push_name(alloc: Global, made: &mut Vec<Expr>, letter: u8) {
+    let name = name_of(alloc, letter);
+    keep(made, Expr::Name { name, at: 0 });
 }
 
-fn push_part(alloc: Global, made: &mut Vec<Expr>, letter: u8, high: u64, low: u64) -> Option<()> {
-    let name = Name::of(alloc, &[letter]).ok()?;
-    let high = Boxed::of(alloc, number(32, true, high)).ok()?;
-    let low = Boxed::of(alloc, number(32, true, low)).ok()?;
-    let part = Expr::Part {
-        name,
-        high,
-        low,
-        at: 0,
-    };
-    made.push(part).ok()
+fn push_part(alloc: Global, made: &mut Vec<Expr>, letter: u8, high: u64, low: u64) {
+    if let Some(high) = place(alloc, high)
+        && let Some(low) = place(alloc, low)
+    {
+        let part = Expr::Part {
+            name: name_of(alloc, letter),
+            high,
+            low,
+            at: 0,
+        };
+        keep(made, part);
+    }
 }
 
-fn push_unary(alloc: Global, made: &mut Vec<Expr>, op: UnOp) -> Option<()> {
-    let arg = last(alloc, made)?;
-    made.push(Expr::Unary { op, arg, at: 0 }).ok()
+fn push_unary(alloc: Global, made: &mut Vec<Expr>, op: UnOp) {
+    if let Some(arg) = last(alloc, made) {
+        keep(made, Expr::Unary { op, arg, at: 0 });
+    }
 }
 
-fn push_binary(alloc: Global, made: &mut Vec<Expr>, op: BinOp) -> Option<()> {
-    let right = last(alloc, made)?;
-    let left = last(alloc, made)?;
-    let both = Expr::Binary {
-        op,
-        left,
-        right,
-        at: 0,
-    };
-    made.push(both).ok()
+fn push_binary(alloc: Global, made: &mut Vec<Expr>, op: BinOp) {
+    if let Some(right) = last(alloc, made)
+        && let Some(left) = last(alloc, made)
+    {
+        let both = Expr::Binary {
+            op,
+            left,
+            right,
+            at: 0,
+        };
+        keep(made, both);
+    }
 }
 
-fn push_choice(alloc: Global, made: &mut Vec<Expr>) -> Option<()> {
-    let no = last(alloc, made)?;
-    let yes = last(alloc, made)?;
-    let test = last(alloc, made)?;
-    let choice = Expr::Cond {
-        test,
-        yes,
-        no,
-        at: 0,
-    };
-    made.push(choice).ok()
+fn push_choice(alloc: Global, made: &mut Vec<Expr>) {
+    if let Some(no) = last(alloc, made)
+        && let Some(yes) = last(alloc, made)
+        && let Some(test) = last(alloc, made)
+    {
+        let choice = Expr::Cond {
+            test,
+            yes,
+            no,
+            at: 0,
+        };
+        keep(made, choice);
+    }
 }
 
-fn push_concat(alloc: Global, made: &mut Vec<Expr>) -> Option<()> {
+/// Moves the expression that was made last.
+fn move_last(made: &mut Vec<Expr>, parts: &mut Vec<Expr>) {
+    if let Some(part) = made.pop() {
+        keep(parts, part);
+    }
+}
+
+fn push_concat(alloc: Global, made: &mut Vec<Expr>) {
     let mut parts = Vec::new(alloc);
-    parts.push(made.pop()?).ok()?;
-    parts.push(made.pop()?).ok()?;
+    move_last(made, &mut parts);
+    move_last(made, &mut parts);
     parts.reverse();
-    let parts = List::of(parts);
-    made.push(Expr::Concat { parts, at: 0 }).ok()
+    if parts.len() == 2 {
+        let parts = List::of(parts);
+        keep(made, Expr::Concat { parts, at: 0 });
+    }
 }
 
-fn take_step(alloc: Global, made: &mut Vec<Expr>, step: Step) -> Option<()> {
+/// Takes a step. Where it can't be taken, fewer expressions are left, and in the end none.
+fn take_step(alloc: Global, made: &mut Vec<Expr>, step: Step) {
     match step {
-        Step::Num(width, signed, bits) => made.push(number(width, signed, bits)).ok(),
+        Step::Num(width, signed, bits) => keep(made, number(width, signed, bits)),
         Step::Name(letter) => push_name(alloc, made, letter),
         Step::Part(letter, high, low) => push_part(alloc, made, letter, high, low),
         Step::Unary(op) => push_unary(alloc, made, op),
@@ -205,27 +239,31 @@ fn take_step(alloc: Global, made: &mut Vec<Expr>, step: Step) -> Option<()> {
     }
 }
 
-/// The expression of some steps.
-fn expr_of(alloc: Global, steps: &[Step]) -> Option<Expr> {
+/// The expression of some steps, alone.
+fn made_by(alloc: Global, steps: &[Step]) -> Vec<Expr> {
     let mut made = Vec::new(alloc);
     for step in steps {
-        take_step(alloc, &mut made, *step)?;
+        take_step(alloc, &mut made, *step);
     }
-    made.pop()
+    made
 }
 
-fn bound(alloc: Global, scope: &Scope, steps: &[Step]) -> Option<Bound> {
-    let expr = expr_of(alloc, steps)?;
-    bind(alloc, &expr, scope).ok()
+/// Adds an expression with its names bound, if there is one alone.
+fn add_bound(alloc: Global, scope: &Scope, all: &mut Vec<Bound>, made: &[Expr]) {
+    if let [expr] = made
+        && let Ok(bound) = bind(alloc, expr, scope)
+    {
+        let _ = all.push(bound);
+    }
 }
 
 /// The expressions of all rows, with their names bound.
-fn bounds(alloc: Global, scope: &Scope, rows: &[&[Step]]) -> Option<Vec<Bound>> {
+fn bounds(alloc: Global, scope: &Scope, rows: &[&[Step]]) -> Vec<Bound> {
     let mut all = Vec::new(alloc);
     for steps in rows {
-        all.push(bound(alloc, scope, steps)?).ok()?;
+        add_bound(alloc, scope, &mut all, &made_by(alloc, steps));
     }
-    Some(all)
+    all
 }
 
 /// A signal's letter, its width and whether it is signed.
@@ -237,25 +275,24 @@ static SIGNALS: [(u8, u8, bool); 5] = [
     (b'e', 16, true),
 ];
 
-fn declare(alloc: Global, scope: &mut Scope, index: u16, row: (u8, u8, bool)) -> Option<()> {
+fn declare(alloc: Global, scope: &mut Scope, index: u16, row: (u8, u8, bool)) {
     let (letter, width, signed) = row;
-    let name = Name::of(alloc, &[letter]).ok()?;
-    let typ = Typ::of(Width::new(width)?, signed);
-    scope
-        .declare(name, Meaning::Signal { index, typ, low: 0 })
-        .ok()?;
-    Some(())
+    if let Some(width) = Width::new(width) {
+        let typ = Typ::of(width, signed);
+        let meaning = Meaning::Signal { index, typ, low: 0 };
+        let _ = scope.declare(name_of(alloc, letter), meaning);
+    }
 }
 
 /// The signals.
-fn scope(alloc: Global) -> Option<Scope> {
+fn scope(alloc: Global) -> Scope {
     let mut scope = Scope::new(alloc);
     let mut index = 0u16;
     for row in SIGNALS.iter() {
-        declare(alloc, &mut scope, index, *row)?;
+        declare(alloc, &mut scope, index, *row);
         index = index.wrapping_add(1);
     }
-    Some(scope)
+    scope
 }
 
 /// The values of the signals in the row of this word.
@@ -319,22 +356,22 @@ fn summed(guards: &[Bound], points: &[Bound], rows: u32) -> Total {
     total
 }
 
-/// The total of so many rows, from the expressions on.
-fn measured(alloc: Global, rows: u32) -> Option<Total> {
-    let scope = scope(alloc)?;
-    let guards = bounds(alloc, &scope, &GUARDS)?;
-    let points = bounds(alloc, &scope, &POINTS)?;
-    Some(summed(&guards, &points, rows))
+/// What so many rows give, from the expressions on.
+fn evaluated(alloc: Global, rows: u32) -> Option<Found> {
+    let scope = scope(alloc);
+    let guards = bounds(alloc, &scope, &GUARDS);
+    let points = bounds(alloc, &scope, &POINTS);
+    if guards.len() == 3 && points.len() == 3 {
+        let total = summed(&guards, &points, rows);
+        Some(Found::Two(total.checksum, total.evaluations))
+    } else {
+        None
+    }
 }
 
-/// The number of rows that the first word says.
-fn rows_of(words: &[String]) -> Option<u32> {
-    words.first()?.parse().ok()
-}
-
-pub(crate) fn show<R: Print + AllocGlobal>(rt: &R, words: &[String]) -> io::Result<()> {
-    match rows_of(words).and_then(|rows| measured(rt.alloc(), rows)) {
-        Some(total) => println!(rt; "{} {}", total.checksum, total.evaluations),
-        None => println!(rt; "expressions ROWS"),
+pub(crate) fn measured(alloc: Global, words: &[String]) -> Option<Found> {
+    match number_at(words, 0) {
+        Some(rows) => evaluated(alloc, rows),
+        None => None,
     }
 }

@@ -1,40 +1,40 @@
 //! Tokens of a file: `lexing FILE ROUNDS` lexes the file that many times, and prints how many tokens it has.
 
+use crate::answers::Found;
+use crate::words::{bytes_at, number_at};
 use cov_lexer::lex;
 use std::alloc::Global;
-use std::io::Print;
 use std::rt::Files;
-use std::{fs, io};
 
 /// The most bytes that are lexed.
 const MOST: usize = 1_048_576;
 
-/// How many tokens the text has, lexed so many times; None where it has none, or is too long.
-fn tokens_in(alloc: Global, text: &[u8], rounds: u32) -> Option<usize> {
+/// How many tokens a text has; None where it has none, or is too long.
+fn lexed(alloc: Global, text: &[u8]) -> Option<Found> {
     if text.len() > MOST {
         return None;
     }
-    let mut count = 0;
-    for _ in 0..rounds {
-        let Ok(tokens) = lex(alloc, text) else {
-            return None;
-        };
-        count = tokens.len();
+    match lex(alloc, text) {
+        Ok(tokens) => Some(Found::One(tokens.len() as u64)),
+        Err(_) => None,
     }
-    Some(count)
 }
 
-/// The file and the rounds that the words name, lexed.
-fn lexed<R: Files + AllocGlobal>(rt: &R, words: &[String]) -> Option<usize> {
-    let file = words.first()?;
-    let rounds: u32 = words.get(1)?.parse().ok()?;
-    let text = fs::read(rt, file.as_str()).ok()?;
-    tokens_in(rt.alloc(), text.as_slice(), rounds)
+/// The same, lexed so many times.
+fn lexed_often(alloc: Global, text: &[u8], rounds: u32) -> Option<Found> {
+    let mut found = Some(Found::One(0));
+    for _ in 0..rounds {
+        found = lexed(alloc, text);
+    }
+    found
 }
 
-pub(crate) fn show<R: Files + Print + AllocGlobal>(rt: &R, words: &[String]) -> io::Result<()> {
-    match lexed(rt, words) {
-        Some(count) => println!(rt; "{count}"),
-        None => println!(rt; "lexing FILE ROUNDS"),
+pub(crate) fn measured<R: Files + AllocGlobal>(rt: &R, words: &[String]) -> Option<Found> {
+    if let Some(rounds) = number_at(words, 1)
+        && let Some(text) = bytes_at(rt, words, 0)
+    {
+        lexed_often(rt.alloc(), &text, rounds)
+    } else {
+        None
     }
 }

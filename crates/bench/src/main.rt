@@ -2,9 +2,10 @@
 //!
 //! `bench WORDS` does what is measured by the scripts of `bench/`, which take its time and its memory from outside. The
 //! first word is one of those below, and the others are its arguments; several measurements stand one after another with
-//! `,` between. Each prints a line, or its words where these aren't right, something is refused or memory ran out.
+//! `,` between. Each prints a line, which says so where its words aren't right, something is refused or memory ran out.
 #![tactic(auto)]
 
+mod answers;
 mod dumps;
 mod expressions;
 mod lexing;
@@ -16,74 +17,78 @@ mod records;
 mod sampling;
 mod transitions;
 mod turns;
+mod words;
 
+use answers::{Found, show};
+use std::env;
 use std::env::Env;
 use std::io::Print;
-use std::process::ExitCode;
 use std::rt::Files;
 use std::sync::Wait;
 use std::thread::Threads;
-use std::{env, io};
 
 /// Does a measurement of values, or of what many tests have.
-fn measure_values<R: Threads + Wait + Sync + Print + AllocGlobal>(
+fn measured_values<R: Threads + Wait + Sync + AllocGlobal>(
     rt: &R,
-    word: &str,
-    rest: &[String],
-) -> io::Result<()> {
-    match word {
-        "expressions" => expressions::show(rt, rest),
-        "transitions" => transitions::show(rt, rest),
-        "ranking" => ranking::show(rt, rest),
-        "turns" => turns::show(rt, rest),
-        "messages" => messages::show(rt, rest),
-        _ => println!(rt; "no such word: {word}"),
-    }
-}
-
-/// Does a measurement.
-fn measure<R: Threads + Wait + Sync + Files + Print + AllocGlobal>(
-    rt: &R,
-    word: &str,
-    rest: &[String],
-) -> io::Result<()> {
-    match word {
-        "lexing" => lexing::show(rt, rest),
-        "parsing" => parsing::show(rt, rest),
-        "records" => records::show(rt, rest),
-        "sampling" => sampling::show(rt, rest),
-        "dumps" => dumps::show(rt, rest),
-        _ => measure_values(rt, word, rest),
-    }
-}
-
-/// Does the measurement whose words these are.
-fn measure_words<R: Threads + Wait + Sync + Files + Print + AllocGlobal>(
-    rt: &R,
+    call: &str,
     words: &[String],
-) -> io::Result<()> {
-    match words {
-        [] => Ok(()),
-        [word, rest @ ..] => measure(rt, word.as_str(), rest),
+) -> Option<Found> {
+    match call {
+        "expressions" => expressions::measured(rt.alloc(), words),
+        "transitions" => transitions::measured(rt.alloc(), words),
+        "ranking" => ranking::measured(rt, words),
+        "turns" => turns::measured(rt, words),
+        "messages" => messages::measured(rt.alloc(), words),
+        _ => None,
+    }
+}
+
+/// Does a measurement; None where it can't be done.
+fn measured<R: Threads + Wait + Sync + Files + AllocGlobal>(
+    rt: &R,
+    call: &str,
+    words: &[String],
+) -> Option<Found> {
+    match call {
+        "lexing" => lexing::measured(rt, words),
+        "parsing" => parsing::measured(rt, words),
+        "records" => records::measured(rt, words),
+        "sampling" => sampling::measured(rt, words),
+        "dumps" => dumps::measured(rt, words),
+        _ => measured_values(rt, call, words),
+    }
+}
+
+/// Does the measurement of some words, if there are any.
+fn measure<R: Threads + Wait + Sync + Files + Print + AllocGlobal>(rt: &R, words: &[String]) {
+    if let [call, rest @ ..] = words {
+        show(rt, call.as_str(), measured(rt, call.as_str(), rest));
     }
 }
 
 /// Does all measurements, one after another.
-fn measure_all<R: Threads + Wait + Sync + Env + Files + Print + AllocGlobal>(
-    rt: &R,
-) -> io::Result<()> {
-    let mut words = Vec::new(rt.alloc());
-    for word in env::args(rt)?.skip(1) {
+fn measure_all<R: Threads + Wait + Sync + Files + Print + AllocGlobal>(rt: &R, words: &[String]) {
+    let mut from = 0;
+    for (at, word) in words.iter().enumerate() {
         if word.as_str() == "," {
-            measure_words(rt, words.as_slice())?;
-            words.clear();
-        } else {
-            words.push(word)?;
+            measure(rt, words.get(from..at).unwrap_or(&[]));
+            from = at.saturating_add(1);
         }
     }
-    measure_words(rt, words.as_slice())
+    measure(rt, words.get(from..).unwrap_or(&[]));
 }
 
-fn main(rt: HostRuntime) -> ExitCode {
-    ExitCode::from(if measure_all(&rt).is_ok() { 0 } else { 1 })
+/// The words behind the program's name.
+fn words_of<R: Env + AllocGlobal>(rt: &R) -> Vec<String> {
+    let mut words = Vec::new(rt.alloc());
+    if let Ok(args) = env::args(rt) {
+        for word in args.skip(1) {
+            let _ = words.push(word);
+        }
+    }
+    words
+}
+
+fn main(rt: HostRuntime) {
+    measure_all(&rt, &words_of(&rt));
 }

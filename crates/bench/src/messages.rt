@@ -5,13 +5,13 @@ ghost use Rattle.cov_proto.specs.Frames.{frame, longest_body};
 ghost use Rattle.cov_proto.specs.Limits.{IsReply};
 ghost use Rattle.cov_proto.specs.Spelled.{reply_spelled};
 
+use crate::answers::Found;
 use crate::random::after;
+use crate::words::number_at;
 use cov_proto::{Body, LONGEST_BODY, Reply, read_reply, write_reply};
 use cov_tree::List;
 use design_data::BinKind;
 use std::alloc::Global;
-use std::io;
-use std::io::Print;
 use ucis_model::{Answer, CountRow};
 
 /// The most rows of a reply.
@@ -26,7 +26,8 @@ fn kind_of(number: u64) -> BinKind {
     }
 }
 
-fn rows_of(alloc: Global, count: u32) -> Option<List<CountRow>> {
+/// The rows, fewer where memory ran out.
+fn rows_of(alloc: Global, count: u32) -> List<CountRow> {
     let mut rows = Vec::new(alloc);
     let mut number = 1u64;
     for bin in 0..count {
@@ -37,9 +38,9 @@ fn rows_of(alloc: Global, count: u32) -> Option<List<CountRow>> {
             excluded: number & 1 == 1,
             count: number >> 8,
         };
-        rows.push(row).ok()?;
+        let _ = rows.push(row);
     }
-    Some(List::of(rows))
+    List::of(rows)
 }
 
 fn write(reply: &Reply, out: &mut Vec<u8>)
@@ -76,16 +77,16 @@ fn frame_of(alloc: Global, rows: List<CountRow>, writes: u32) -> Option<Vec<u8>>
     Some(out)
 }
 
-/// Reads the body of a frame so many times.
-fn read_all(alloc: Global, frame: &[u8], reads: u32) -> Option<()> {
-    let (_, body) = frame.split_at_checked(4)?;
+/// Reads the body of a frame so many times: whether it is one each time.
+fn is_read(alloc: Global, body: &[u8], reads: u32) -> bool {
     if body.len() > LONGEST_BODY as usize {
-        return None;
+        return false;
     }
+    let mut done = true;
     for _ in 0..reads {
-        read_reply(alloc, body).ok()?;
+        done &= read_reply(alloc, body).is_ok();
     }
-    Some(())
+    done
 }
 
 /// A sum of the bytes in which their order counts.
@@ -97,20 +98,41 @@ fn sum_of(bytes: &[u8]) -> u64 {
     sum
 }
 
-/// How many bytes the frame has, and their sum.
-fn measured<R: AllocGlobal>(rt: &R, words: &[String]) -> Option<(usize, u64)> {
-    let count: u32 = words.first()?.parse().ok()?;
-    let writes: u32 = words.get(1)?.parse().ok()?;
-    let reads: u32 = words.get(2)?.parse().ok()?;
-    let rows = rows_of(rt.alloc(), count)?;
-    let frame = frame_of(rt.alloc(), rows, writes)?;
-    read_all(rt.alloc(), frame.as_slice(), reads)?;
-    Some((frame.len(), sum_of(frame.as_slice())))
+/// How many bytes the frame has, and their sum, its body read so many times.
+fn read(alloc: Global, frame: &[u8], reads: u32) -> Option<Found> {
+    match frame.split_at_checked(4) {
+        Some((_, body)) if is_read(alloc, body, reads) => {
+            Some(Found::Two(frame.len() as u64, sum_of(frame)))
+        }
+        _ => None,
+    }
 }
 
-pub(crate) fn show<R: Print + AllocGlobal>(rt: &R, words: &[String]) -> io::Result<()> {
-    match measured(rt, words) {
-        Some((length, sum)) => println!(rt; "{length} {sum}"),
-        None => println!(rt; "messages ROWS WRITES READS"),
+/// The same, of the rows written so many times.
+fn written(alloc: Global, rows: List<CountRow>, writes: u32, reads: u32) -> Option<Found> {
+    match frame_of(alloc, rows, writes) {
+        Some(frame) => read(alloc, &frame, reads),
+        None => None,
+    }
+}
+
+/// The same, of so many rows.
+fn written_rows(alloc: Global, count: u32, writes: u32, reads: u32) -> Option<Found> {
+    let rows = rows_of(alloc, count);
+    if rows.as_slice().len() == count as usize {
+        written(alloc, rows, writes, reads)
+    } else {
+        None
+    }
+}
+
+pub(crate) fn measured(alloc: Global, words: &[String]) -> Option<Found> {
+    if let Some(count) = number_at(words, 0)
+        && let Some(writes) = number_at(words, 1)
+        && let Some(reads) = number_at(words, 2)
+    {
+        written_rows(alloc, count, writes, reads)
+    } else {
+        None
     }
 }

@@ -1,67 +1,51 @@
 //! A design text of a file: `parsing FILE LEXES PARSES` lexes the file and parses its tokens that many times, and prints
 //! how many tokens and how many declarations it has.
 
+use crate::answers::Found;
+use crate::words::{bytes_at, number_at};
 use cov_lexer::lex;
-use cov_parser::parse;
+use cov_parser::{ParseFault, parse};
+use cov_tree::DesignText;
 use std::alloc::Global;
-use std::io::Print;
 use std::rt::Files;
-use std::{fs, io};
 
 /// The most bytes of a design text.
 const MOST: usize = 1_048_576;
 
-/// How much a text has of each.
-#[derive(Drop)]
-struct Counts {
-    tokens: usize,
-    declarations: usize,
+/// The counts of so many tokens with their tree.
+fn counts_of(tokens: usize, tree: Result<DesignText, ParseFault>) -> Option<Found> {
+    match tree {
+        Ok(tree) => Some(Found::Tree(tokens as u64, tree.decls.as_slice().len() as u64)),
+        Err(_) => None,
+    }
 }
 
 /// The counts of a text that is lexed and parsed so many times, once at least; None where it has no tree, or is too long.
-fn counted(alloc: Global, text: &[u8], lexes: u32, parses: u32) -> Option<Counts> {
+fn counted(alloc: Global, text: &[u8], lexes: u32, parses: u32) -> Option<Found> {
     if text.len() > MOST {
         return None;
     }
+    let mut done = true;
     for _ in 1..lexes {
-        let Ok(_) = lex(alloc, text) else {
-            return None;
-        };
+        done &= lex(alloc, text).is_ok();
     }
     let Ok(tokens) = lex(alloc, text) else {
         return None;
     };
-    for _ in 1..parses {
-        let Ok(_) = parse(alloc, text, tokens.as_slice()) else {
-            return None;
-        };
+    let mut found = None;
+    for _ in 0..parses.max(1) {
+        found = counts_of(tokens.len(), parse(alloc, text, &tokens));
     }
-    let Ok(design) = parse(alloc, text, tokens.as_slice()) else {
-        return None;
-    };
-    Some(Counts {
-        tokens: tokens.len(),
-        declarations: design.decls.as_slice().len(),
-    })
+    if done { found } else { None }
 }
 
-/// The counts of the file that the words name.
-fn read<R: Files + AllocGlobal>(rt: &R, words: &[String]) -> Option<Counts> {
-    let file = words.first()?;
-    let lexes: u32 = words.get(1)?.parse().ok()?;
-    let parses: u32 = words.get(2)?.parse().ok()?;
-    let text = fs::read(rt, file.as_str()).ok()?;
-    counted(rt.alloc(), text.as_slice(), lexes, parses)
-}
-
-pub(crate) fn show<R: Files + Print + AllocGlobal>(rt: &R, words: &[String]) -> io::Result<()> {
-    match read(rt, words) {
-        Some(counts) => {
-            println!(rt;
-                "{} tokens, {} declarations",
-                counts.tokens, counts.declarations
-            )
-        }
-        None => println!(rt; "parsing FILE LEXES PARSES"),
+pub(crate) fn measured<R: Files + AllocGlobal>(rt: &R, words: &[String]) -> Option<Found> {
+    if let Some(lexes) = number_at(words, 1)
+        && let Some(parses) = number_at(words, 2)
+        && let Some(text) = bytes_at(rt, words, 0)
+    {
+        counted(rt.alloc(), &text, lexes, parses)
+    } else {
+        None
     }
 }

@@ -1,42 +1,60 @@
 //! Records of a file: `records FILE READS WRITES` decodes the file and encodes its record that many times, and prints how
 //! many events it has.
 
-use record_codec::{decode, encode};
+use crate::answers::Found;
+use crate::words::{bytes_at, number_at};
+use record_codec::{Record, decode, encode};
 use std::alloc::Global;
-use std::io::Print;
 use std::rt::Files;
-use std::{fs, io};
 
 /// The most bytes that are decoded.
 const MOST: usize = 8_388_608;
 
-/// How many events the record has, decoded and encoded so many times; None where the bytes are no record, or too many.
-fn events_in(alloc: Global, bytes: &[u8], reads: u32, writes: u32) -> Option<usize> {
+/// Encodes a record so many times: how many events it has.
+fn written(alloc: Global, record: &Record, writes: u32) -> Option<Found> {
+    let mut done = true;
+    for _ in 0..writes {
+        done &= encode(alloc, record).is_ok();
+    }
+    if done {
+        Some(Found::One(record.events.as_slice().len() as u64))
+    } else {
+        None
+    }
+}
+
+/// Decodes the bytes, and encodes their record so many times: how many events it has. None where the bytes are no record,
+/// or too many.
+fn decoded(alloc: Global, bytes: &[u8], writes: u32) -> Option<Found> {
     if bytes.len() > MOST {
         return None;
     }
+    match decode(alloc, bytes) {
+        Ok(record) => written(alloc, &record, writes),
+        Err(_) => None,
+    }
+}
+
+/// The same, where the bytes are decoded so many times before.
+fn read(alloc: Global, bytes: &[u8], reads: u32, writes: u32) -> Option<Found> {
+    let mut done = true;
     for _ in 0..reads {
-        decode(alloc, bytes).ok()?;
+        done &= decoded(alloc, bytes, 0).is_some();
     }
-    let record = decode(alloc, bytes).ok()?;
-    for _ in 0..writes {
-        encode(alloc, &record).ok()?;
+    if done {
+        decoded(alloc, bytes, writes)
+    } else {
+        None
     }
-    Some(record.events.as_slice().len())
 }
 
-/// The file and the rounds that the words name, read and written.
-fn counted<R: Files + AllocGlobal>(rt: &R, words: &[String]) -> Option<usize> {
-    let file = words.first()?;
-    let reads: u32 = words.get(1)?.parse().ok()?;
-    let writes: u32 = words.get(2)?.parse().ok()?;
-    let bytes = fs::read(rt, file.as_str()).ok()?;
-    events_in(rt.alloc(), bytes.as_slice(), reads, writes)
-}
-
-pub(crate) fn show<R: Files + Print + AllocGlobal>(rt: &R, words: &[String]) -> io::Result<()> {
-    match counted(rt, words) {
-        Some(count) => println!(rt; "{count}"),
-        None => println!(rt; "records FILE READS WRITES"),
+pub(crate) fn measured<R: Files + AllocGlobal>(rt: &R, words: &[String]) -> Option<Found> {
+    if let Some(reads) = number_at(words, 1)
+        && let Some(writes) = number_at(words, 2)
+        && let Some(bytes) = bytes_at(rt, words, 0)
+    {
+        read(rt.alloc(), &bytes, reads, writes)
+    } else {
+        None
     }
 }

@@ -5,16 +5,18 @@
 //! The words: `plan` works the tables out of the design, `decode` decodes the record, `count` counts by ready tables,
 //! `threads` does so in threads, and `whole` does all of it once more, the design text aside.
 
+use crate::answers::Found;
+use crate::words::{bytes_at, number_at, text_at};
+use cov_base::Memory;
 use cov_compile::compile;
 use design_data::Design;
 use record_codec::{Record, decode};
 use sampler::{Plan, bin_record, counts_under};
 use sampler_threads::counts_par_under;
 use std::alloc::Global;
-use std::io::Print;
 use std::rt::Files;
 use std::thread::Threads;
-use std::{fs, io};
+use tally::Tally;
 
 /// The most bytes of a design text.
 const LONGEST_DESIGN: usize = 1_048_576;
@@ -31,31 +33,39 @@ fn sum_of(counts: &[u64]) -> u64 {
     sum
 }
 
-fn plans(alloc: Global, design: &Design, rounds: u32) -> Option<u64> {
-    for _ in 0..rounds {
-        Plan::of(alloc, design).ok()?;
+/// The sum of counts, if there are any.
+fn sum_if(counts: Result<Vec<u64>, Memory>) -> Option<u64> {
+    match counts {
+        Ok(counts) => Some(sum_of(&counts)),
+        Err(_) => None,
     }
-    Some(0)
 }
 
-fn decoded(alloc: Global, bytes: &[u8], rounds: u32) -> Option<u64> {
-    if bytes.len() > MOST {
-        return None;
+/// How many bins a tally has counts of.
+fn rows_of(tally: Result<Tally, Memory>) -> Option<u64> {
+    match tally {
+        Ok(tally) => Some(tally.rows().len() as u64),
+        Err(_) => None,
     }
+}
+
+fn plans(alloc: Global, design: &Design, rounds: u32) -> Option<u64> {
+    let mut done = true;
     for _ in 0..rounds {
-        decode(alloc, bytes).ok()?;
+        done &= Plan::of(alloc, design).is_ok();
     }
-    Some(0)
+    if done { Some(0) } else { None }
 }
 
 fn counted(alloc: Global, design: &Design, rec: &Record, rounds: u32) -> Option<u64> {
-    let plan = Plan::of(alloc, design).ok()?;
-    let mut sum = 0;
+    let Ok(plan) = Plan::of(alloc, design) else {
+        return None;
+    };
+    let mut sum = Some(0);
     for _ in 0..rounds {
-        let counts = counts_under(alloc, &plan, design, rec).ok()?;
-        sum = sum_of(counts.as_slice());
+        sum = sum_if(counts_under(alloc, &plan, design, rec));
     }
-    Some(sum)
+    sum
 }
 
 fn counted_in_threads<R: Threads + Sync>(
@@ -65,29 +75,35 @@ fn counted_in_threads<R: Threads + Sync>(
     rec: &Record,
     rounds: u32,
 ) -> Option<u64> {
-    let plan = Plan::of(alloc, design).ok()?;
-    let mut sum = 0;
-    for _ in 0..rounds {
-        let counts = counts_par_under(rt, alloc, &plan, design, rec).ok()?;
-        sum = sum_of(counts.as_slice());
-    }
-    Some(sum)
-}
-
-fn whole(alloc: Global, design: &Design, bytes: &[u8], rounds: u32) -> Option<u64> {
-    if bytes.len() > MOST {
+    let Ok(plan) = Plan::of(alloc, design) else {
         return None;
-    }
-    let mut rows = 0;
+    };
+    let mut sum = Some(0);
     for _ in 0..rounds {
-        let rec = decode(alloc, bytes).ok()?;
-        let tally = bin_record(alloc, design, &rec).ok()?;
-        rows = tally.rows().len() as u64;
+        sum = sum_if(counts_par_under(rt, alloc, &plan, design, rec));
     }
-    Some(rows)
+    sum
 }
 
-fn work<R: Threads + Sync>(
+/// What the word says, done with a record.
+fn done_with<R: Threads + Sync>(
+    rt: &R,
+    alloc: Global,
+    design: &Design,
+    rec: &Record,
+    word: &str,
+    rounds: u32,
+) -> Option<u64> {
+    match word {
+        "count" => counted(alloc, design, rec, rounds),
+        "threads" => counted_in_threads(rt, alloc, design, rec, rounds),
+        "whole" => rows_of(bin_record(alloc, design, rec)),
+        _ => Some(0),
+    }
+}
+
+/// The same, with the record of the bytes.
+fn decoded<R: Threads + Sync>(
     rt: &R,
     alloc: Global,
     design: &Design,
@@ -98,45 +114,88 @@ fn work<R: Threads + Sync>(
     if bytes.len() > MOST {
         return None;
     }
-    let rec = decode(alloc, bytes).ok()?;
+    match decode(alloc, bytes) {
+        Ok(rec) => done_with(rt, alloc, design, &rec, word, rounds),
+        Err(_) => None,
+    }
+}
+
+/// The same, so many times, with the record decoded each time.
+fn decoded_often<R: Threads + Sync>(
+    rt: &R,
+    alloc: Global,
+    design: &Design,
+    bytes: &[u8],
+    word: &str,
+    rounds: u32,
+) -> Option<u64> {
+    let mut found = Some(0);
+    for _ in 0..rounds {
+        found = decoded(rt, alloc, design, bytes, word, 1);
+    }
+    found
+}
+
+fn work<R: Threads + Sync>(
+    rt: &R,
+    alloc: Global,
+    design: &Design,
+    bytes: &[u8],
+    word: &str,
+    rounds: u32,
+) -> Option<u64> {
     match word {
         "plan" => plans(alloc, design, rounds),
-        "decode" => decoded(alloc, bytes, rounds),
-        "count" => counted(alloc, design, &rec, rounds),
-        "threads" => counted_in_threads(rt, alloc, design, &rec, rounds),
-        "whole" => whole(alloc, design, bytes, rounds),
+        "count" | "threads" => decoded(rt, alloc, design, bytes, word, rounds),
+        "decode" | "whole" => decoded_often(rt, alloc, design, bytes, word, rounds),
         _ => None,
     }
 }
 
-fn compiled(alloc: Global, text: &[u8]) -> Option<Design> {
+/// The design that a text declares.
+fn design_of(alloc: Global, text: &[u8]) -> Option<Design> {
     if text.len() > LONGEST_DESIGN {
         return None;
     }
     compile(alloc, text).ok()
 }
 
-/// What the words name.
-fn measured<R: Threads + Sync + Files + AllocGlobal>(
+/// What the words behind the files name, done under a design.
+fn done<R: Threads + Sync>(
     rt: &R,
+    alloc: Global,
+    design: &Design,
+    bytes: &[u8],
     words: &[String],
-) -> Option<(u32, u64)> {
-    let text = fs::read(rt, words.first()?.as_str()).ok()?;
-    let bytes = fs::read(rt, words.get(1)?.as_str()).ok()?;
-    let word = words.get(2)?.as_str();
-    let rounds: u32 = words.get(3)?.parse().ok()?;
-    let alloc = rt.alloc();
-    let design = compiled(alloc, text.as_slice())?;
-    let sum = work(rt, alloc, &design, bytes.as_slice(), word, rounds)?;
-    Some((design.bin_count(), sum))
+) -> Option<Found> {
+    let rounds = number_at(words, 3)?;
+    let sum = work(rt, alloc, design, bytes, text_at(words, 2), rounds)?;
+    Some(Found::Two(u64::from(design.bin_count()), sum))
 }
 
-pub(crate) fn show<R: Threads + Sync + Files + Print + AllocGlobal>(
+/// The same, under the design of a text.
+fn done_under<R: Threads + Sync>(
+    rt: &R,
+    alloc: Global,
+    text: &[u8],
+    bytes: &[u8],
+    words: &[String],
+) -> Option<Found> {
+    match design_of(alloc, text) {
+        Some(design) => done(rt, alloc, &design, bytes, words),
+        None => None,
+    }
+}
+
+pub(crate) fn measured<R: Threads + Sync + Files + AllocGlobal>(
     rt: &R,
     words: &[String],
-) -> io::Result<()> {
-    match measured(rt, words) {
-        Some((bins, sum)) => println!(rt; "{bins} {sum}"),
-        None => println!(rt; "sampling DESIGN RECORD WORD ROUNDS"),
+) -> Option<Found> {
+    if let Some(text) = bytes_at(rt, words, 0)
+        && let Some(bytes) = bytes_at(rt, words, 1)
+    {
+        done_under(rt, rt.alloc(), &text, &bytes, words)
+    } else {
+        None
     }
 }

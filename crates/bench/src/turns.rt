@@ -3,9 +3,9 @@
 ghost use Rattle.std.specs.Prelude.{◌≤◌, IfSome};
 ghost use Rattle.turn_lock.specs.Seats.{IsSeatOf};
 
+use crate::answers::Found;
+use crate::words::number_at;
 use cov_base::Book;
-use std::io;
-use std::io::Print;
 use std::sync::Wait;
 use std::thread::{Threads, for_each_mut};
 use turn_lock::{Seat, TurnLock};
@@ -69,23 +69,12 @@ fn leave(here: Option<Seat<Counter>>, lock: &TurnLock<Counter>) {
     }
 }
 
-/// The number of threads, 1 to 4, and of the turns of each.
-fn words_of(words: &[String]) -> Option<(usize, u32)>
-    ensures { IfSome result (λ pair. (1 ≤ pair.0) × (pair.0 ≤ 4)) }
-{
-    let threads = words.first()?.parse().ok()?;
-    let turns = words.get(1)?.parse().ok()?;
-    if threads < 1 {
-        return None;
-    }
-    if threads > 4 {
-        return None;
-    }
-    Some((threads, turns))
-}
-
-/// How many turns so many threads take.
-fn taken<R: Threads + Wait + Sync + AllocGlobal>(rt: &R, threads: usize, turns: u32) -> Option<u64>
+/// How many turns so many threads take, 1 to 4.
+fn taken<R: Threads + Wait + Sync + AllocGlobal>(
+    rt: &R,
+    threads: usize,
+    turns: u32,
+) -> Option<Found>
     requires least { 1 ≤ threads }
     requires most { threads ≤ 4 }
 {
@@ -112,18 +101,15 @@ fn taken<R: Threads + Wait + Sync + AllocGlobal>(rt: &R, threads: usize, turns: 
     let (turn, counter) = lock.take(rt, first);
     let total = counter.turns;
     lock.leave(lock.give(turn, counter));
-    Some(total)
+    Some(Found::One(total))
 }
 
-pub(crate) fn show<R: Threads + Wait + Sync + Print + AllocGlobal>(
+pub(crate) fn measured<R: Threads + Wait + Sync + AllocGlobal>(
     rt: &R,
     words: &[String],
-) -> io::Result<()> {
-    let Some((threads, turns)) = words_of(words) else {
-        return println!(rt; "turns THREADS TURNS");
-    };
-    match taken(rt, threads, turns) {
-        Some(total) => println!(rt; "{total}"),
-        None => println!(rt; "out of memory"),
+) -> Option<Found> {
+    match (number_at(words, 0), number_at(words, 1)) {
+        (Some(threads @ 1..=4), Some(turns)) => taken(rt, threads as usize, turns),
+        _ => None,
     }
 }

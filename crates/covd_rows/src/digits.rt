@@ -1,8 +1,7 @@
 //! Bytes written in hexadecimal.
-use cov_base::Memory;
+use crate::words::say;
 use sha2::{Digest, Sha256};
 use std::alloc::Global;
-use std::io;
 use std::io::Print;
 
 /// The value of a digit, or nothing.
@@ -15,42 +14,36 @@ fn digit(byte: u8) -> Option<u8> {
     }
 }
 
+/// Adds the byte of two digits: the digit that waits for another.
+fn add_digit(bytes: &mut Vec<u8>, high: Option<u8>, low: Option<u8>) -> Option<u8> {
+    match (high, low) {
+        (Some(high), Some(low)) => {
+            let _ = bytes.push(high << 4 | low);
+            None
+        }
+        _ => low,
+    }
+}
+
 /// The bytes of pairs of digits; what is no digit stands between pairs.
-pub(crate) fn bytes_of(alloc: Global, text: &str) -> Result<Vec<u8>, Memory> {
+pub(crate) fn bytes_of(alloc: Global, text: &str) -> Vec<u8> {
     let mut bytes = Vec::new(alloc);
     let mut high = None;
     for byte in text.bytes() {
-        match (digit(byte), high) {
-            (None, _) => high = None,
-            (Some(low), None) => high = Some(low),
-            (Some(low), Some(above)) => {
-                bytes.push(above << 4 | low)?;
-                high = None;
-            }
-        }
+        high = add_digit(&mut bytes, high, digit(byte));
     }
-    Ok(bytes)
-}
-
-/// The digit of a value below 16.
-fn digit_of(value: u8) -> char {
-    match value {
-        0..=9 => (b'0' + value) as char,
-        10..=15 => (b'a' + (value - 10)) as char,
-        _ => '?',
-    }
+    bytes
 }
 
 /// Writes bytes as pairs of digits, and a newline.
-pub(crate) fn show_bytes<R: Print>(rt: &R, bytes: &[u8]) -> io::Result<()> {
-    for byte in bytes {
-        print!(rt; "{}{}", digit_of(byte >> 4), digit_of(byte & 15))?;
+pub(crate) fn show_bytes<R: Print>(rt: &R, alloc: Global, bytes: &[u8]) {
+    if let Ok(digits) = hex::encode(alloc, bytes) {
+        say(rt, digits.as_str());
     }
-    println!(rt; "")
 }
 
 /// Writes how many bytes there are, and their SHA-256.
-pub(crate) fn show_digest<R: Print>(rt: &R, bytes: &[u8]) -> io::Result<()> {
-    print!(rt; "{} bytes, SHA-256 ", bytes.len())?;
-    show_bytes(rt, &Sha256::digest(bytes))
+pub(crate) fn show_digest<R: Print>(rt: &R, alloc: Global, bytes: &[u8]) {
+    let _ = print!(rt; "{} bytes, SHA-256 ", bytes.len());
+    show_bytes(rt, alloc, &Sha256::digest(bytes));
 }

@@ -1,6 +1,7 @@
 //! The files that commands run over.
 use crate::digits::bytes_of;
-use cov_base::{Memory, Shelf};
+use crate::words::{copy_of, count_of, split, text_of};
+use cov_base::Shelf;
 use cov_net::FileShelf;
 use covd_core::LONGEST_DUMP;
 use std::alloc::Global;
@@ -29,85 +30,80 @@ impl Files {
 }
 
 /// A text with its newlines.
-pub(crate) fn text_of(alloc: Global, row: &str) -> Result<Vec<u8>, Memory> {
+pub(crate) fn lines_of(alloc: Global, row: &str) -> Vec<u8> {
     let mut text = Vec::new(alloc);
     for (place, part) in row.split("\\n").enumerate() {
         if place > 0 {
-            text.push(b'\n')?;
+            let _ = text.push(b'\n');
         }
-        text.extend_from_slice(part.as_bytes())?;
+        let _ = text.extend_from_slice(part.as_bytes());
     }
-    Ok(text)
+    text
 }
 
-/// A file of these bytes.
-pub(crate) fn file(alloc: Global, name: &str, bytes: &[u8]) -> Result<(String, Vec<u8>), Memory> {
-    Ok((
-        String::from_str(alloc, name)?,
-        Vec::from_slice(alloc, bytes)?,
-    ))
+/// Adds a file of these bytes.
+fn add_file(alloc: Global, files: &mut Vec<(String, Vec<u8>)>, name: &str, bytes: &[u8]) {
+    let _ = files.push((text_of(alloc, name), copy_of(alloc, bytes)));
 }
 
 /// A copy of all files: `d`, `v`, `r`, and those that are kept.
-pub(crate) fn all_files(alloc: Global, files: &Files) -> Result<Vec<(String, Vec<u8>)>, Memory> {
+pub(crate) fn all_files(alloc: Global, files: &Files) -> Vec<(String, Vec<u8>)> {
     let mut all = Vec::new(alloc);
-    all.push(file(alloc, "d", &files.design)?)?;
-    all.push(file(alloc, "v", &files.dump)?)?;
-    all.push(file(alloc, "r", &files.record)?)?;
-    for (name, bytes) in &files.kept {
-        all.push(file(alloc, name.as_str(), bytes)?)?;
+    add_file(alloc, &mut all, "d", &files.design);
+    add_file(alloc, &mut all, "v", &files.dump);
+    add_file(alloc, &mut all, "r", &files.record);
+    for file in &files.kept {
+        add_file(alloc, &mut all, file.0.as_str(), &file.1);
     }
-    Ok(all)
+    all
 }
 
-fn place_of(word: &str) -> Option<usize> {
-    word.parse().ok()
+/// NAME: keeps the record as a file too.
+pub(crate) fn keep_record(alloc: Global, files: &mut Files, name: &str) {
+    add_file(alloc, &mut files.kept, name, &files.record);
 }
 
-/// The name of a file and its blanks.
-pub(crate) fn blanks(alloc: Global, row: &str) -> Result<(String, Vec<u8>), Memory> {
-    let (name, count) = row.split_once(' ').unwrap_or((row, "0"));
-    let bytes = vec![in alloc; b' '; place_of(count).unwrap_or(0)]?;
-    Ok((String::from_str(alloc, name)?, bytes))
-}
-
-/// The record with other bytes in place of some of its own; the record itself where the row can't be read.
-pub(crate) fn changed(alloc: Global, whole: &[u8], row: &str) -> Result<Vec<u8>, Memory> {
-    let mut words = row.split_whitespace();
-    let from = words
-        .next()
-        .and_then(place_of)
-        .unwrap_or(0)
-        .min(whole.len());
-    let to = words
-        .next()
-        .and_then(place_of)
-        .unwrap_or(0)
-        .clamp(from, whole.len());
-    let mut bytes = Vec::from_slice(alloc, &whole[..from])?;
-    if let Some(text) = words.next() {
-        bytes.append(&mut bytes_of(alloc, text)?)?;
+/// NAME COUNT: keeps a file of so many blanks.
+pub(crate) fn keep_blanks(alloc: Global, files: &mut Files, row: &str) {
+    let (name, count) = split(row);
+    if let Ok(blanks) = vec![in alloc; b' '; count_of(count) as usize] {
+        add_file(alloc, &mut files.kept, name, &blanks);
     }
-    bytes.extend_from_slice(&whole[to..])?;
-    Ok(bytes)
 }
 
-/// The file NAME.KIND; nothing where it can't be read.
-fn real_file<R: System + AllocGlobal>(rt: &R, name: &str, kind: &str) -> Result<Vec<u8>, Memory> {
-    let path = format!(in rt.alloc(); "{name}.{kind}")?;
-    match FileShelf::new(rt).load(rt.alloc(), path.as_str(), LONGEST_DUMP) {
-        Ok(bytes) => Ok(bytes),
-        Err(_) => Ok(Vec::new(rt.alloc())),
+/// The number of a word, and no more than the length.
+fn place_of(word: &str, length: usize) -> usize {
+    let place: usize = word.parse().unwrap_or(0);
+    place.min(length)
+}
+
+/// FROM TO HEX: the record with other bytes in place of those from FROM up to TO.
+pub(crate) fn changed(alloc: Global, whole: &[u8], row: &str) -> Vec<u8> {
+    let (from, rest) = split(row);
+    let (to, digits) = split(rest);
+    let from = place_of(from, whole.len());
+    let to = place_of(to, whole.len()).max(from);
+    let mut bytes = copy_of(alloc, whole.get(..from).unwrap_or(b""));
+    let _ = bytes.append(&mut bytes_of(alloc, digits));
+    let _ = bytes.extend_from_slice(whole.get(to..).unwrap_or(b""));
+    bytes
+}
+
+/// The path of the file NAME.KIND.
+fn path_of(alloc: Global, name: &str, kind: &str) -> String {
+    format!(in alloc; "{name}.{kind}").unwrap_or(String::new(alloc))
+}
+
+/// The file at a path; nothing where it can't be read.
+fn real_file<R: System + AllocGlobal>(rt: &R, path: &str) -> Vec<u8> {
+    match FileShelf::new(rt).load(rt.alloc(), path, LONGEST_DUMP) {
+        Ok(bytes) => bytes,
+        Err(_) => Vec::new(rt.alloc()),
     }
 }
 
 /// Takes a design text and a dump of a simulator.
-pub(crate) fn take_files<R: System + AllocGlobal>(
-    rt: &R,
-    files: &mut Files,
-    name: &str,
-) -> Result<(), Memory> {
-    files.design = real_file(rt, name, "cov")?;
-    files.dump = real_file(rt, name, "vcd")?;
-    Ok(())
+pub(crate) fn take_files<R: System + AllocGlobal>(rt: &R, files: &mut Files, name: &str) {
+    files.design = real_file(rt, path_of(rt.alloc(), name, "cov").as_str());
+    files.dump = real_file(rt, path_of(rt.alloc(), name, "vcd").as_str());
 }

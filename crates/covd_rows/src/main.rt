@@ -18,13 +18,14 @@ mod failing;
 mod files;
 mod keeping;
 mod sessions;
+mod words;
 
-use cov_base::{Memory, Pair, SureShelf, SureSource};
+use cov_base::{Pair, SureShelf, SureSource};
 use cov_net::{FileShelf, StdSink, StdSource};
 use covd_core::{Status, run};
 use digits::bytes_of;
 use failing::failing;
-use files::{Files, all_files, blanks, changed, file, take_files, text_of};
+use files::{Files, all_files, changed, keep_blanks, keep_record, lines_of, take_files};
 use keeping::{keep_bytes, keep_digest};
 use sessions::{Table, session};
 use std::alloc::Global;
@@ -34,23 +35,7 @@ use std::process::ExitCode;
 use std::rt::Files as System;
 use std::sync::Wait;
 use std::thread::Threads;
-
-/// Why a row isn't done.
-pub(crate) fn out_of_memory(_: Memory) -> io::Error {
-    io::Error::from(io::ErrorKind::OutOfMemory)
-}
-
-pub(crate) fn words_of(alloc: Global, row: &str) -> Result<Vec<String>, Memory> {
-    let mut words = Vec::new(alloc);
-    for word in row.split_whitespace() {
-        words.push(String::from_str(alloc, word)?)?;
-    }
-    Ok(words)
-}
-
-pub(crate) fn show_status<R: Print>(rt: &R, status: Status) -> io::Result<()> {
-    println!(rt; "status {}", status.number())
-}
+use words::{copy_of, say, show, show_status, split, words_of};
 
 /// Runs the words over the files of the lines before.
 fn status_of<R: Threads + Sync + Print>(
@@ -58,15 +43,15 @@ fn status_of<R: Threads + Sync + Print>(
     alloc: Global,
     files: &Files,
     words: &[String],
-) -> Result<Status, Memory> {
-    let mut shelf = SureShelf::new(all_files(alloc, files)?);
+) -> Status {
+    let mut shelf = SureShelf::new(all_files(alloc, files));
     let mut source = SureSource::new(Vec::new(alloc), 1);
     let mut sink = StdSink::new(io::writer(rt));
     let mut link = Pair {
         source: &mut source,
         sink: &mut sink,
     };
-    Ok(run(rt, alloc, words, &mut shelf, &mut link))
+    run(rt, alloc, words, &mut shelf, &mut link)
 }
 
 /// Runs the words over the files of the folder.
@@ -85,59 +70,18 @@ fn real_status_of<R: Threads + Sync + System + Print + AllocGlobal>(
 }
 
 /// Writes the row of a command with its answer.
-fn command<R: Threads + Sync + Print>(
-    rt: &R,
-    alloc: Global,
-    files: &Files,
-    row: &str,
-) -> io::Result<()> {
-    println!(rt; "$ {row}")?;
-    let words = words_of(alloc, row).map_err(out_of_memory)?;
-    match status_of(rt, alloc, files, &words) {
-        Ok(status) => show_status(rt, status),
-        Err(_) => println!(rt; "no answer"),
-    }
+fn command<R: Threads + Sync + Print>(rt: &R, alloc: Global, files: &Files, row: &str) {
+    show(rt, "$", row);
+    let status = status_of(rt, alloc, files, &words_of(alloc, row));
+    show_status(rt, status);
 }
 
 /// Writes the row of a command over the files of the folder with its answer.
-fn real_command<R: Threads + Sync + System + Print + AllocGlobal>(
-    rt: &R,
-    row: &str,
-) -> io::Result<Status> {
-    println!(rt; "$ covd {row}")?;
-    let words = words_of(rt.alloc(), row).map_err(out_of_memory)?;
-    let status = real_status_of(rt, &words);
-    println!(rt; "status {}", status.number())?;
-    Ok(status)
-}
-
-/// Takes a row of files, if it is one.
-fn file_row<R: System + AllocGlobal>(
-    rt: &R,
-    files: &mut Files,
-    line: &str,
-) -> Result<bool, Memory> {
-    let alloc = rt.alloc();
-    match line.split_once(' ') {
-        Some(("design", text)) => files.design = text_of(alloc, text)?,
-        Some(("dump", text)) => files.dump = text_of(alloc, text)?,
-        Some(("files", name)) => take_files(rt, files, name)?,
-        Some(("bytes", text)) => {
-            files.whole = bytes_of(alloc, text)?;
-            files.record = changed(alloc, &files.whole, "")?;
-        }
-        Some(("with", text)) => files.record = changed(alloc, &files.whole, text)?,
-        Some(("as", name)) => {
-            let kept = file(alloc, name, &files.record)?;
-            files.kept.push(kept)?;
-        }
-        Some(("blanks", row)) => {
-            let kept = blanks(alloc, row)?;
-            files.kept.push(kept)?;
-        }
-        _ => return Ok(false),
-    }
-    Ok(true)
+fn real_command<R: Threads + Sync + System + Print + AllocGlobal>(rt: &R, row: &str) -> Status {
+    show(rt, "$ covd", row);
+    let status = real_status_of(rt, &words_of(rt.alloc(), row));
+    show_status(rt, status);
+    status
 }
 
 /// Takes a row of a command, whose answer is written.
@@ -145,52 +89,101 @@ fn command_row<R: Threads + Sync + Print>(
     rt: &R,
     alloc: Global,
     files: &mut Files,
+    call: &str,
+    rest: &str,
     line: &str,
-) -> io::Result<()> {
-    match line.split_once(' ') {
-        Some(("keep", words)) => keep_bytes(rt, alloc, files, words),
-        Some(("digest", words)) => keep_digest(rt, alloc, files, words),
-        Some(("failing", row)) => {
-            println!(rt; "{line}")?;
-            failing(rt, alloc, files, row)
+) {
+    match call {
+        "keep" => keep_bytes(rt, alloc, files, rest),
+        "digest" => keep_digest(rt, alloc, files, rest),
+        "failing" => {
+            say(rt, line);
+            failing(rt, alloc, files, rest);
         }
         _ => command(rt, alloc, files, line),
     }
+}
+
+/// Takes a record that is made of these bytes.
+fn take_record(alloc: Global, files: &mut Files, digits: &str) {
+    files.whole = bytes_of(alloc, digits);
+    files.record = copy_of(alloc, &files.whole);
+}
+
+/// Takes a row of files: whether it is one.
+fn is_file_row<R: System + AllocGlobal>(
+    rt: &R,
+    alloc: Global,
+    files: &mut Files,
+    call: &str,
+    rest: &str,
+) -> bool {
+    match call {
+        "design" => files.design = lines_of(alloc, rest),
+        "dump" => files.dump = lines_of(alloc, rest),
+        "files" => take_files(rt, files, rest),
+        "bytes" => take_record(alloc, files, rest),
+        "with" => files.record = changed(alloc, &files.whole, rest),
+        "as" => keep_record(alloc, files, rest),
+        "blanks" => keep_blanks(alloc, files, rest),
+        _ => return false,
+    }
+    true
 }
 
 /// Takes a row: files, or a command.
 fn row<R: Threads + Sync + System + Print + AllocGlobal>(
     rt: &R,
     files: &mut Files,
+    call: &str,
+    rest: &str,
     line: &str,
-) -> io::Result<()> {
-    if file_row(rt, files, line).map_err(out_of_memory)? {
-        return println!(rt; "{line}");
+) {
+    if is_file_row(rt, rt.alloc(), files, call, rest) {
+        say(rt, line);
+    } else {
+        command_row(rt, rt.alloc(), files, call, rest, line);
     }
-    command_row(rt, rt.alloc(), files, line)
 }
 
-/// Takes all rows, and answers the status of the last one over the files of the folder.
-fn rows<R: Threads + Wait + Sync + System + Input + Print + AllocGlobal>(
+/// What the rows have made so far.
+#[derive(Drop)]
+struct Made {
+    files: Files,
+    table: Table,
+    /// The status of the last command over the files of the folder.
+    last: Status,
+}
+
+/// Takes a row of any kind.
+fn any_row<R: Threads + Wait + Sync + System + Print + AllocGlobal>(
     rt: &R,
-) -> io::Result<Status> {
-    let mut last = Status::Done;
-    let mut files = Files::new(rt.alloc());
-    let mut table = Table::new(rt.alloc());
+    made: &mut Made,
+    line: &str,
+) {
+    let (call, rest) = split(line);
+    match call {
+        "run" => made.last = real_command(rt, rest),
+        "session" => session(rt, rt.alloc(), &mut made.table, rest),
+        _ => row(rt, &mut made.files, call, rest, line),
+    }
+}
+
+/// Takes all rows.
+fn rows<R: Threads + Wait + Sync + System + Input + Print + AllocGlobal>(rt: &R, made: &mut Made) {
     for line in rt.lines(rt.alloc()) {
-        let line = line?;
-        match line.split_once(' ') {
-            Some(("run", words)) => last = real_command(rt, words)?,
-            Some(("session", words)) => session(rt, rt.alloc(), &mut table, words),
-            _ => row(rt, &mut files, line.as_str())?,
+        if let Ok(line) = line {
+            any_row(rt, made, line.as_str());
         }
     }
-    Ok(last)
 }
 
 fn main(rt: HostRuntime) -> ExitCode {
-    match rows(&rt) {
-        Ok(status) => ExitCode::from(status.number()),
-        Err(_) => ExitCode::from(1),
-    }
+    let mut made = Made {
+        files: Files::new(rt.alloc()),
+        table: Table::new(rt.alloc()),
+        last: Status::Done,
+    };
+    rows(&rt, &mut made);
+    ExitCode::from(made.last.number())
 }

@@ -19,8 +19,8 @@ mod holding;
 mod replies;
 mod runs;
 mod seats;
-mod words;
 
+use crate::words::{bytes_of, copy_of, split, take};
 use frames::{add_frame, add_uploads, add_zeros, repeat};
 use holding::hold_row;
 use runs::{last_row, most_row, run_row};
@@ -29,7 +29,6 @@ use std::alloc::Global;
 use std::io::Print;
 use std::sync::Wait;
 use std::thread::Threads;
-use words::{bytes_of, copy_of, split, take};
 
 /// The file of the design, and the bytes to read.
 #[derive(Drop)]

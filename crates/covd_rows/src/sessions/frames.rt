@@ -1,5 +1,5 @@
 //! What a session is to read.
-use crate::sessions::words::{bytes_of, copy_of, count_of, number_of, split, take};
+use crate::words::{bytes_of, copy_of, count_of, number_of, split, take};
 use sha2::{Digest, Sha256};
 use std::alloc::Global;
 

@@ -8,7 +8,7 @@ ghost use Rattle.cov_workers.specs.Seated.{IsHere};
 
 use crate::sessions::Table;
 use crate::sessions::seats::{PIECE, Seated, Served, seats_of, show_served};
-use crate::sessions::words::{count_of, say, show, take};
+use crate::words::{count_of, say, show, take};
 use cov_base::{Gate, OpenGate, SureLink};
 use cov_workers::{Core, Shared, serve_connection};
 use std::alloc::Global;

@@ -1,5 +1,5 @@
 //! The replies of a session.
-use crate::sessions::words::{say, show, show_number};
+use crate::words::{say, show, show_number};
 use cov_proto::{FrameStep, next_frame};
 use cov_workers::Ended;
 use std::alloc::Global;

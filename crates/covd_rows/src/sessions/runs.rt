@@ -1,8 +1,9 @@
 //! The rows of sessions over streams.
 use crate::sessions::Table;
 use crate::sessions::replies::{show_ended, show_last, show_replies};
-use crate::sessions::words::{
-    copy_of, number_of, numbers_of, piece_of, say, show_number, split, take,
+use crate::words::{
+    copy_of, number_of, numbers_of, piece_of, say, show_number, show_status, split, take, text_of,
+    words_of,
 };
 use cov_base::{MemLink, OpenGate, SureLink, SureShelf};
 use cov_workers::{Alone, Store, session};
@@ -13,23 +14,11 @@ use std::io::Print;
 use std::sync::Arc;
 use std::thread::Threads;
 
-fn text_of(alloc: Global, text: &str) -> String {
-    String::from_str(alloc, text).unwrap_or(String::new(alloc))
-}
-
 /// The file of the design.
 fn shelf_of(alloc: Global, design: &[u8]) -> SureShelf {
     let mut files = Vec::new(alloc);
     let _ = files.push((text_of(alloc, "d"), copy_of(alloc, design)));
     SureShelf::new(files)
-}
-
-/// The words of the command.
-fn words_of(alloc: Global) -> Vec<String> {
-    let mut words = Vec::new(alloc);
-    let _ = words.push(text_of(alloc, "session"));
-    let _ = words.push(text_of(alloc, "d"));
-    words
 }
 
 /// PIECE READS WRITES: a link with these bytes to read.
@@ -47,12 +36,8 @@ fn status_of<R: Threads + Sync>(
     design: &[u8],
     link: &mut MemLink,
 ) -> Status {
-    let words = words_of(alloc);
+    let words = words_of(alloc, "session d");
     run(rt, alloc, &words, &mut shelf_of(alloc, design), link)
-}
-
-fn show_status<R: Print>(rt: &R, status: Status) {
-    show_number(rt, "status", u64::from(status.number()));
 }
 
 /// PIECE READS WRITES: runs a session over what is there.

@@ -7,7 +7,7 @@ ghost use Rattle.cov_workers.specs.Shares.{HasSeat};
 use crate::sessions::Table;
 use crate::sessions::replies::show_caller;
 use crate::sessions::runs::design_of;
-use crate::sessions::words::{number_of, say, take};
+use crate::words::{number_of, say, take};
 use cov_base::{MemDoor, MemLink, OpenGate, SureLink};
 use cov_workers::{Ended, Shared, Store, open, serve_connection, serve_rounds};
 use design_data::Design;

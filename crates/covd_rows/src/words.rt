@@ -2,6 +2,7 @@
 //! written is missing: the rows then aren't as `stdout` has them.
 ghost use Rattle.std.specs.Prelude.{◌<◌};
 
+use covd_core::Status;
 use std::alloc::Global;
 use std::io::Print;
 use std::mem;
@@ -59,6 +60,20 @@ pub(crate) fn take(alloc: Global, bytes: &mut Vec<u8>) -> Vec<u8> {
     mem::replace(bytes, Vec::new(alloc))
 }
 
+/// A copy of a text.
+pub(crate) fn text_of(alloc: Global, text: &str) -> String {
+    String::from_str(alloc, text).unwrap_or(String::new(alloc))
+}
+
+/// The words of a command.
+pub(crate) fn words_of(alloc: Global, row: &str) -> Vec<String> {
+    let mut words = Vec::new(alloc);
+    for word in row.split_whitespace() {
+        let _ = words.push(text_of(alloc, word));
+    }
+    words
+}
+
 /// Writes a line.
 pub(crate) fn say<R: Print>(rt: &R, line: &str) {
     let _ = println!(rt; "{line}");
@@ -72,4 +87,9 @@ pub(crate) fn show<R: Print>(rt: &R, what: &str, word: &str) {
 /// Writes a line of a word and a number.
 pub(crate) fn show_number<R: Print>(rt: &R, what: &str, number: u64) {
     let _ = println!(rt; "{what} {number}");
+}
+
+/// Writes the status of a command.
+pub(crate) fn show_status<R: Print>(rt: &R, status: Status) {
+    show_number(rt, "status", u64::from(status.number()));
 }
