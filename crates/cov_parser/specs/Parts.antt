@@ -10,11 +10,14 @@ use Rattle.cov_grammar.specs.declared.place.Room.{Room}
 use Rattle.cov_grammar.specs.Rule.{Rule, one, word, same_word, many, map_to, fold, ◌▸◌, ◌◂◌, maybe}
 use Rattle.cov_grammar.specs.Expressions.{snoc, expr, list_in}
 use Rattle.cov_grammar.specs.Groups.{label}
-use Rattle.cov_grammar.specs.Designs.{vector, arguments, argument_parens, edge}
+use Rattle.cov_grammar.specs.Designs.{vector, vector_span, arguments, argument_parens, edge}
 
 module _ (text : List ℕ) (ts : List Marked) where
   abbrev pub exprs : Room → Rule (List Expr)
   exprs = λ r. list_in text ts (expr text ts r)
+
+  abbrev pub maybe_span : Room → Rule (Option (Expr × Expr))
+  maybe_span = λ r. maybe (vector_span text ts r)
 
   abbrev pub maybe_vector : Room → Rule (Option TypeText)
   maybe_vector = λ r. maybe (vector text ts r)

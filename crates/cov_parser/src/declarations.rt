@@ -13,6 +13,7 @@ ghost use Rattle.cov_grammar.proofs.DesignLaws.{enum_name_lawful};
 ghost use Rattle.expr_parser.specs.Reading.{ParsesAlways, over};
 ghost use Rattle.cov_parser.specs.Parts.{exprs, maybe_arguments, maybe_vector, more_names, name_list};
 
+use crate::types::{built_in, vector};
 use cov_grammar::{Kind, Marked, Place, Room, Standing, Stop};
 use cov_tree::{Decl, Expr, List, Memory, Name, Shared, TypeText};
 use expr_parser::{Held, Item, NO_ROOM, Reader, add, alone, put_last};
@@ -125,7 +126,7 @@ pub(crate) fn variables(
 ) -> Result<(List<Decl>, Place), Stop>
     ensures { Parses (over reader.entry built_in_decl) room place result }
 {
-    let (typ, at) = reader.built_in(place, room)?;
+    let (typ, at) = built_in(reader, place, room)?;
     let (names, after) = names(reader, at)?;
     let decls = typed(reader, typ, names.as_slice())?;
     Ok((decls, after))
@@ -300,7 +301,7 @@ fn maybe_vector(
     let Some(_) = reader.take(place, &[Kind::BitWord, Kind::LogicWord, Kind::RegWord]) else {
         return Ok((Held::of(None), place));
     };
-    let (base, after) = reader.vector(place, room)?;
+    let (base, after) = vector(reader, place, room)?;
     Ok((Held::of(Some(base.put())), after))
 }
 

@@ -14,6 +14,7 @@ ghost use Rattle.cov_parser.specs.Parts.{direction, edge_parens, edge_word, edge
 
 use crate::crosses::cross;
 use crate::points::point;
+use crate::types::type_text;
 use cov_grammar::{Kind, Marked, Place, Room, Stop};
 use cov_tree::{Decl, EdgeKind, EdgeText, Formal, List, Member, Name};
 use expr_parser::{Held, Item, Reader, add, alone, put_last};
@@ -229,7 +230,7 @@ fn formal(
 {
     let start = reader.start_at(place.at);
     let (by_ref, at) = direction(reader, place, by_ref);
-    let (typ, at) = reader.type_text(at, room)?;
+    let (typ, at) = type_text(reader, at, room)?;
     let (name, at) = reader.ident(at)?;
     let (default, after) = reader.expr_behind(Kind::Assign, at, room)?;
     let formal = Formal {
@@ -316,7 +317,7 @@ fn argument(reader: Reader<'_>, place: Place, room: Room) -> Result<(Held<Formal
     ensures { Parses (over reader.entry argument) room place result }
 {
     let start = reader.start_at(place.at);
-    let (typ, at) = reader.type_text(behind_input(reader, place), room)?;
+    let (typ, at) = type_text(reader, behind_input(reader, place), room)?;
     let (name, after) = reader.ident(at)?;
     let arg = Formal {
         by_ref: false,

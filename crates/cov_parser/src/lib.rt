@@ -7,8 +7,10 @@ mod crosses;
 mod declarations;
 mod fault;
 mod groups;
+mod marks;
 mod parsing;
 mod points;
+mod types;
 
 pub use fault::ParseFault;
 pub use parsing::parse;

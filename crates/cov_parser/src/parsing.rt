@@ -14,10 +14,11 @@ ghost use Rattle.expr_parser.specs.Reading.{over};
 use crate::declarations::{enumeration, named, variables};
 use crate::fault::ParseFault;
 use crate::groups::group;
+use crate::marks::marks;
 use cov_grammar::{Kind, Place, Room, Stop};
 use cov_lexer::Token;
 use cov_tree::{Decl, DesignText, List};
-use expr_parser::{Reader, marks};
+use expr_parser::Reader;
 use std::alloc::Global;
 
 /// What a text may use up.

@@ -6,5 +6,3 @@ pub mod ValueWalks
 pub mod BinsWalks
 pub mod BodyWalks
 pub mod SelWalks
-pub mod TypeWalks
-pub mod Keeping

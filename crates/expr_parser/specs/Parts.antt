@@ -18,7 +18,6 @@ use Rattle.cov_grammar.specs.Rule.{Rule, word, counted, either, map_to, fold, �
 use Rattle.cov_grammar.specs.Expressions.{Inner, snoc, expr, part_expr, list_in, inner_at, index_in, primary_in, unary_in, binary_in}
 use Rattle.cov_grammar.specs.Bins.{ident, guard, elems, values, keep, step, seqs, repetition, is_scalar, is_fixed}
 use Rattle.cov_grammar.specs.Groups.{sel_inner_at, sand_in, sunary_in}
-use Rattle.cov_grammar.specs.Designs.{vector_span}
 
 module _ (text : List ℕ) (ts : List Marked) where
   -- operators of these kinds
@@ -61,9 +60,6 @@ module _ (text : List ℕ) (ts : List Marked) where
 
   abbrev pub maybe_guard : Room → Rule (Option Expr)
   maybe_guard = λ r. maybe (guard text ts r)
-
-  abbrev pub maybe_span : Room → Rule (Option (Expr × Expr))
-  maybe_span = λ r. maybe (vector_span text ts r)
 
   -- step { "=>" step }
   abbrev pub steps : Room → Rule (List Step)

@@ -1,7 +1,7 @@
 //! Street: text.
 //!
-//! Readers of a design text's expressions, of ranges, bins and selections made of them, and of types; and what each reader
-//! needs: tokens, lists of items and bodies in braces.
+//! Readers of a design text's expressions, and of ranges, bins and selections made of them; and what each reader needs:
+//! tokens, lists of items and bodies in braces.
 #![tactic(auto)]
 
 mod bins;
@@ -10,17 +10,14 @@ mod cross_bins;
 mod expr;
 mod held;
 mod lists;
-mod marking;
 mod operators;
 mod options;
 mod ranges;
 mod reader;
 mod selections;
 mod steps;
-mod types;
 
 pub use bodies::Declared;
 pub use held::{Held, add, alone};
 pub use lists::{Item, NO_ROOM, put_last};
-pub use marking::marks;
 pub use reader::Reader;

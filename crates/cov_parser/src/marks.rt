@@ -8,7 +8,7 @@ use cov_lexer::Token;
 use std::alloc::Global;
 
 /// The tokens with their kinds, or Memory. It takes the time of one pass.
-pub fn marks(alloc: Global, tokens: &[Token]) -> Result<Vec<Marked>, Stop>
+pub(crate) fn marks(alloc: Global, tokens: &[Token]) -> Result<Vec<Marked>, Stop>
     ensures { (text : List ℕ) → AllSpelled text tokens.now →
         IfOk result (λ found. found.items ≡ marked text tokens.now) }
 {

@@ -1,6 +1,6 @@
 use Rattle.cov_grammar.proofs.Steps.{exits}
-use Rattle.expr_parser.proofs.TypeWalks.{no_vector, vector_spans}
-use Rattle.expr_parser.proofs.reader.Reader.vector.Goals as goal
+use Rattle.cov_parser.proofs.TypeWalks.{no_vector, vector_spans}
+use Rattle.cov_parser.proofs.types.vector.Goals as goal
 
 pub returns-in_default : goal.returns-in_default
 returns-in_default c = no_vector _ _ c.in_default.ensures.none

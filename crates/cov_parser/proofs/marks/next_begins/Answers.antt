@@ -1,6 +1,6 @@
 use Rattle.std.proofs.Common.{◌∙◌}
-use Rattle.expr_parser.proofs.Keeping.{first_begins, none_begins}
-use Rattle.expr_parser.proofs.marking.next_begins.Goals as goal
+use Rattle.cov_parser.proofs.Keeping.{first_begins, none_begins}
+use Rattle.cov_parser.proofs.marks.next_begins.Goals as goal
 
 pub returns-in-Some : goal.returns-in-Some
 returns-in-Some c = λ text all. c.is_one_of.ensures ∙ first_begins text c.in-Some.token.now c.args.tokens.now c.in-Some.ensures.value all

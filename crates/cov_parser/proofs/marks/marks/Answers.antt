@@ -1,7 +1,7 @@
 use Rattle.std.proofs.Common.{ap, ◌++◌, false}
 use Rattle.cov_grammar.specs.Marking.{marked, marked_from}
-use Rattle.expr_parser.proofs.Keeping.{mark_all, mark_next}
-use Rattle.expr_parser.proofs.marking.marks.Goals as goal
+use Rattle.cov_parser.proofs.Keeping.{mark_all, mark_next}
+use Rattle.cov_parser.proofs.marks.marks.Goals as goal
 
 pub loop-token-init : goal.loop-token-init
 unfolding marked

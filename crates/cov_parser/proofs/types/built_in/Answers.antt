@@ -1,6 +1,6 @@
 use Rattle.cov_grammar.proofs.Steps.{leads_parses}
-use Rattle.expr_parser.proofs.TypeWalks.{not_fixed, fixed_read}
-use Rattle.expr_parser.proofs.reader.Reader.built_in.Goals as goal
+use Rattle.cov_parser.proofs.TypeWalks.{not_fixed, fixed_read}
+use Rattle.cov_parser.proofs.types.built_in.Goals as goal
 
 pub returns-in_default : goal.returns-in_default
 returns-in_default c = leads_parses _ (not_fixed _ _ c.in_default.ensures.none) c.vector.ensures

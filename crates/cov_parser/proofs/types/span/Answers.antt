@@ -1,6 +1,6 @@
 use Rattle.cov_grammar.proofs.Steps.{exits}
-use Rattle.expr_parser.proofs.TypeWalks.{no_span, span_no_high, span_no_colon, span_no_low, span_closes}
-use Rattle.expr_parser.proofs.reader.Reader.span.Goals as goal
+use Rattle.cov_parser.proofs.TypeWalks.{no_span, span_no_high, span_no_colon, span_no_low, span_closes}
+use Rattle.cov_parser.proofs.types.span.Goals as goal
 
 pub returns-in_default : goal.returns-in_default
 returns-in_default c = rw c.of.ensures (no_span _ _ c.in_default.ensures.none)
