@@ -77,6 +77,21 @@ def odd_box(k):
     return "(" + "=>".join(span(3) for place in range(9)) + f"=>{draw.randrange(200)}),"
 
 
+def twice_behind(k):
+    """A range, and a number that stands twice behind it."""
+    return f"({span(256)}=>{draw.randrange(180)}[*2]),"
+
+
+def number_between(k):
+    """A number between two ranges."""
+    return f"({span(256)}=>{draw.randrange(100)}=>{span(2)}),"
+
+
+def number_at_the_end(k):
+    """A number of two lengths, two ranges, and a number behind them."""
+    return f"({draw.randrange(2)}[*1:2]=>{span(180)}=>{span(2)}=>{draw.randrange(4)}),"
+
+
 def waits(k):
     """A sequence of a few numbers that are waited for, and a repetition."""
     return f"({span(4)}[->1:{draw.randrange(1, 4)}]=>{span(6)}[*1:3]),"
@@ -120,6 +135,9 @@ texts = {
     "cubes": group("bit [7:0] v;", point("bins b[] = " + many(cube, LONGEST - 200) + "(0);")),
     "varied_cubes": group("bit [7:0] v;", point("bins b[] = " + many(varied_cube, LONGEST - 200) + "(0=>0);")),
     "odd_boxes": group("bit [7:0] v;", point("bins b[] = " + many(odd_box, LONGEST - 200) + "(3);")),
+    "twice_behind": group("bit [7:0] v;", point("bins b[] = " + many(twice_behind, LONGEST - 200) + "(0);")),
+    "number_between": group("bit [7:0] v;", point("bins b[] = " + many(number_between, LONGEST - 200) + "(0);")),
+    "number_at_the_end": group("bit [7:0] v;", point("bins b[] = " + many(number_at_the_end, LONGEST - 200) + "(0);")),
     "waits": group("bit [7:0] v;", point("bins b[] = " + many(waits, LONGEST - 200) + "(0);")),
     "single_steps": group("bit [7:0] v;", point("bins b[] = (" + "1=>" * 118 + "[0:255]=>[0:255]);")),
     "two_lengths": group("bit [15:0] v;", point("bins b[] = (" + "5[*1:2]=>" * 59 + "[0:1000]=>6);")),
