@@ -92,6 +92,27 @@ def number_at_the_end(k):
     return f"({draw.randrange(2)}[*1:2]=>{span(180)}=>{span(2)}=>{draw.randrange(4)}),"
 
 
+def number_far(k):
+    """Two ranges, and a number behind both."""
+    return f"({span(100)}=>{span(100)}=>{draw.randrange(6)}),"
+
+
+def pair_twice(k):
+    """A range, and two numbers next to each other that stand twice behind it."""
+    low = draw.randrange(60)
+    return f"({span(256)}=>[{low}:{low + 1}][*2]),"
+
+
+def square_twice(k):
+    """Two ranges, and a number that stands twice behind them."""
+    return f"({span(40)}=>{span(40)}=>{draw.randrange(40)}[*2]),"
+
+
+def small_twice(k):
+    """Seven small ranges, and a number that stands twice behind them."""
+    return "(" + "=>".join(span(3) for place in range(7)) + f"=>{draw.randrange(3)}[*2]),"
+
+
 def waits(k):
     """A sequence of a few numbers that are waited for, and a repetition."""
     return f"({span(4)}[->1:{draw.randrange(1, 4)}]=>{span(6)}[*1:3]),"
@@ -138,6 +159,10 @@ texts = {
     "twice_behind": group("bit [7:0] v;", point("bins b[] = " + many(twice_behind, LONGEST - 200) + "(0);")),
     "number_between": group("bit [7:0] v;", point("bins b[] = " + many(number_between, LONGEST - 200) + "(0);")),
     "number_at_the_end": group("bit [7:0] v;", point("bins b[] = " + many(number_at_the_end, LONGEST - 200) + "(0);")),
+    "number_far": group("bit [7:0] v;", point("bins b[] = " + many(number_far, LONGEST - 200) + "(0);")),
+    "pair_twice": group("bit [7:0] v;", point("bins b[] = " + many(pair_twice, LONGEST - 200) + "(0);")),
+    "square_twice": group("bit [7:0] v;", point("bins b[] = " + many(square_twice, LONGEST - 200) + "(0);")),
+    "small_twice": group("bit [1:0] v;", point("bins b[] = " + many(small_twice, LONGEST - 200) + "(3);")),
     "waits": group("bit [7:0] v;", point("bins b[] = " + many(waits, LONGEST - 200) + "(0);")),
     "single_steps": group("bit [7:0] v;", point("bins b[] = (" + "1=>" * 118 + "[0:255]=>[0:255]);")),
     "two_lengths": group("bit [15:0] v;", point("bins b[] = (" + "5[*1:2]=>" * 59 + "[0:1000]=>6);")),

@@ -1,9 +1,9 @@
 -- Lists with one number of each of several sets, and those that are found already.
 use Rattle.std.proofs.Common.{◌≡◌, ◌≤◌, ◌≤ℤ◌, int_le, List, [], ◌∷◌, ◌++◌, length, map, filter, refl, ap, sym, ◌∙◌, subst, inl, inr, arith, append_assoc, append-nil, length-append, Result, Ok, Err, OnOk, Bool, true, false, cond}
 use Rattle.std.specs.Prelude.{ℤ, ◌==◌, not, ◌&&◌, ◌||◌, Some, Option}
-use Rattle.std.specs.Cmp.Lexicographic.{pointwise}
 use Rattle.std.proofs.lemmas.List.Concat.{flat_map-append}
 use Rattle.std.specs.Ordering.{int_eq}
+use Rattle.std.specs.HashMap.{get}
 use Rattle.std.specs.List.{flat_map, list_any}
 use Rattle.std.proofs.lemmas.Bool.{false≢true, true≢false, or_cases, or_left, or_right}
 use Rattle.std.proofs.lemmas.Bool.Decides.{Decides-int_eq}
@@ -20,12 +20,12 @@ use Rattle.trans_seq.specs.declared.fault.ExpandFault.TheVariants.{Unbounded, To
 use Rattle.trans_seq.specs.Lists.{is_among, news, listed, is_endless, RefusesToExpand}
 use Rattle.trans_seq.specs.Cells.{cells_of_items}
 use Rattle.cov_ground.specs.Limits.{most_cells}
-use Rattle.trans_seq.specs.Found.{lists_of, Takes, FailsAfter}
-use Rattle.trans_seq.specs.Held.{words, begun, begun_by, HasAll, IsPart, behind_one, AreHeld}
-use Rattle.trans_seq.proofs.News.{Word, same_word, among_left, among_right, among_cases, among_cons, among_first, among_later, among_map, among_news, news-append}
+use Rattle.trans_seq.specs.Found.{lists_of, Holds, Takes, FailsAfter}
+use Rattle.trans_seq.specs.Held.{words, begun, begun_by, HasAll, IsPart, AreHeld}
+use Rattle.trans_seq.proofs.News.{Word, among_left, among_right, among_cases, among_cons, among_first, among_later, among_map, among_news, news-append}
 use Rattle.trans_seq.specs.Alone.{behind, behind_by}
 use Rattle.trans_seq.proofs.Counted.{map-append, no_more, listed-differ}
-use Rattle.trans_seq.proofs.FoundLemmas.{lists_after}
+use Rattle.trans_seq.proofs.FoundLemmas.{lists_after, takes_none}
 use Rattle.trans_seq.proofs.MetLemmas.{news_none}
 use Rattle.trans_seq.proofs.Numbers.{none_written, written-one}
 
@@ -95,10 +95,16 @@ pub takes-keeps : (old new : Found) (ws some : List Word) → Takes old new ws �
 takes-keeps old new ws some t h = subst (λ l. HasAll l some) (sym (lists_after old new ws t)) (has-more (lists_of old) (news (lists_of old) ws) some h)
 
 pub held-more : (known : Known) (old new : Found) (ws : List Word) → Takes old new ws → AreHeld known (lists_of old) → AreHeld known (lists_of new)
-held-more known old new ws t h key held is = takes-keeps old new ws (begun_by (behind_one key.items) (written held.numbers) held.rest) t (h key held is)
+held-more known old new ws t h key held is = takes-keeps old new ws (begun_by held.first (written held.numbers) held.rest) t (h key held is)
+
+pub held-kept : (known same : Known) (lists : List Word) → same.kept ≡ known.kept → AreHeld known lists → AreHeld same lists
+held-kept known same lists e h mark held is = h mark held (sym (ap (λ kept. get int_eq kept mark) e) ∙ is)
 
 pub takes-same : (old new : Found) (xs ys : List Word) → news (lists_of old) xs ≡ news (lists_of old) ys → Takes old new xs → Takes old new ys
 takes-same old new xs ys e t = record { holds = t.holds; groups = t.groups; fresh = t.fresh ∙ ap (λ l. old.fresh.items ++ l) e }
+
+pub takes-known : (found : Found) (ws : List Word) → Holds found → HasAll (lists_of found) ws → Takes found found ws
+takes-known found ws holds had = takes-same found found [] ws (sym (news_none (lists_of found) ws had)) (takes_none found holds)
 
 pub fails-same : (before xs ys : List Word) (f : ExpandFault) → news before xs ≡ news before ys → FailsAfter before xs f → FailsAfter before ys f
 fails-same before xs ys Unbounded e h = h
@@ -143,16 +149,10 @@ passed-known before first set known items had =
 some-same : (v w : Held) → Some v ≡ Some w → v ≡ w
 some-same v w e = cc
 
-pub held-new : (lists : List Word) (t : Bool) (new held : Held) (old got : Option Held) → got ≡ cond t (Some new) old → got ≡ Some held → (first here : Word) → (t ≡ true → here ≡ first)
-    → HasAll lists (begun_by first (written new.numbers) new.rest) → (old ≡ Some held → HasAll lists (begun_by here (written held.numbers) held.rest)) → HasAll lists (begun_by here (written held.numbers) held.rest)
-held-new lists true new held old got e is first here same has before =
-    subst (λ f. HasAll lists (begun_by f (written held.numbers) held.rest)) (sym (same refl))
-    (subst (λ (h : Held). HasAll lists (begun_by first (written h.numbers) h.rest)) (some-same new held (sym e ∙ is)) has)
-held-new lists false new held old got e is first here same has before = before (sym e ∙ is)
-
--- the numbers that a key of the same numbers tells
-pub key-first : (new key : Word) (more : ℤ) (first : Word) → new ≡ more ∷ first → pointwise int_eq new key ≡ true → behind_one key ≡ first
-key-first new key more first is same = ap behind_one (sym (same_word new key same) ∙ is)
+pub held-new : (lists : List Word) (t : Bool) (new held : Held) (old got : Option Held) → got ≡ cond t (Some new) old → got ≡ Some held → HasAll lists (begun_by new.first (written new.numbers) new.rest)
+    → (old ≡ Some held → HasAll lists (begun_by held.first (written held.numbers) held.rest)) → HasAll lists (begun_by held.first (written held.numbers) held.rest)
+held-new lists true new held old got e is has before = subst (λ (h : Held). HasAll lists (begun_by h.first (written h.numbers) h.rest)) (some-same new held (sym e ∙ is)) has
+held-new lists false new held old got e is has before = before (sym e ∙ is)
 
 -- ---- sets within sets have lists within lists
 

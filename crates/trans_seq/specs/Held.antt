@@ -1,11 +1,9 @@
 -- Lists with one number of each of several sets, and what is known of those that are found. Public contracts cite none
 -- of it.
-use Rattle.std.specs.Prelude.{◌≡◌, ℤ, List, [], ◌∷◌, ◌++◌, map, true, Vec, Some}
+use Rattle.std.specs.Prelude.{◌≡◌, ℤ, List, [], ◌∷◌, ◌++◌, map, true, Some}
 use Rattle.std.specs.Ordering.{int_eq}
 use Rattle.std.specs.List.{flat_map}
-use Rattle.std.specs.Cmp.Lexicographic.{pointwise}
 use Rattle.std.specs.HashMap.{get}
-use Rattle.std.specs.Global.{Global}
 use Rattle.cov_base.specs.Sets.{written, is_in}
 use Rattle.trans_seq.specs.declared.seq.Item.{Item}
 use Rattle.trans_seq.specs.declared.seq.Repeat.TheVariants.{Once}
@@ -38,11 +36,10 @@ HasAll lists some = (w : List ℤ) → is_among some w ≡ true → is_among lis
 abbrev pub IsPart : List ℤ → List ℤ → Type 0
 IsPart numbers others = (v : ℤ) → is_in numbers v ≡ true → is_in others v ≡ true
 
--- the numbers behind the first one
-abbrev pub behind_one : List ℤ → List ℤ
-behind_one [] = []
-behind_one (size ∷ first) = first
-
--- what is known to be found is among the lists: a key tells how many numbers follow, and then those that lists begin with
+-- what is kept of the lists that are found is among them
 abbrev pub AreHeld : Known → List (List ℤ) → Type 0
-AreHeld known lists = (key : Vec ℤ Global) (held : Held) → get (λ a b. pointwise int_eq a.items b.items) known.kept key ≡ Some held → HasAll lists (begun_by (behind_one key.items) (written held.numbers) held.rest)
+AreHeld known lists = (mark : ℤ) (held : Held) → get int_eq known.kept mark ≡ Some held → HasAll lists (begun_by held.first (written held.numbers) held.rest)
+
+-- with the lists that have these numbers or the others between the first ones and the rest, more is kept
+abbrev pub Keeps : Known → Known → List ℤ → List ℤ → List ℤ → List Item → Type 0
+Keeps old new first numbers others rest = (lists : List (List ℤ)) → AreHeld old lists → HasAll lists (begun_by first numbers rest) → HasAll lists (begun_by first others rest) → AreHeld new lists

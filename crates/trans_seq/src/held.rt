@@ -1,27 +1,32 @@
-//! Which lists are known to be found, by the numbers that they begin with and how many follow.
-ghost use Rattle.std.specs.Prelude.{◌≡◌, [], ◌∷◌, ◌++◌, ◌||◌, ℤ, List, pos, IsTrue, IfOk, IfSome, OnOk};
+//! Which lists are known to be found, by the numbers that they begin with, and by how many sets or which ones follow.
+ghost use Rattle.std.specs.Prelude.{◌≡◌, [], ◌∷◌, ◌++◌, ◌||◌, ℤ, List, IsTrue, IfOk, IfSome, OnOk};
 ghost use Rattle.cov_base.specs.Sets.{written, is_in};
-ghost use Rattle.trans_seq.specs.Held.{words, begun, begun_by, HasAll, IsPart, AreHeld};
+ghost use Rattle.trans_seq.specs.Held.{words, begun, begun_by, HasAll, IsPart, AreHeld, Keeps};
 
 use crate::alone::only_number;
+use crate::found::list_of;
+use crate::marks::{with_items, with_numbers, with_only_numbers};
 use crate::seq::{Item, copied_items};
+use crate::tries::Tries;
 use cov_base::{Int, Memory, ValueSet};
 use cov_tree::List;
 use std::alloc::Global;
 use std::collections::HashMap;
 
-/// Of the lists that begin with the numbers of a key, some that are found: those with one of the numbers and one of each
-/// set of the rest.
+/// Of the lists that begin with the first numbers, some that are found: those that go on with one of the numbers and one of
+/// each set of the rest.
 #[derive(Drop)]
 pub(crate) struct Held {
+    pub(crate) first: List<Int>,
     pub(crate) numbers: ValueSet,
     pub(crate) rest: List<Item>,
 }
 
-/// By the numbers that lists begin with, and how many follow behind the next one, some that are found.
+/// By a mark of what they have in common, lists that are found; and how often it is tried to learn of more.
 #[derive(Drop)]
 pub(crate) struct Known {
-    pub(crate) kept: HashMap<Vec<i128>, Held>,
+    pub(crate) kept: HashMap<i128, Held>,
+    pub(crate) tries: Tries,
 }
 
 /// Nothing. It takes no memory.
@@ -30,19 +35,59 @@ pub(crate) fn none_known(alloc: Global) -> Known
 {
     Known {
         kept: HashMap::new(alloc),
+        tries: Tries::none(),
     }
 }
 
-/// The key of lists that begin with these numbers and have so many more behind the next one.
-fn key_of(alloc: Global, first: &[Int], more: usize) -> Result<Vec<i128>, Memory>
-    ensures { IfOk result (λ key. key.items ≡ pos more ∷ first.now) }
-{
-    let mut key = Vec::with_capacity(alloc, first.len().saturating_add(1))?;
-    key.push(more as i128)?;
-    for value in first {
-        key.push(value.get())?;
+/// To go through so few numbers once more costs less than to keep much of them.
+const FEW_NUMBERS: u128 = 3;
+
+/// Whether the set has a few numbers at most.
+pub(crate) fn has_few(set: &ValueSet) -> bool {
+    set.count() <= FEW_NUMBERS
+}
+
+/// The mark of lists that begin with these numbers and have as many behind the next one as there are sets; where the next
+/// one is of many, they also have the same number wherever a set has one alone.
+pub(crate) fn mark_by_size(first: &[Int], set: &ValueSet, rest: &[Item]) -> i128 {
+    let size = (rest.len() as i128).wrapping_add(1);
+    if has_few(set) {
+        return with_numbers(size, first);
     }
-    Ok(key)
+    with_numbers(with_only_numbers(size, rest), first)
+}
+
+/// The mark of lists that begin with these numbers and end with one of each of these sets.
+pub(crate) fn mark_by_sets(first: &[Int], rest: &[Item]) -> i128 {
+    with_numbers(with_items(-1, rest), first)
+}
+
+/// Whether lists with numbers of the set are kept by the sets that follow too.
+pub(crate) fn has_mark_by_sets(set: &ValueSet, rest: &[Item]) -> bool {
+    !rest.is_empty() && !has_few(set)
+}
+
+fn are_same(first: &[Int], second: &[Int]) -> bool
+    ensures { IsTrue result → first.now ≡ second.now }
+{
+    first == second
+}
+
+/// What is kept at the mark, if its lists begin with the first numbers.
+fn kept_at<'a>(first: &[Int], mark: i128, known: &'a Known) -> Option<&'a Held>
+    ensures { IfSome result (λ held. (lists : List (List ℤ)) → AreHeld known.now lists
+        → HasAll lists (begun_by first.now (written held.now.numbers) held.now.rest)) }
+{
+    match known.kept.get(&mark) {
+        Some(held) => {
+            if are_same(held.first.as_slice(), first) {
+                Some(held)
+            } else {
+                None
+            }
+        }
+        None => None,
+    }
 }
 
 /// Whether a set has no number.
@@ -127,10 +172,11 @@ pub(crate) fn are_parts(alloc: Global, items: &[Item], others: &[Item]) -> Resul
     }
 }
 
-/// Numbers of which it is known that all lists are found that begin with the first numbers, go on with one of them, and
-/// end with one of each set of the rest.
-pub(crate) fn known_numbers(
+/// Numbers that are kept at the mark, of which it is known that all lists are found that begin with the first numbers, go on
+/// with one of them, and end with one of each set of the rest.
+fn numbers_at(
     alloc: Global,
+    mark: i128,
     first: &[Int],
     rest: &[Item],
     known: &Known,
@@ -139,8 +185,7 @@ pub(crate) fn known_numbers(
         (λ numbers. (lists : List (List ℤ)) → AreHeld known.now lists
         → HasAll lists (begun_by first.now (written numbers) rest.now)) }
 {
-    let key = key_of(alloc, first, rest.len())?;
-    if let Some(held) = known.kept.get(&key) {
+    if let Some(held) = kept_at(first, mark, known) {
         if are_parts(alloc, rest, held.rest.as_slice())? {
             return held.numbers.copy(alloc);
         }
@@ -148,9 +193,53 @@ pub(crate) fn known_numbers(
     Ok(ValueSet::new(alloc))
 }
 
+/// Numbers of which it is known that all lists are found that begin with the first numbers, go on with one of them, and
+/// end with one of each set of the rest. The set is the one whose numbers are asked for.
+pub(crate) fn known_numbers(
+    alloc: Global,
+    first: &[Int],
+    set: &ValueSet,
+    rest: &[Item],
+    known: &Known,
+) -> Result<ValueSet, Memory>
+    ensures { IfOk result
+        (λ numbers. (lists : List (List ℤ)) → AreHeld known.now lists
+        → HasAll lists (begun_by first.now (written numbers) rest.now)) }
+{
+    let numbers = numbers_at(alloc, mark_by_size(first, set, rest), first, rest, known)?;
+    if !has_mark_by_sets(set, rest) {
+        return Ok(numbers);
+    }
+    let others = numbers_at(alloc, mark_by_sets(first, rest), first, rest, known)?;
+    joined_set(alloc, &numbers, &others)
+}
+
+/// Whether what is kept at the mark has all lists that begin with the first numbers, go on with one of the set, and end
+/// with one of each set of the rest.
+fn has_all_at(
+    alloc: Global,
+    mark: i128,
+    first: &[Int],
+    set: &ValueSet,
+    rest: &[Item],
+    known: &Known,
+) -> Result<bool, Memory>
+    ensures { IfOk result
+        (λ full. IsTrue full → (lists : List (List ℤ)) → AreHeld known.now lists
+        → HasAll lists (begun_by first.now (written set.now) rest.now)) }
+{
+    let Some(held) = kept_at(first, mark, known) else {
+        return Ok(false);
+    };
+    if !is_part(alloc, set, &held.numbers)? {
+        return Ok(false);
+    }
+    are_parts(alloc, rest, held.rest.as_slice())
+}
+
 /// Whether all lists are known to be found that begin with the first numbers, go on with one of the set, and end with one
 /// of each set of the rest.
-fn has_all(
+pub(crate) fn has_all(
     alloc: Global,
     first: &[Int],
     set: &ValueSet,
@@ -161,12 +250,35 @@ fn has_all(
         (λ full. IsTrue full → (lists : List (List ℤ)) → AreHeld known.now lists
         → HasAll lists (begun_by first.now (written set.now) rest.now)) }
 {
-    let numbers = known_numbers(alloc, first, rest, known)?;
-    is_part(alloc, set, &numbers)
+    if has_all_at(
+        alloc,
+        mark_by_size(first, set, rest),
+        first,
+        set,
+        rest,
+        known,
+    )? {
+        return Ok(true);
+    }
+    if !has_mark_by_sets(set, rest) {
+        return Ok(false);
+    }
+    has_all_at(alloc, mark_by_sets(first, rest), first, set, rest, known)
+}
+
+/// The number of a set that has one alone, where sets follow.
+fn number_before(set: &ValueSet, rest: &[Item]) -> Option<Int>
+    ensures { IfSome result (λ number. written set.now ≡ number ∷ []) }
+{
+    if rest.is_empty() {
+        None
+    } else {
+        only_number(set)
+    }
 }
 
 /// Whether all lists are known to be found that begin with the first numbers and go on with one of each item's set. A set
-/// of one number is passed over, since nothing is kept before it.
+/// of one number with sets behind it is passed over, since nothing is kept before it.
 #[cycle(is_full)]
 pub(crate) fn is_full(
     alloc: Global,
@@ -181,7 +293,7 @@ pub(crate) fn is_full(
 {
     match items {
         [] => Ok(false),
-        [item, rest @ ..] => match only_number(&item.set) {
+        [item, rest @ ..] => match number_before(&item.set, rest) {
             Some(number) => is_full_behind(alloc, first, number, rest, known),
             None => has_all(alloc, first.as_slice(), &item.set, rest, known),
         },
@@ -208,27 +320,23 @@ fn is_full_behind(
     Ok(full)
 }
 
-/// What is known to be found of the lists that begin with the first numbers and have so many behind the next one.
+/// What is kept of the lists that begin with the first numbers and go on with numbers of sets like these.
 pub(crate) fn held_behind<'a>(
-    alloc: Global,
     first: &[Int],
-    more: usize,
+    set: &ValueSet,
+    rest: &[Item],
     known: &'a Known,
-) -> Result<Option<&'a Held>, Memory>
-    ensures { IfOk result
-        (λ held. IfSome held (λ held. (lists : List (List ℤ)) → AreHeld known.now lists
-        → HasAll lists (begun_by first.now (written held.now.numbers) held.now.rest))) }
+) -> Option<&'a Held>
+    ensures { IfSome result (λ held. (lists : List (List ℤ)) → AreHeld known.now lists
+        → HasAll lists (begun_by first.now (written held.now.numbers) held.now.rest)) }
 {
-    let key = key_of(alloc, first, more)?;
-    match known.kept.get(&key) {
-        Some(held) => Ok(Some(held)),
-        None => Ok(None),
-    }
+    kept_at(first, mark_by_size(first, set, rest), known)
 }
 
-/// Keeps that the lists with these numbers are found, and those with the others.
+/// Keeps at the mark that the lists with these numbers are found, and those with the others.
 pub(crate) fn remember(
     alloc: Global,
+    mark: i128,
     first: &[Int],
     numbers: &ValueSet,
     others: &ValueSet,
@@ -236,16 +344,13 @@ pub(crate) fn remember(
     known: &mut Known,
 ) -> Result<(), Memory>
     ensures { OnOk result
-        ((lists : List (List ℤ)) → AreHeld known.old lists
-        → HasAll lists (begun_by first.now (written numbers.now) rest.now)
-        → HasAll lists (begun_by first.now (written others.now) rest.now)
-        → AreHeld known.new lists) }
+        (Keeps known.old known.new first.now (written numbers.now) (written others.now) rest.now) }
 {
-    let key = key_of(alloc, first, rest.len())?;
     let held = Held {
+        first: list_of(alloc, first, &[])?,
         numbers: joined_set(alloc, numbers, others)?,
         rest: List::of(copied_items(alloc, rest)?),
     };
-    known.kept.insert(key, held)?;
+    known.kept.insert(mark, held)?;
     Ok(())
 }

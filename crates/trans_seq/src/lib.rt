@@ -10,11 +10,13 @@ mod found;
 mod held;
 pub mod laws;
 mod listing;
+mod marks;
 mod met;
 mod reach;
 mod seq;
 mod size;
 mod spread;
+mod tries;
 mod widened;
 mod windows;
 

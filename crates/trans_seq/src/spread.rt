@@ -8,10 +8,10 @@ ghost use Rattle.trans_seq.specs.Held.{begun, begun_by, once as item_once, AreHe
 use crate::alone::count_ahead;
 use crate::fault::ExpandFault;
 use crate::found::{Found, found_count, list_of, take_list};
-use crate::held::{Known, is_none, known_numbers};
+use crate::held::{Known, has_all, is_none, known_numbers};
 use crate::listing::ends;
 use crate::seq::{Item, Repeat};
-use crate::widened::keep;
+use crate::widened::{keep, keep_by_sets};
 use cov_base::{Int, Memory, ValueSet};
 use std::alloc::Global;
 
@@ -73,9 +73,9 @@ fn unknown_numbers(alloc: Global, set: &ValueSet, known: &ValueSet) -> Result<Va
     set.minus(alloc, known)
 }
 
-/// Whether a set has several numbers, so that what is found of it is kept: that costs about as much as one of its lists.
-fn is_large(set: &ValueSet) -> bool {
-    set.count() > 1
+/// Whether it is kept what is found of the lists with numbers of the set: that costs about as much as one of its lists.
+fn is_kept(set: &ValueSet, rest: &[Item]) -> bool {
+    rest.is_empty() || set.count() > 1
 }
 
 /// Whether all lists with one number of the set and one of each set of the rest were new, of which so many were.
@@ -102,7 +102,7 @@ pub(crate) fn take_items(
     match items {
         [] => take_first(alloc, first.as_slice(), found),
         [item, rest @ ..] => {
-            if is_large(&item.set) {
+            if is_kept(&item.set, rest) {
                 take_unknown(alloc, &item.set, rest, first, known, found)
             } else {
                 take_numbers(alloc, &item.set, rest, first, known, found)
@@ -141,7 +141,10 @@ fn take_unknown(
     ensures err { IfErr result
         (FailsAfter (lists_of found.old) (begun_by first.old.items (written set.now) rest.now)) }
 {
-    let before = known_numbers(alloc, first.as_slice(), rest, known)?;
+    if has_all(alloc, first.as_slice(), set, rest, known)? {
+        return Ok(());
+    }
+    let before = known_numbers(alloc, first.as_slice(), set, rest, known)?;
     let left = unknown_numbers(alloc, set, &before)?;
     if is_none(&left) {
         return Ok(());
@@ -149,6 +152,7 @@ fn take_unknown(
     let old = found_count(found);
     take_numbers(alloc, &left, rest, first, known, found)?;
     let is_new = has_only_new(&left, rest, found_count(found).saturating_sub(old));
+    keep_by_sets(alloc, first.as_slice(), set, &before, rest, known)?;
     keep(
         alloc,
         first,

@@ -2,20 +2,19 @@
 //! has.
 ghost use Rattle.std.specs.Prelude.{◌≡◌, ◌∷◌, ◌++◌, ℤ, List, [], IfOk, OnOk};
 ghost use Rattle.cov_base.specs.Sets.{written};
-ghost use Rattle.trans_seq.specs.Held.{begun_by, HasAll, AreHeld};
+ghost use Rattle.trans_seq.specs.Held.{begun_by, HasAll, AreHeld, Keeps};
 
 use crate::alone::count_ahead;
-use crate::held::{Held, Known, are_parts, held_behind, is_full, joined_set, remember};
+use crate::held::{
+    Held, Known, are_parts, has_few, has_mark_by_sets, held_behind, is_full, joined_set,
+    mark_by_sets, mark_by_size, remember,
+};
 use crate::seq::{Item, Repeat};
 use cov_base::{Int, Memory, ValueSet};
 use std::alloc::Global;
 
 /// Numbers that are looked up for each number that was gone through, to learn whether more is found than was known.
 const TRIES: u128 = 4;
-
-/// A set of so few numbers with sets behind it isn't kept where all its lists were new: to go through them once more costs
-/// less.
-const FEW_NUMBERS: u128 = 3;
 
 /// The numbers of the set that aren't in the other.
 fn numbers_without(alloc: Global, set: &ValueSet, other: &ValueSet) -> Result<ValueSet, Memory> {
@@ -170,9 +169,106 @@ fn widened(
     })
 }
 
+/// Keeps that the lists with a number of the set, or of those before, and one of each set of the rest are found.
+fn keep_taken(
+    alloc: Global,
+    first: &[Int],
+    set: &ValueSet,
+    before: &ValueSet,
+    rest: &[Item],
+    known: &mut Known,
+) -> Result<(), Memory>
+    ensures { OnOk result
+        (Keeps known.old known.new first.now (written set.now) (written before.now) rest.now) }
+{
+    let mark = mark_by_size(first, set, rest);
+    remember(alloc, mark, first, set, before, rest, known)
+}
+
+/// How many lists have a number of the set, or of those before, and one of each set of the rest.
+fn count_taken(set: &ValueSet, before: &ValueSet, rest: &[Item]) -> u128 {
+    count_ahead(rest, set.count().saturating_add(before.count()))
+}
+
+/// The same where they are more than are kept so far.
+fn keep_more(
+    alloc: Global,
+    first: &[Int],
+    set: &ValueSet,
+    before: &ValueSet,
+    rest: &[Item],
+    kept: u128,
+    known: &mut Known,
+) -> Result<(), Memory>
+    ensures { OnOk result
+        (Keeps known.old known.new first.now (written set.now) (written before.now) rest.now) }
+{
+    if count_taken(set, before, rest) <= kept {
+        return Ok(());
+    }
+    keep_taken(alloc, first, set, before, rest, known)
+}
+
+/// The same, or that the wider ones are found where they are no fewer; and notes whether they are more.
+fn keep_wider(
+    alloc: Global,
+    first: &[Int],
+    set: &ValueSet,
+    before: &ValueSet,
+    rest: &[Item],
+    kept: u128,
+    wider: &Wider,
+    known: &mut Known,
+) -> Result<(), Memory>
+    ensures { OnOk result
+        ((lists : List (List ℤ)) → AreHeld known.old lists
+        → HasAll lists (begun_by first.now (written set.now) rest.now)
+        → HasAll lists (begun_by first.now (written before.now) rest.now)
+        → HasAll lists (begun_by first.now (written wider.now.sure) wider.now.rest.items)
+        → HasAll lists (begun_by first.now (written wider.now.full) wider.now.rest.items)
+        → AreHeld known.new lists) }
+{
+    let most = kept.max(count_taken(set, before, rest));
+    let numbers = wider.sure.count().saturating_add(wider.full.count());
+    let many = count_ahead(wider.rest.as_slice(), numbers);
+    known.tries.note(many > most);
+    if many < most {
+        return keep_more(alloc, first, set, before, rest, kept, known);
+    }
+    let mark = mark_by_size(first, set, rest);
+    let wide = wider.rest.as_slice();
+    remember(alloc, mark, first, &wider.sure, &wider.full, wide, known)
+}
+
+/// Keeps the same by the sets of the rest, where lists are kept by these.
+pub(crate) fn keep_by_sets(
+    alloc: Global,
+    first: &[Int],
+    set: &ValueSet,
+    before: &ValueSet,
+    rest: &[Item],
+    known: &mut Known,
+) -> Result<(), Memory>
+    ensures { OnOk result
+        (Keeps known.old known.new first.now (written set.now) (written before.now) rest.now) }
+{
+    if !has_mark_by_sets(set, rest) {
+        return Ok(());
+    }
+    let mark = mark_by_sets(first, rest);
+    remember(alloc, mark, first, set, before, rest, known)
+}
+
+/// Whether it is tried to learn of more lists with numbers in front of the rest.
+fn is_tried(rest: &[Item], known: &mut Known) -> bool
+    ensures { known.new.kept ≡ known.old.kept }
+{
+    !rest.is_empty() && known.tries.is_due()
+}
+
 /// Keeps that the lists with a number of the set, or of those before, and one of each set of the rest are found, where
 /// that is more than what is kept of lists that begin so; `left` numbers of the set were gone through, and maybe gave new
-/// lists alone.
+/// lists alone. A set of a few numbers with sets behind it isn't kept where all its lists were new.
 pub(crate) fn keep(
     alloc: Global,
     first: &mut Vec<Int>,
@@ -185,37 +281,28 @@ pub(crate) fn keep(
 ) -> Result<(), Memory>
     ensures first { OnOk result (first.new.items ≡ first.old.items) }
     ensures held { OnOk result
-        ((lists : List (List ℤ)) → AreHeld known.old lists
-        → HasAll lists (begun_by first.old.items (written set.now) rest.now)
-        → HasAll lists (begun_by first.old.items (written before.now) rest.now)
-        → AreHeld known.new lists) }
+        (Keeps known.old known.new first.old.items (written set.now) (written before.now) rest.now) }
 {
-    if rest.is_empty() {
-        return remember(alloc, first.as_slice(), set, before, rest, known);
-    }
-    if is_new && set.count() <= FEW_NUMBERS {
+    if is_new && has_few(set) && !rest.is_empty() {
         return Ok(());
     }
-    let Some(held) = held_behind(alloc, first.as_slice(), rest.len(), known)? else {
-        return remember(alloc, first.as_slice(), set, before, rest, known);
+    let is_tried = is_tried(rest, known);
+    let Some(held) = held_behind(first.as_slice(), set, rest, known) else {
+        return keep_taken(alloc, first.as_slice(), set, before, rest, known);
     };
-    let wider = widened(alloc, first, set, left, rest, held, known)?;
-    let numbers = wider.sure.count().saturating_add(wider.full.count());
-    let many = count_ahead(wider.rest.as_slice(), numbers);
     let kept = count_ahead(held.rest.as_slice(), held.numbers.count());
-    let taken = count_ahead(rest, set.count().saturating_add(before.count()));
-    if many >= kept && many >= taken {
-        return remember(
-            alloc,
-            first.as_slice(),
-            &wider.sure,
-            &wider.full,
-            wider.rest.as_slice(),
-            known,
-        );
+    if !is_tried {
+        return keep_more(alloc, first.as_slice(), set, before, rest, kept, known);
     }
-    if taken > kept {
-        return remember(alloc, first.as_slice(), set, before, rest, known);
-    }
-    Ok(())
+    let wider = widened(alloc, first, set, left, rest, held, known)?;
+    keep_wider(
+        alloc,
+        first.as_slice(),
+        set,
+        before,
+        rest,
+        kept,
+        &wider,
+        known,
+    )
 }

@@ -8,7 +8,7 @@ use Rattle.trans_seq.specs.Held.{begun, begun_by, HasAll, AreHeld}
 use Rattle.trans_seq.proofs.News.{Word}
 use Rattle.trans_seq.proofs.FoundLemmas.{takes_none, takes_part, fails_part, value_at, none_at, popped}
 use Rattle.trans_seq.proofs.ListingLemmas.{others, split, if_err}
-use Rattle.trans_seq.proofs.HeldLemmas.{begun-item, begun-none, passed-known, takes-same, fails-same, takes-has, takes-keeps, held-more, on-ok}
+use Rattle.trans_seq.proofs.HeldLemmas.{begun-item, begun-none, passed-known, takes-same, takes-known, fails-same, takes-has, takes-keeps, held-more, on-ok}
 use Rattle.trans_seq.proofs.spread.+take_items.Goals as goal
 use Rattle.trans_seq.proofs.spread.+take_items.Goals.{take_numbers-in-Some+in_ok-push+in_ok-take_items, take_numbers-in_default}
 
@@ -16,32 +16,32 @@ pub take_items-returns-in-empty-clause-held : goal.take_items-returns-in-empty-c
 take_items-returns-in-empty-clause-held t c =
     on-ok _ _ (λ took. held-more c.args.known.now c.args.found.now c.take_first.new.found (begun c.as_slice.result.now []) took c.requires.held) c.take_first.result c.take_first.ensures.ok
 
-pub take_items-returns-then-is_large-clause-ok : goal.take_items-returns-then-is_large-clause-ok
-take_items-returns-then-is_large-clause-ok t c =
+pub take_items-returns-then-is_kept-clause-ok : goal.take_items-returns-then-is_kept-clause-ok
+take_items-returns-then-is_kept-clause-ok t c =
     let items = c.args.items.now in
     let item = c.item-item.result in
     let first = c.args.first.now.items in
     let parts : items ≡ item ∷ others items = split items item (omega arith) c.item-item.is in
     on-ok _ _ (λ took. subst (λ l. Takes c.args.found.now c.take_unknown.new.found l) (begun-item first item (others items) ∙ ap (λ l. begun first l) (sym parts)) took) c.take_unknown.result c.take_unknown.ensures.ok
 
-pub take_items-returns-then-is_large-clause-err : goal.take_items-returns-then-is_large-clause-err
-take_items-returns-then-is_large-clause-err t c =
+pub take_items-returns-then-is_kept-clause-err : goal.take_items-returns-then-is_kept-clause-err
+take_items-returns-then-is_kept-clause-err t c =
     let items = c.args.items.now in
     let item = c.item-item.result in
     let first = c.args.first.now.items in
     let parts : items ≡ item ∷ others items = split items item (omega arith) c.item-item.is in
     if_err _ _ (λ e h. subst (λ l. FailsAfter (lists_of c.args.found.now) l e) (begun-item first item (others items) ∙ ap (λ l. begun first l) (sym parts)) h) c.take_unknown.result c.take_unknown.ensures.err
 
-pub take_items-returns-else-is_large-clause-ok : goal.take_items-returns-else-is_large-clause-ok
-take_items-returns-else-is_large-clause-ok t c =
+pub take_items-returns-else-is_kept-clause-ok : goal.take_items-returns-else-is_kept-clause-ok
+take_items-returns-else-is_kept-clause-ok t c =
     let items = c.args.items.now in
     let item = c.item-item.result in
     let first = c.args.first.now.items in
     let parts : items ≡ item ∷ others items = split items item (omega arith) c.item-item.is in
     on-ok _ _ (λ took. subst (λ l. Takes c.args.found.now c.take_numbers.new.found l) (begun-item first item (others items) ∙ ap (λ l. begun first l) (sym parts)) took) c.take_numbers.result c.take_numbers.ensures.ok
 
-pub take_items-returns-else-is_large-clause-err : goal.take_items-returns-else-is_large-clause-err
-take_items-returns-else-is_large-clause-err t c =
+pub take_items-returns-else-is_kept-clause-err : goal.take_items-returns-else-is_kept-clause-err
+take_items-returns-else-is_kept-clause-err t c =
     let items = c.args.items.now in
     let item = c.item-item.result in
     let first = c.args.first.now.items in
@@ -94,11 +94,17 @@ take_unknown-returns-in_err-take_numbers-clause-err t c =
     let before = lists_of c.args.found.now in
     let known = c.in_ok-before.before in
     let e = c.in_err-take_numbers.field-0.0 in
-    let had : HasAll before (begun_by first (written known) rest) = subst (λ f. HasAll before (begun_by f (written known) rest)) c.as_slice.ensures.value (c.in_ok-before.ensures before c.requires.held) in
+    let had : HasAll before (begun_by first (written known) rest) = subst (λ f. HasAll before (begun_by f (written known) rest)) c.as_slice-2.ensures.value (c.in_ok-before.ensures before c.requires.held) in
     let same : news before (begun_by first (written c.in_ok-left.left) rest) ≡ news before (begun_by first (written set) rest) = ap (λ vs. news before (begun_by first vs rest)) c.in_ok-left.ensures ∙ passed-known before first set known rest had in
     let failed : FailsAfter before (begun_by first (written set) rest) e =
     fails-same before (begun_by first (written c.in_ok-left.left) rest) (begun_by first (written set) rest) e same c.in_err-take_numbers.ensures.err in
     search (rules, failed)
+
+pub take_unknown-returns-then-branch-clause-ok : goal.take_unknown-returns-then-branch-clause-ok
+take_unknown-returns-then-branch-clause-ok t c =
+    let found = c.args.found.now in
+    takes-known found _ c.requires.holds
+    (subst (λ f. HasAll (lists_of found) (begun_by f (written c.args.set.now) c.args.rest.now)) c.as_slice.ensures.value (c.in_ok-has_all.ensures c.if-branch.true (lists_of found) c.requires.held))
 
 pub take_unknown-returns-then-is_none-clause-ok : goal.take_unknown-returns-then-is_none-clause-ok
 take_unknown-returns-then-is_none-clause-ok t c =
@@ -109,7 +115,7 @@ take_unknown-returns-then-is_none-clause-ok t c =
     let before = lists_of found in
     let known = c.in_ok-before.before in
     let left = c.in_ok-left.left in
-    let had : HasAll before (begun_by first (written known) rest) = subst (λ f. HasAll before (begun_by f (written known) rest)) c.as_slice.ensures.value (c.in_ok-before.ensures before c.requires.held) in
+    let had : HasAll before (begun_by first (written known) rest) = subst (λ f. HasAll before (begun_by f (written known) rest)) c.as_slice-2.ensures.value (c.in_ok-before.ensures before c.requires.held) in
     let same : news before (begun_by first (written left) rest) ≡ news before (begun_by first (written set) rest) = ap (λ vs. news before (begun_by first vs rest)) c.in_ok-left.ensures ∙ passed-known before first set known rest had in
     let none : begun_by first (written left) rest ≡ [] = begun-none first left rest (c.is_none.ensures c.if-is_none.true) in
     takes-same found found (begun_by first (written left) rest) (begun_by first (written set) rest) same
@@ -122,7 +128,7 @@ take_unknown-returns-clause-ok t c =
     let rest = c.args.rest.now in
     let before = lists_of c.args.found.now in
     let known = c.in_ok-before.before in
-    let had : HasAll before (begun_by first (written known) rest) = subst (λ f. HasAll before (begun_by f (written known) rest)) c.as_slice.ensures.value (c.in_ok-before.ensures before c.requires.held) in
+    let had : HasAll before (begun_by first (written known) rest) = subst (λ f. HasAll before (begun_by f (written known) rest)) c.as_slice-2.ensures.value (c.in_ok-before.ensures before c.requires.held) in
     let same : news before (begun_by first (written c.in_ok-left.left) rest) ≡ news before (begun_by first (written set) rest) = ap (λ vs. news before (begun_by first vs rest)) c.in_ok-left.ensures ∙ passed-known before first set known rest had in
     takes-same c.args.found.now c.take_numbers.new.found (begun_by first (written c.in_ok-left.left) rest) (begun_by first (written set) rest) same c.in_ok-take_numbers.ensures.ok
 
@@ -134,10 +140,16 @@ take_unknown-returns-clause-held t c =
     let old = c.args.found.now in
     let new = c.take_numbers.new.found in
     let known = c.in_ok-before.before in
-    let had : HasAll (lists_of old) (begun_by first (written known) rest) = subst (λ f. HasAll (lists_of old) (begun_by f (written known) rest)) c.as_slice.ensures.value (c.in_ok-before.ensures (lists_of old) c.requires.held) in
+    let had : HasAll (lists_of old) (begun_by first (written known) rest) = subst (λ f. HasAll (lists_of old) (begun_by f (written known) rest)) c.as_slice-2.ensures.value (c.in_ok-before.ensures (lists_of old) c.requires.held) in
     let same : news (lists_of old) (begun_by first (written c.in_ok-left.left) rest) ≡ news (lists_of old) (begun_by first (written set) rest) = ap (λ vs. news (lists_of old) (begun_by first vs rest)) c.in_ok-left.ensures ∙ passed-known (lists_of old) first set known rest had in
     let took : Takes old new (begun_by first (written set) rest) = takes-same old new (begun_by first (written c.in_ok-left.left) rest) (begun_by first (written set) rest) same c.in_ok-take_numbers.ensures.ok in
     let now : c.take_numbers.new.first.items ≡ first = c.in_ok-take_numbers.ensures.first in
-    c.in_ok-keep.ensures.held (lists_of new) c.in_ok-take_numbers.ensures.held
-    (subst (λ f. HasAll (lists_of new) (begun_by f (written set) rest)) (sym now) (takes-has old new (begun_by first (written set) rest) took))
-    (subst (λ f. HasAll (lists_of new) (begun_by f (written known) rest)) (sym now) (takes-keeps old new (begun_by first (written set) rest) (begun_by first (written known) rest) took had))
+    let has_set : HasAll (lists_of new) (begun_by first (written set) rest) = takes-has old new (begun_by first (written set) rest) took in
+    let has_known : HasAll (lists_of new) (begun_by first (written known) rest) = takes-keeps old new (begun_by first (written set) rest) (begun_by first (written known) rest) took had in
+    let there : c.as_slice-3.result.now ≡ first = c.as_slice-3.ensures.value ∙ now in
+    c.in_ok-keep.ensures.held (lists_of new)
+    (c.in_ok-keep_by_sets.ensures (lists_of new) c.in_ok-take_numbers.ensures.held
+    (subst (λ f. HasAll (lists_of new) (begun_by f (written set) rest)) (sym there) has_set)
+    (subst (λ f. HasAll (lists_of new) (begun_by f (written known) rest)) (sym there) has_known))
+    (subst (λ f. HasAll (lists_of new) (begun_by f (written set) rest)) (sym now) has_set)
+    (subst (λ f. HasAll (lists_of new) (begun_by f (written known) rest)) (sym now) has_known)
