@@ -9,11 +9,11 @@ use Rattle.design_data.specs.declared.infos.ItemShape.TheVariants.{Point, Cross}
 use Rattle.design_data.specs.Bins.{total}
 use Rattle.design_data.specs.Limits.{IsItem, IsShape, IsInstance, IsDesign, ranges_of}
 use Rattle.elab_base.proofs.Keeps.{all_as}
-use Rattle.elab_crosses.proofs.Among.{AreAlike, cross_among}
 use Rattle.elab_order.specs.declared.numbers.Load.{Load}
 use Rattle.elab_order.specs.Order.{items_numbered, first_of, numbered_from, numbered}
 use Rattle.elab_order.proofs.Numbering.{numbered_is_numbered}
 use Rattle.elab_order.proofs.Totals.{total-numbered, length-numbered, items_in-numbered}
+use Rattle.elab_members.proofs.Among.{AreAlike, cross_among}
 use Rattle.cov_design.specs.declared.known.Known.{Known}
 use Rattle.cov_design.specs.Invariant.{IsDeclared, IsKnown}
 

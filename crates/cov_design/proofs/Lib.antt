@@ -1,11 +1,5 @@
-pub mod Heads
-pub mod Counted
-pub mod Naming
-pub mod Crossing
 pub mod Invariant
 pub mod Designs
-pub mod Stops
 pub mod Lawful
 pub mod Watching
 pub mod Scoped
-pub mod Numbered

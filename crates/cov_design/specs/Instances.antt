@@ -19,11 +19,11 @@ use Rattle.elab_base.specs.Steps.{unused}
 use Rattle.elab_decls.specs.declared.outside.Outside.{Outside}
 use Rattle.elab_decls.specs.Formals.{args_fit, formals_of}
 use Rattle.elab_decls.specs.Options.{group_options}
-use Rattle.cov_design.specs.declared.counts.Counts.{Counts}
+use Rattle.elab_members.specs.declared.counts.Counts.{Counts}
+use Rattle.elab_members.specs.Members.{inside_in, members_walked}
 use Rattle.cov_design.specs.declared.known.Known.{Known}
 use Rattle.cov_design.specs.declared.instances.Body.{Body}
 use Rattle.cov_design.specs.Groups.{group_info, named}
-use Rattle.cov_design.specs.Members.{inside_in, members_walked}
 
 -- ---- the text of a group
 

@@ -1,15 +1,6 @@
-pub mod Counting
-pub mod Defaults
-pub mod Domains
-pub mod Intersections
-pub mod Items
-pub mod Points
-pub mod Crosses
-pub mod Members
 pub mod Groups
 pub mod Instances
 pub mod Walk
 pub mod Elaboration
 pub mod Events
 pub mod Invariant
-pub mod Scopes

@@ -6,12 +6,8 @@ ghost use Rattle.elab_base.specs.Gives.{Gives, Makes, needs};
 ghost use Rattle.elab_decls.specs.Formals.{args_fit};
 ghost use Rattle.cov_design.specs.Instances.{formals_in, samples_in, members_in, formals_at, samples_at, members_at, group_meant, entered, body_walked, with_instance, instance_of, instance};
 
-use crate::counts::Counts;
-use crate::defaults::DefaultNames;
 use crate::groups::with_options;
-use crate::items::{Inside, Items};
 use crate::known::Known;
-use crate::members::{inside_of, walk_members};
 use const_eval::Meaning;
 use cov_ground::Memory;
 use cov_ground::limits::MOST_INSTANCES;
@@ -20,6 +16,7 @@ use cov_tree::{Decl, Expr, Formal, List, Member, Name};
 use design_data::{InstInfo, Signal};
 use elab_base::{ElabFault, ElabKind, What, add_name, check_unused};
 use elab_decls::{Formals, Outside, fits, read_formals, read_options};
+use elab_members::{Counts, DefaultNames, Inside, Items, inside_of, walk_members};
 use name_map::NameMap;
 use std::alloc::Global;
 use std::mem;
@@ -133,7 +130,7 @@ fn check_instances(known: &Known, at: u32) -> Result<(), ElabFault>
 }
 
 /// The options and the items of a group behind the names of an instance.
-#[tactic(auto, using(crate::proofs::Heads::inside_range), unfolding(crate::specs::Instances::body_walked))]
+#[tactic(auto, using(elab_members::proofs::Heads::inside_range), unfolding(crate::specs::Instances::body_walked))]
 fn walk_inside(
     alloc: Global,
     outside: &mut Outside,

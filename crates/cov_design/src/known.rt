@@ -1,8 +1,8 @@
 //! What was declared so far.
-use crate::counts::Counts;
 use cov_tree::List;
 use design_data::{GroupInfo, InstInfo};
 use elab_decls::Outside;
+use elab_members::Counts;
 
 /// What is declared outside groups, and what the design has so far. Its bins aren't numbered yet.
 #[derive(Drop)]

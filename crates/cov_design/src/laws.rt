@@ -6,10 +6,10 @@ ghost use Rattle.cov_tree.specs.declared.declarations.DesignText.{DesignText};
 ghost use Rattle.const_eval.specs.Scopes.{Levels};
 ghost use Rattle.elab_base.specs.Gives.{Refusal, each_at};
 ghost use Rattle.elab_decls.specs.Laws.{AreDistinct, AreOfBase};
+ghost use Rattle.elab_members.specs.Scopes.{HasDistinctItems};
 ghost use Rattle.cov_design.specs.declared.known.Known.{Known};
 ghost use Rattle.cov_design.specs.Walk.{declared, nothing, walked};
 ghost use Rattle.cov_design.specs.Events.{event_levels};
-ghost use Rattle.cov_design.specs.Scopes.{HasDistinctItems};
 ghost use Rattle.cov_design.specs.Elaboration.{Parts, Elaborates};
 
 /// Where a walk over the first declarations of a text meets a fault, it is the fault of the whole text, whatever follows.

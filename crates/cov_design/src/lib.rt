@@ -4,20 +4,12 @@
 //! constructs that stops at the first fault, and each construct has one definition and one function.
 #![tactic(auto)]
 
-mod counts;
-mod crosses;
-mod defaults;
-mod domains;
 mod elaboration;
 mod events;
 mod groups;
 mod instances;
-mod intersections;
-mod items;
 mod known;
 pub mod laws;
-mod members;
-mod points;
 mod walk;
 
 pub use elab_base::{ElabFault, ElabKind};

@@ -3,8 +3,6 @@ ghost use Rattle.std.specs.Prelude.{◌≡◌};
 ghost use Rattle.elab_base.specs.Gives.{Gives, Makes, each_at};
 ghost use Rattle.cov_design.specs.Walk.{declared, nothing as nothing_known, walked};
 
-use crate::counts::Counts;
-use crate::defaults::DefaultNames;
 use crate::groups::add_group;
 use crate::instances::add_instance;
 use crate::known::Known;
@@ -12,6 +10,7 @@ use const_eval::Scope;
 use cov_tree::{Decl, List};
 use elab_base::ElabFault;
 use elab_decls::{Outside, add_enumeration, add_variable};
+use elab_members::{Counts, DefaultNames};
 use name_map::NameMap;
 use std::alloc::Global;
 

@@ -2,13 +2,13 @@ use Rattle.std.proofs.Common.{◌≡◌, ap, sym, subst, Result, Ok}
 use Rattle.std.proofs.lemmas.Result.{err_from_is_err_and}
 use Rattle.const_eval.specs.Scopes.{Levels}
 use Rattle.elab_base.specs.Gives.{Refusal, Fails}
+use Rattle.elab_members.specs.declared.items.Items.{Items}
+use Rattle.elab_members.specs.declared.items.Inside.{Inside}
+use Rattle.elab_members.specs.Members.{members_walked}
+use Rattle.elab_members.proofs.Heads.{inside_range}
+use Rattle.elab_members.proofs.Stops.{fails_bind}
 use Rattle.cov_design.specs.declared.instances.Body.{Body}
-use Rattle.cov_design.specs.declared.items.Items.{Items}
-use Rattle.cov_design.specs.declared.items.Inside.{Inside}
-use Rattle.cov_design.specs.Members.{members_walked}
 use Rattle.cov_design.specs.Instances.{body_walked}
-use Rattle.cov_design.proofs.Heads.{inside_range}
-use Rattle.cov_design.proofs.Stops.{fails_bind}
 use Rattle.cov_design.proofs.instances.walk_inside.Goals as goal
 
 abbrev body_of : Items → Inside → Result Body Refusal

@@ -1,6 +1,0 @@
-use Rattle.std.proofs.Common.{◌≡◌, map, take}
-use Rattle.cov_design.specs.Domains.{constant_of}
-use Rattle.cov_design.proofs.domains.constants_of.Given as goal
-
-abbrev pub invariant-loop-constant : goal.invariant-loop-constant
-invariant-loop-constant l = l.constants.items ≡ map constant_of (take l.constant-index l.enumeration.constants)

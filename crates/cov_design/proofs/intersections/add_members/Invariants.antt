@@ -1,6 +1,0 @@
-use Rattle.std.proofs.Common.{◌≡◌, drop}
-use Rattle.cov_design.specs.Intersections.{with_members}
-use Rattle.cov_design.proofs.intersections.add_members.Given as goal
-
-abbrev pub invariant-loop-member : goal.invariant-loop-member
-invariant-loop-member l = with_members (drop l.member-index l.members) l.names ≡ with_members l.members l.initial.names

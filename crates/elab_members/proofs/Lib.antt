@@ -1,0 +1,9 @@
+pub mod Heads
+pub mod Counted
+pub mod Naming
+pub mod Crossing
+pub mod Within
+pub mod Stops
+pub mod Scoped
+pub mod Numbered
+pub use Rattle.elab_crosses.proofs.Among

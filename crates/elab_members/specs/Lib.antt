@@ -1,0 +1,9 @@
+pub mod Counting
+pub mod Defaults
+pub mod Domains
+pub mod Intersections
+pub mod Items
+pub mod Points
+pub mod Crosses
+pub mod Members
+pub mod Scopes
