@@ -7,8 +7,9 @@ use Rattle.tally.proofs.tally.Tally.TheSendSync as tally
 use Rattle.sampler.proofs.encoded.EncodedRecord.TheSendSync as content
 use Rattle.sampler.proofs.plan.Plan.TheSendSync as plan
 use Rattle.sampler.specs.contracts.planned.Planned as planned
-use Rattle.merge_store.proofs.branches.Branches.TheSendSync as branches
-use Rattle.merge_store.proofs.runs.Runs.TheSendSync as runs
+use Rattle.store_sums.proofs.branches.Branches.TheSendSync as branches
+use Rattle.store_sums.proofs.runs.Runs.TheSendSync as runs
+use Rattle.store_sums.specs.contracts.sums.Sums as sums
 use Rattle.merge_store.specs.contracts.held.HeldEvent as event
 use Rattle.merge_store.specs.contracts.held.Held as held
 use Rattle.merge_store.specs.contracts.held.Kept as kept
@@ -27,5 +28,8 @@ kept_send = search (sendable, crosses, content.the_send, content.the_sync, tally
 pub planned_send : IsSend planned.the_row
 planned_send = search (sendable, crosses, design_send, design_sync, plan.the_send, plan.the_sync) depth 30
 
+pub sums_send : IsSend sums.the_row
+sums_send = search (sendable, crosses, name.the_send, name.the_sync, planned_send, branches.the_send, runs.the_send) depth 30
+
 pub store_send : IsSend store.the_row
-store_send = search (sendable, crosses, map.the_send, name.the_send, name.the_sync, design_send, design_sync, planned_send, branches.the_send, runs.the_send, held_send, kept_send) depth 40 fits 4000
+store_send = search (sendable, crosses, map.the_send, design_send, design_sync, sums_send, held_send, kept_send) depth 40 fits 4000

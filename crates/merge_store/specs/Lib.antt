@@ -1,6 +1,3 @@
-pub mod Branches
-pub mod Groups
-pub mod Runs
 pub mod Keeps
 pub mod Words
 pub mod Stores

@@ -10,8 +10,7 @@ ghost use Rattle.merge_store.specs.Told.{Makes, IsPoint, admitted};
 ghost use Rattle.merge_store.specs.Stores.{opening_of, entries_of};
 
 use crate::held::{Held, HeldEvent, Kept};
-use crate::kept::{add_counts, add_test};
-use crate::marks::mark_rows;
+use crate::kept::add_test;
 use crate::room::put;
 use crate::{AdmitFault, Admitted, Store};
 use cov_history::{Amounts, amount, passed};
@@ -99,14 +98,7 @@ impl Store {
             return Err(prepared);
         }
         let (rec, tally) = prepared.into_parts();
-        add_counts(&mut self.counts, &tally);
-        mark_rows(
-            &mut self.runs,
-            &self.branches,
-            self.counts.as_slice(),
-            self.out.as_slice(),
-            tally.rows(),
-        );
+        self.sums.add(&tally);
         let point = self.entries.as_slice().len() as u64 + 1;
         let test = Kept { point, rec, tally };
         add_test(&mut self.tests, id, test);

@@ -39,7 +39,7 @@ impl Store {
         ensures { IfOk result (λ b. IsBasis (opening_of self.now) (entries_of self.now) b) }
     {
         let records = self.records()?;
-        let design = self.design.share()?;
+        let design = self.sums.design.share()?;
         Ok(Basis {
             point: self.point(),
             design,

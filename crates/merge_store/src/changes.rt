@@ -10,8 +10,7 @@ ghost use Rattle.merge_store.specs.Told.{Gives, Makes, excluded, not_excluded, i
 ghost use Rattle.merge_store.specs.Stores.{opening_of, entries_of};
 
 use crate::held::{Held, HeldEvent};
-use crate::marks::mark_bin;
-use crate::room::{is_some_at, put, put_at, take_at};
+use crate::room::put;
 use crate::{ExcludeFault, IncludeFault, Store};
 use cov_base::Memory;
 use cov_ground::limits::MOST_HISTORY;
@@ -34,7 +33,7 @@ impl Store {
     pub(crate) fn is_out(&self, node: u32) -> bool
         ensures { result ≡ is_out_meant (nodes_now self.now) (outs_now self.now) node }
     {
-        is_some_at(self.out.as_slice(), node as usize)
+        self.sums.is_out(node)
     }
 
     /// The node to exclude, or why it isn't, apart from want of memory.
@@ -42,7 +41,7 @@ impl Store {
         ensures refused { IfErr result (λ f. (caller : ℕ) → exclude_at (opening_of self.now) (entries_of self.now) (by caller (event.Exclude path.now)) path.now ≡ not_excluded f) }
         ensures may { IfOk result (λ n. MayExclude (opening_of self.now) (entries_of self.now) path.now n) }
     {
-        let Some(node) = self.branches.find(path) else {
+        let Some(node) = self.sums.find(path) else {
             return Err(ExcludeFault::NoSuchPath);
         };
         if self.is_out(node) {
@@ -73,15 +72,7 @@ impl Store {
         }
         let event = HeldEvent::Exclude(name);
         put(&mut self.entries, Held { caller, event });
-        put_at(&mut self.out, node as usize, spare);
-        let first = self.branches.facts(node).first_bin;
-        mark_bin(
-            &mut self.runs,
-            &self.branches,
-            self.counts.as_slice(),
-            self.out.as_slice(),
-            first,
-        );
+        self.sums.put_out(node, spare);
         self.outs += 1;
         Ok(())
     }
@@ -108,20 +99,12 @@ impl Store {
             (include_at (opening_of self.old) (entries_of self.old) path.now)
             (included result) (entries_of self.new) }
     {
-        let Some(node) = self.branches.find(path) else {
+        let Some(node) = self.sums.find(path) else {
             return Err(IncludeFault::NoSuchPath);
         };
-        let Some(name) = take_at(&mut self.out, node as usize) else {
+        let Some(name) = self.sums.put_back(node) else {
             return Err(IncludeFault::NotExcluded);
         };
-        let first = self.branches.facts(node).first_bin;
-        mark_bin(
-            &mut self.runs,
-            &self.branches,
-            self.counts.as_slice(),
-            self.out.as_slice(),
-            first,
-        );
         let event = HeldEvent::Include(name);
         put(&mut self.entries, Held { caller, event });
         self.outs -= 1;

@@ -1,9 +1,8 @@
 //! Tests by their ids, and their counts.
-ghost use Rattle.std.specs.Prelude.{◌≡◌, ℕ, ◌<◌, ◌++◌, ◌∷◌, [], None, All, length, nat_eq, option_map, List, map, IfSome, slice_get, ◌≤◌};
+ghost use Rattle.std.specs.Prelude.{◌≡◌, ℕ, ◌<◌, ◌++◌, ◌∷◌, [], None, length, nat_eq, option_map, List, map, IfSome, slice_get, ◌≤◌};
 ghost use Rattle.std.specs.Arc.{arc_value};
 ghost use Rattle.std.specs.Cmp.Lexicographic.{pointwise};
 ghost use Rattle.indexmap.specs.IndexMap.{get_by, spare};
-ghost use Rattle.tally.specs.Rows.{count_in, Adds, HasRoom};
 ghost use Rattle.tally.specs.declared.tally.Tally.{Tally};
 ghost use Rattle.cov_ground.specs.Limits.{most_tests};
 ghost use Rattle.cov_history.specs.History.{Test, kept, design_of, tests_of};
@@ -14,7 +13,6 @@ ghost use Rattle.merge_store.specs.Stores.{opening_of, entries_of};
 use crate::Store;
 use crate::held::Kept;
 use indexmap::IndexMap;
-use tally::Tally;
 
 /// Adds a test. It takes no memory.
 pub(crate) fn add_test(tests: &mut IndexMap<Vec<u8>, Kept>, id: Vec<u8>, test: Kept)
@@ -24,15 +22,6 @@ pub(crate) fn add_test(tests: &mut IndexMap<Vec<u8>, Kept>, id: Vec<u8>, test: K
     ensures tallies { map {B = Tally} (λ e. arc_value e.1.tally) tests.new.entries ≡ map {B = Tally} (λ e. arc_value e.1.tally) tests.old.entries ++ arc_value test.tally ∷ [] }
 {
     let _ = tests.insert(id, test);
-}
-
-/// Adds a test's counts. It takes no memory.
-pub(crate) fn add_counts(counts: &mut Vec<u64>, tally: &Tally)
-    requires inside { All (λ row. row.0 < length counts.old.items) tally.now }
-    requires room { HasRoom (count_in tally.now) counts.old.items }
-    ensures { Adds (count_in tally.now) counts.old.items counts.new.items }
-{
-    tally.add_into(counts.as_mut_slice());
 }
 
 impl Store {

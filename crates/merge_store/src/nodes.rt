@@ -1,64 +1,43 @@
 //! What a store says of single nodes.
-ghost use Rattle.std.specs.Prelude.{◌≡◌, ◌<◌, ◌≤◌, ◌^◌, ℕ, length, cond, slice_index, IfOk};
-ghost use Rattle.ucis_model.specs.Paths.{find_in, node_at, path_of};
-ghost use Rattle.cov_history.specs.Nodes.{children as children_meant, bins_under as bins_meant, bin_kind};
-ghost use Rattle.cov_history.specs.Coverage as cover;
-ghost use Rattle.cov_history.specs.Answers.{count_row};
+ghost use Rattle.std.specs.Prelude.{◌≡◌, ◌<◌, ◌^◌, length, IfOk};
 ghost use Rattle.std.specs.Arc.{arc_value};
+ghost use Rattle.ucis_model.specs.Paths.{path_of};
+ghost use Rattle.cov_history.specs.Nodes.{children as children_meant, bins_under as bins_meant};
+ghost use Rattle.cov_history.specs.Coverage as cover;
+ghost use Rattle.cov_history.specs.Answers.{cover_row, coverage_at};
 ghost use Rattle.cov_history.specs.History.{design_of};
+ghost use Rattle.merge_store.specs.Told.{Reads, cover_read};
 ghost use Rattle.merge_store.specs.Stores.{opening_of, entries_of};
-ghost use Rattle.merge_store.specs.Branches.{facts_of};
-ghost use Rattle.merge_store.specs.Now.{nodes_now, outs_now, count_now, excluded_now};
+ghost use Rattle.merge_store.specs.Now.{nodes_now, count_now, excluded_now};
 
-use crate::Store;
-use crate::branches::Facts;
+use crate::{QueryFault, Store};
 use cov_base::Memory;
 use cov_tree::Name;
-use design_data::{BinKind, Design};
+use design_data::Design;
 use sampler::Planned;
 use std::sync::Arc;
-use ucis_model::{CountRow, Node, NodeKind};
-
-/// The number of an index, and 0 where there is none.
-pub(crate) fn number_at(numbers: &[u64], index: u32) -> u64
-    ensures { result ≡ slice_index numbers.now index }
-{
-    match numbers.get(index as usize) {
-        Some(number) => *number,
-        None => 0,
-    }
-}
-
-/// The kind of the bin that a node is.
-fn kind_of(kind: NodeKind) -> BinKind
-    ensures { result ≡ bin_kind kind }
-{
-    match kind {
-        NodeKind::Bin(kind) => kind,
-        _ => BinKind::DefaultBin,
-    }
-}
+use ucis_model::{CoverRow, Node};
 
 impl Store {
     /// The design of now.
     pub fn design(&self) -> &Arc<Design>
         ensures { arc_value result.now ≡ design_of (opening_of self.now) (entries_of self.now) }
     {
-        self.design.design()
+        self.sums.design.design()
     }
 
     /// The same, with what is worked out of it once.
     pub fn planned(&self) -> &Planned
         ensures { result.now ≡ design_of (opening_of self.now) (entries_of self.now) }
     {
-        &self.design
+        &self.sums.design
     }
 
     /// The nodes of the design of now in depth-first order. Node 0 is the root.
     pub fn nodes(&self) -> &[Node]
         ensures { result.now ≡ nodes_now self.now }
     {
-        self.branches.nodes()
+        self.sums.nodes()
     }
 
     /// The path of a node: the names from its group down to it, with `/` between them. The root has the empty path.
@@ -66,35 +45,14 @@ impl Store {
         requires { node < length (nodes_now self.now) }
         ensures { IfOk result (λ path. path ≡ path_of (nodes_now self.now) node) }
     {
-        self.branches.path_text(self.alloc, node)
-    }
-
-    /// The least node that has the path.
-    pub(crate) fn find(&self, path: &[u8]) -> Option<u32>
-        ensures { result ≡ find_in (nodes_now self.now) path.now }
-    {
-        self.branches.find(path)
-    }
-
-    /// What a node says apart from its name.
-    pub(crate) fn facts(&self, node: u32) -> Facts
-        ensures { result ≡ facts_of (node_at (nodes_now self.now) node) }
-    {
-        self.branches.facts(node)
-    }
-
-    /// A node's own name.
-    pub(crate) fn name(&self, node: u32) -> &[u8]
-        ensures { result.now ≡ (node_at (nodes_now self.now) node).name }
-    {
-        self.branches.name(node)
+        self.sums.path_text(node)
     }
 
     /// The nodes right below one, in order.
     pub fn children(&self, node: u32) -> &[u32]
         ensures { result.now ≡ children_meant (nodes_now self.now) node }
     {
-        self.branches.children(node)
+        self.sums.children(node)
     }
 
     /// The nodes of the bins under a node.
@@ -102,58 +60,36 @@ impl Store {
         ensures bins { result.now ≡ bins_meant (nodes_now self.now) node }
         ensures few { length result.now < 2 ^ 32 }
     {
-        self.branches.bins_under(node)
-    }
-
-    /// Whether the node or one above it is out.
-    pub(crate) fn is_excluded(&self, node: u32) -> bool
-        ensures { result ≡ cover.is_excluded (nodes_now self.now) (outs_now self.now) node }
-    {
-        let mut at = node;
-        while !self.is_out(at) {
-            if at == 0 {
-                return false;
-            }
-            at = self.facts(at).parent;
-        }
-        true
+        self.sums.bins_under(node)
     }
 
     /// How often the bin that a node is was hit.
     pub fn count(&self, node: u32) -> u64
         ensures { result ≡ cover.count_at (nodes_now self.now) (count_now self.now) node }
     {
-        number_at(self.counts.as_slice(), self.facts(node).first_bin)
+        self.sums.count(node)
     }
 
-    /// Whether the node is a coverage bin that isn't excluded.
-    pub(crate) fn is_live(&self, node: u32) -> bool
-        ensures { result ≡ cover.is_live (nodes_now self.now) (excluded_now self.now) node }
+    /// The coverage of a node. Memory is wanted only for types whose instances are merged, and for the root.
+    pub fn cover_row(&self, node: u32) -> Result<CoverRow, Memory>
+        ensures { IfOk result (λ row. row
+            ≡ cover_row (nodes_now self.now) (count_now self.now) (excluded_now self.now) node) }
     {
-        match self.facts(node).kind {
-            NodeKind::Bin(BinKind::CvgBin) => !self.is_excluded(node),
-            _ => false,
-        }
+        let row = self.sums.cover_row(node)?;
+        Ok(row)
     }
 
-    /// Whether the bin was hit often enough.
-    pub(crate) fn is_covered(&self, node: u32) -> bool
-        ensures { result ≡ cover.is_covered (nodes_now self.now) (count_now self.now) node }
+    /// The coverage of the node that the path finds.
+    pub fn coverage(&self, path: &[u8]) -> Result<CoverRow, QueryFault>
+        ensures { Reads (coverage_at (opening_of self.now) (entries_of self.now) path.now)
+            (cover_read result) }
     {
-        u64::from(self.facts(node).at_least) <= self.count(node)
-    }
-
-    /// A bin with a count of it.
-    pub(crate) fn count_row(&self, node: u32, count: u64) -> CountRow
-        ensures { (meant : ℕ → ℕ) → count ≡ cover.count_at (nodes_now self.now) meant node
-            → result ≡ count_row (nodes_now self.now) meant (excluded_now self.now) node }
-    {
-        let facts = self.facts(node);
-        CountRow {
-            bin: facts.first_bin,
-            kind: kind_of(facts.kind),
-            excluded: self.is_excluded(node),
-            count,
+        let Some(node) = self.sums.find(path) else {
+            return Err(QueryFault::NoSuchPath);
+        };
+        match self.cover_row(node) {
+            Ok(row) => Ok(row),
+            Err(Memory) => Err(QueryFault::Memory),
         }
     }
 }

@@ -1,97 +1,40 @@
 //! Queries, over running sums.
-ghost use Rattle.std.specs.Prelude.{◌≡◌, ◌+◌, ◌-◌, ◌≤◌, take, drop, slice_get, option_map, option_to_list, ◌<◌, ◌^◌, ◌&&◌, ◌++◌, ◌∷◌, [], ℕ, length, map, nat_lt, if◌then◌else◌, IfOk, OnOk};
-ghost use Rattle.ucis_model.specs.declared.answers.Answer.TheVariants as answer;
-ghost use Rattle.tally.specs.Rows.{count_in};
+ghost use Rattle.std.specs.Prelude.{◌≡◌, ◌-◌, ◌≤◌, take, drop, slice_get, option_map, option_to_list, ◌++◌, map, IfOk, OnOk};
 ghost use Rattle.std.specs.Arc.{arc_value};
-ghost use Rattle.ucis_model.specs.Paths.{node_at};
 ghost use Rattle.cov_history.specs.History.{design_of, tests_of};
 ghost use Rattle.merge_store.specs.Keeps.{rows_of};
 ghost use Rattle.merge_store.specs.Words.{test_of};
-ghost use Rattle.cov_history.specs.Nodes.{is_illegal, kind_of_bin};
-ghost use Rattle.cov_history.specs.Coverage.{count_at, is_live};
-ghost use Rattle.cov_history.specs.Answers.{count_row, rows, hello_at, counts_at, test_counts_at, illegal_at, illegal_hit, name_at, fetch_at, test_row, tests_at, rank_at, wanted_at};
+ghost use Rattle.cov_history.specs.Answers.{hello_at, counts_at, test_counts_at, illegal_at, name_at, fetch_at, test_row, tests_at, rank_at};
 ghost use Rattle.merge_store.specs.Told.{Reads, rows_read, name_read, chunk_read, tests_read, rank_read};
-ghost use Rattle.merge_store.specs.Now.{nodes_now, count_now, excluded_now};
 ghost use Rattle.merge_store.specs.Stores.{opening_of, entries_of};
 
-use crate::branches::part_of;
 use crate::held::Kept;
 use crate::{QueryFault, Store};
 use cov_base::Memory;
-use cov_ground::limits::{LONGEST_CHUNK, MOST_ROWS, MOST_TEST_ROWS};
+use cov_ground::limits::{LONGEST_CHUNK, MOST_TEST_ROWS};
 use cov_tree::{List, Name};
-use design_data::BinKind;
 use rank_report::rank;
 use sampler::EncodedRecord;
 use std::sync::Arc;
 use std::thread::Threads;
+use store_sums::part_of;
 use tally::{Ranked, Tally};
-use ucis_model::{Answer, CountRow, HistoryKind, HistoryNode, NodeKind};
+use ucis_model::{Answer, CountRow, HistoryKind, HistoryNode};
 
 impl Store {
-    /// One row more, of a bin.
-    fn push_row(&self, list: &mut Vec<CountRow>, bin: u32) -> Result<(), Memory>
-        ensures { OnOk result (list.new.items ≡ list.old.items ++ count_row (nodes_now self.now) (count_now self.now) (excluded_now self.now) bin ∷ []) }
-    {
-        list.push(self.count_row(bin, self.count(bin)))?;
-        Ok(())
-    }
-
-    /// How many bins these are, and the counts of a page of them.
-    fn rows(&self, bins: &[u32], first: u32) -> Result<(u32, List<CountRow>), Memory>
-        requires { length bins.now < 2 ^ 32 }
-        ensures { IfOk result (λ r. answer.Rows r.0 r.1 ≡ rows (nodes_now self.now) (count_now self.now) (excluded_now self.now) first bins.now) }
-    {
-        let mut list = Vec::new(self.alloc);
-        for bin in part_of(bins, first as usize, MOST_ROWS) {
-            self.push_row(&mut list, *bin)?;
-        }
-        Ok((bins.len() as u32, List::of(list)))
-    }
-
     /// The counts of the bins under the node that the path finds: how many they are, and at most 65,536 of them from
     /// the first-th on.
     pub fn counts(&self, first: u32, path: &[u8]) -> Result<(u32, List<CountRow>), QueryFault>
         ensures { Reads (counts_at (opening_of self.now) (entries_of self.now) first path.now)
             (rows_read result) }
     {
-        let Some(node) = self.find(path) else {
+        let Some(node) = self.sums.find(path) else {
             return Err(QueryFault::NoSuchPath);
         };
-        match self.rows(self.bins_under(node), first) {
+        match self.sums.rows(self.sums.bins_under(node), first) {
             Ok(rows) => Ok(rows),
             Err(Memory) => Err(QueryFault::Memory),
         }
-    }
-
-    /// Whether the node is an illegal bin that was hit.
-    fn is_illegal_hit(&self, node: u32) -> bool
-        ensures { result ≡ (is_illegal (kind_of_bin (nodes_now self.now) node) && nat_lt 0 (count_at (nodes_now self.now) (count_now self.now) node)) }
-    {
-        match self.facts(node).kind {
-            NodeKind::Bin(BinKind::IllegalBin) => self.count(node) > 0,
-            _ => false,
-        }
-    }
-
-    fn push_illegal(&self, hit: &mut Vec<u32>, node: u32) -> Result<(), Memory>
-        ensures { OnOk result (hit.new.items ≡ hit.old.items ++ (if is_illegal (kind_of_bin (nodes_now self.now) node) && nat_lt 0 (count_at (nodes_now self.now) (count_now self.now) node) then node ∷ [] else [])) }
-    {
-        if self.is_illegal_hit(node) {
-            hit.push(node)?;
-        }
-        Ok(())
-    }
-
-    fn illegal_bins(&self) -> Result<Vec<u32>, Memory>
-        ensures bins { IfOk result (λ bins. bins.items ≡ illegal_hit (nodes_now self.now) (count_now self.now)) }
-        ensures few { IfOk result (λ bins. length bins.items < 2 ^ 32) }
-    {
-        let mut hit = Vec::new(self.alloc);
-        for bin in self.branches.bins() {
-            self.push_illegal(&mut hit, *bin)?;
-        }
-        Ok(hit)
     }
 
     /// The illegal bins that were hit: how many they are, and at most 65,536 of them from the first-th on.
@@ -99,10 +42,10 @@ impl Store {
         ensures { Reads (illegal_at (opening_of self.now) (entries_of self.now) first)
             (rows_read result) }
     {
-        let Ok(bins) = self.illegal_bins() else {
+        let Ok(bins) = self.sums.illegal_bins() else {
             return Err(QueryFault::Memory);
         };
-        match self.rows(bins.as_slice(), first) {
+        match self.sums.rows(bins.as_slice(), first) {
             Ok(rows) => Ok(rows),
             Err(Memory) => Err(QueryFault::Memory),
         }
@@ -113,39 +56,13 @@ impl Store {
         ensures { Reads (name_at (opening_of self.now) (entries_of self.now) bin)
             (name_read result) }
     {
-        let Some(node) = self.branches.bin(bin) else {
+        let Some(node) = self.sums.bin(bin) else {
             return Err(QueryFault::NoSuchPath);
         };
-        match self.branches.path_text(self.alloc, node) {
+        match self.sums.path_text(node) {
             Ok(path) => Ok(path),
             Err(Memory) => Err(QueryFault::Memory),
         }
-    }
-
-    /// One row more, of a bin with what a test counts.
-    fn push_test_row(&self, list: &mut Vec<CountRow>, tally: &Tally, bin: u32) -> Result<(), Memory>
-        ensures { OnOk result (list.new.items ≡ list.old.items ++ count_row (nodes_now self.now) (count_in tally.now) (excluded_now self.now) bin ∷ []) }
-    {
-        let count = tally.get(self.facts(bin).first_bin);
-        list.push(self.count_row(bin, count))?;
-        Ok(())
-    }
-
-    /// How many bins these are, and what a test counts of a page of them.
-    fn test_rows(
-        &self,
-        tally: &Tally,
-        bins: &[u32],
-        first: u32,
-    ) -> Result<(u32, List<CountRow>), Memory>
-        requires { length bins.now < 2 ^ 32 }
-        ensures { IfOk result (λ r. answer.Rows r.0 r.1 ≡ rows (nodes_now self.now) (count_in tally.now) (excluded_now self.now) first bins.now) }
-    {
-        let mut list = Vec::new(self.alloc);
-        for bin in part_of(bins, first as usize, MOST_ROWS) {
-            self.push_test_row(&mut list, tally, *bin)?;
-        }
-        Ok((bins.len() as u32, List::of(list)))
     }
 
     /// What the test of an id counts of the bins under the node that the path finds: how many bins they are, and at most
@@ -163,10 +80,13 @@ impl Store {
         let Some(test) = self.kept(id) else {
             return Err(QueryFault::NoSuchTest);
         };
-        let Some(node) = self.find(path) else {
+        let Some(node) = self.sums.find(path) else {
             return Err(QueryFault::NoSuchPath);
         };
-        match self.test_rows(&test.tally, self.bins_under(node), first) {
+        match self
+            .sums
+            .test_rows(&test.tally, self.sums.bins_under(node), first)
+        {
             Ok(rows) => Ok(rows),
             Err(Memory) => Err(QueryFault::Memory),
         }
@@ -241,29 +161,6 @@ impl Store {
         Ok(())
     }
 
-    /// One pair more, where the node is a live bin: its number, and how many hits of it are wanted.
-    fn push_wanted(&self, wanted: &mut Vec<(u32, u32)>, node: u32) -> Result<(), Memory>
-        ensures { OnOk result (wanted.new.items ≡ wanted.old.items ++ (if is_live (nodes_now self.now) (excluded_now self.now) node then ((node_at (nodes_now self.now) node).first_bin, (node_at (nodes_now self.now) node).at_least) ∷ [] else [])) }
-    {
-        if self.is_live(node) {
-            let facts = self.facts(node);
-            wanted.push((facts.first_bin, facts.at_least))?;
-        }
-        Ok(())
-    }
-
-    /// The live bins of the design, each with how many hits of it are wanted.
-    fn wanted(&self) -> Result<Vec<(u32, u32)>, Memory>
-        ensures wanted { IfOk result (λ wanted. wanted.items ≡ wanted_at (opening_of self.now) (entries_of self.now)) }
-        ensures few { IfOk result (λ wanted. length wanted.items < 2 ^ 32) }
-    {
-        let mut wanted = Vec::new(self.alloc);
-        for bin in self.bins_under(0) {
-            self.push_wanted(&mut wanted, *bin)?;
-        }
-        Ok(wanted)
-    }
-
     /// The greedy ranking of the tests by the live bins that they cover: each test that adds to those taken before it,
     /// with how many wanted hits it adds. The work is shared among the processors.
     pub fn rank<R: Threads + Sync>(&self, rt: &R) -> Result<List<Ranked>, QueryFault>
@@ -272,7 +169,7 @@ impl Store {
         let Ok(tallies) = self.tallies() else {
             return Err(QueryFault::Memory);
         };
-        let Ok(wanted) = self.wanted() else {
+        let Ok(wanted) = self.sums.wanted() else {
             return Err(QueryFault::Memory);
         };
         match rank(rt, self.alloc, tallies.as_slice(), wanted.as_slice()) {

@@ -9,21 +9,17 @@ ghost use Rattle.merge_store.specs.Now.{outs_now};
 ghost use Rattle.merge_store.specs.Words.{test_of};
 ghost use Rattle.merge_store.specs.Putting.{put_path, is_put};
 ghost use Rattle.merge_store.specs.Remakes.{IsRemade};
-ghost use Rattle.merge_store.specs.Runs.{HasMarks};
+ghost use Rattle.store_sums.specs.Runs.{HasMarks};
 ghost use Rattle.merge_store.specs.Stores.{entries_of};
 
 use crate::Store;
-use crate::branches::Branches;
-use crate::fresh::nothing_out;
 use crate::held::Kept;
-use crate::marks::marks_of;
-use crate::room::put_at;
-use crate::runs::Runs;
 use cov_base::Memory;
 use cov_tree::Name;
 use design_data::Design;
 use indexmap::IndexMap;
 use std::sync::Arc;
+use store_sums::{Branches, Runs, marks_of, nothing_out, put_at};
 use tally::Tally;
 
 /// What is worked out of a design, of its tests' counts and of what is out.
@@ -83,7 +79,7 @@ impl Store {
     {
         let mut out = nothing_out(self.alloc, branches.len())?;
         let mut outs = 0;
-        for path in &self.out {
+        for path in &self.sums.out {
             outs += put_found(branches, path, &mut out)?;
         }
         Ok((out, outs))

@@ -10,7 +10,7 @@ ghost use Rattle.cov_history.specs.Amounts.{AreAmounts};
 ghost use Rattle.merge_store.specs.Keeps.{IsLast};
 ghost use Rattle.merge_store.specs.Lasts.{is_test};
 ghost use Rattle.merge_store.specs.Remakes.{IsRemade, MayRevise, IsRefused};
-ghost use Rattle.merge_store.specs.Runs.{HasMarks};
+ghost use Rattle.store_sums.specs.Runs.{HasMarks};
 ghost use Rattle.merge_store.specs.Told.{Makes, revised};
 ghost use Rattle.merge_store.specs.Stores.{opening_of, entries_of};
 
@@ -20,6 +20,7 @@ use crate::room::put;
 use crate::{ReviseFault, Store};
 use cov_history::{Amounts, amount, passed};
 use store_core::Rebinned;
+use store_sums::Sums;
 
 /// A revision that nothing stands against but want of memory.
 #[derive(Drop)]
@@ -120,11 +121,14 @@ impl Store {
         let parts = rebinned.into_parts();
         let event = HeldEvent::Revise(parts.text, design);
         set_tallies(&mut self.tests, parts.tallies);
-        self.design = parts.design;
-        self.branches = ready.remade.branches;
-        self.runs = ready.remade.runs;
-        self.counts = parts.counts;
-        self.out = ready.remade.out;
+        self.sums = Sums::of_parts(
+            self.alloc,
+            parts.design,
+            ready.remade.branches,
+            ready.remade.runs,
+            parts.counts,
+            ready.remade.out,
+        );
         self.outs = ready.remade.outs;
         self.bytes = ready.after.bytes;
         self.rows = ready.after.entries;

@@ -8,7 +8,7 @@ use Rattle.cov_history.specs.History.{Test}
 use Rattle.merge_store.specs.declared.held.Kept.{Kept}
 use Rattle.merge_store.specs.Words.{test_of}
 use Rattle.merge_store.proofs.ById.{on_ok}
-use Rattle.merge_store.proofs.Ranges.{map_more}
+use Rattle.store_sums.proofs.Ranges.{map_more}
 use Rattle.merge_store.proofs.kept.add_test.Goals as goal
 
 pub returns-clause-tests : goal.returns-clause-tests

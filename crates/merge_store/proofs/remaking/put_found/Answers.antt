@@ -6,7 +6,7 @@ use Rattle.std.specs.declared.alloc.Global.{Global}
 use Rattle.cov_tree.specs.declared.name.Name.{Name}
 use Rattle.ucis_model.specs.Paths.{find_in}
 use Rattle.merge_store.specs.Putting.{put_node, put_path}
-use Rattle.merge_store.proofs.Stored.{set_option}
+use Rattle.store_sums.proofs.Stored.{set_option}
 use Rattle.merge_store.proofs.remaking.put_found.Goals as goal
 
 pub returns-clause-out : goal.returns-clause-out

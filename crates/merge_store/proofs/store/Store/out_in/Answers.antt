@@ -20,10 +20,10 @@ loop-path-preserved c =
     let s = c.args.self.now in
     let k = s.keeps in
     let view : Option (Arc Name Global) → Option (List ℕ) = λ p. option_map (λ (a : Arc Name Global). arc_value a) p in
-    let items : c.deref-path-items.result.now ≡ s.out.items = c.deref-path-items.ensures.value in
-    let below : c.loop-path.path-index < length s.out.items = subst (λ (xs : List (Option (Arc Name Global))). c.loop-path.path-index < length xs) items c.loop-path-test.true in
-    let is : c.path-item.result ≡ get_or s.out.items c.loop-path.path-index c.path-item.result = c.path-item.is ∙ ap (λ (xs : List (Option (Arc Name Global))). get_or xs c.loop-path.path-index c.path-item.result) items in
-    let more = moved_on _ c.args.branches.now (outs_now s) view s.out.items s.outs c.loop-path.path-index c.path-item.result (map view c.loop-path.out.items) (map view c.put_found.new.out.items) c.loop-path.outs c.in_ok-outs.field-0 k.outs_are (found_all (opening_of s) (entries_of s) _ k.nodes_are k.legal) below is c.loop-path.invariant.0 c.in_ok-outs.ensures.out c.in_ok-outs.ensures.count in
+    let items : c.deref-path-items.result.now ≡ s.sums.out.items = c.deref-path-items.ensures.value in
+    let below : c.loop-path.path-index < length s.sums.out.items = subst (λ (xs : List (Option (Arc Name Global))). c.loop-path.path-index < length xs) items c.loop-path-test.true in
+    let is : c.path-item.result ≡ get_or s.sums.out.items c.loop-path.path-index c.path-item.result = c.path-item.is ∙ ap (λ (xs : List (Option (Arc Name Global))). get_or xs c.loop-path.path-index c.path-item.result) items in
+    let more = moved_on _ c.args.branches.now (outs_now s) view s.sums.out.items s.outs c.loop-path.path-index c.path-item.result (map view c.loop-path.out.items) (map view c.put_found.new.out.items) c.loop-path.outs c.in_ok-outs.field-0 k.outs_are (found_all (opening_of s) (entries_of s) _ k.nodes_are k.legal) below is c.loop-path.invariant.0 c.in_ok-outs.ensures.out c.in_ok-outs.ensures.count in
     (more.0, omega (arith, more.1, c.loop-path.invariant.1))
 
 pub returns : goal.returns
@@ -31,4 +31,4 @@ returns c =
     let s = c.args.self.now in
     let k = s.keeps in
     let view : Option (Arc Name Global) → Option (List ℕ) = λ p. option_map (λ (a : Arc Name Global). arc_value a) p in
-    moved_out _ c.args.branches.now (outs_now s) (map view s.out.items) s.outs c.loop-path.path-index (map view c.loop-path.out.items) c.loop-path.outs k.outs_are (found_all (opening_of s) (entries_of s) _ k.nodes_are k.legal) (omega (arith, c.loop-path-test.false, ap (λ (xs : List (Option (Arc Name Global))). length xs) c.deref-path-items.ensures.value, length-map s.out.items view)) c.loop-path.invariant.0
+    moved_out _ c.args.branches.now (outs_now s) (map view s.sums.out.items) s.outs c.loop-path.path-index (map view c.loop-path.out.items) c.loop-path.outs k.outs_are (found_all (opening_of s) (entries_of s) _ k.nodes_are k.legal) (omega (arith, c.loop-path-test.false, ap (λ (xs : List (Option (Arc Name Global))). length xs) c.deref-path-items.ensures.value, length-map s.sums.out.items view)) c.loop-path.invariant.0

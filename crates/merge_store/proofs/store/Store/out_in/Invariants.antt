@@ -7,5 +7,5 @@ use Rattle.merge_store.proofs.Places.{paths_in}
 use Rattle.merge_store.proofs.store.Store.out_in.Given as goal
 
 abbrev pub invariant-loop-path : goal.invariant-loop-path
-invariant-loop-path l = HasOut l.branches (filter (λ p. is_some (find_in l.branches p)) (paths_in (take l.path-index (map (λ p. option_map arc_value p) l.self.out.items)))) (map (λ p. option_map arc_value p) l.out.items) l.outs
+invariant-loop-path l = HasOut l.branches (filter (λ p. is_some (find_in l.branches p)) (paths_in (take l.path-index (map (λ p. option_map arc_value p) l.self.sums.out.items)))) (map (λ p. option_map arc_value p) l.out.items) l.outs
     × (l.outs ≤ l.path-index)

@@ -15,6 +15,7 @@ use Rattle.cov_history.specs.Ranking.{ranking}
 use Rattle.cov_history.proofs.Rankings.{ranking_is}
 use Rattle.merge_store.specs.Keeps.{rows_of}
 use Rattle.merge_store.specs.Stores.{opening_of, entries_of}
+use Rattle.merge_store.proofs.Standing.{same_wanted}
 use Rattle.merge_store.proofs.store.Store.rank.Goals as goal
 
 pub rank-requires-clause-tests : goal.rank-requires-clause-tests
@@ -37,6 +38,6 @@ returns-in-Ok-rank g c =
     let wanted = wanted_at (opening_of s) h in
     let rows = c.in-Ok-rank.rows in
     let t : map (λ (x : Arc Tally Global). arc_value x) c.as_slice.result.now ≡ tests = ap (map (λ (x : Arc Tally Global). arc_value x)) c.as_slice.ensures.value ∙ c.in-Ok.ensures in
-    let w : c.as_slice-2.result.now ≡ wanted = c.as_slice-2.ensures.value ∙ c.in-Ok-wanted.ensures.wanted in
+    let w : c.as_slice-2.result.now ≡ wanted = c.as_slice-2.ensures.value ∙ c.in-Ok-wanted.ensures.wanted ∙ same_wanted s.keeps in
     let r : IsRanking tests wanted rows = subst (λ (x : List (ℕ × ℕ)). IsRanking tests x rows) w (subst (λ (x : List Rows). IsRanking x c.as_slice-2.result.now rows) t c.in-Ok-rank.ensures) in
     inl (ap (λ (x : List Ranked). answer.RankRows x) (rankings_equal tests wanted rows (ranking tests wanted) r (ranking_is tests wanted).is))

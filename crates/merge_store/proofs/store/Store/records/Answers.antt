@@ -1,7 +1,7 @@
 use Rattle.std.proofs.Common.{arith}
 use Rattle.cov_history.specs.History.{Test, tests_of}
 use Rattle.merge_store.specs.Stores.{entries_of}
-use Rattle.merge_store.proofs.Walks.{taken_more}
+use Rattle.store_sums.proofs.Walks.{taken_more}
 use Rattle.merge_store.proofs.store.Store.records.Goals as goal
 
 pub loop-place-preserved : goal.loop-place-preserved

@@ -7,7 +7,7 @@ use Rattle.cov_tree.specs.declared.name.Name.{Name}
 use Rattle.ucis_model.specs.declared.node.Node.{Node}
 use Rattle.ucis_model.specs.Paths.{find_in}
 use Rattle.merge_store.specs.Keeps.{HasOut}
-use Rattle.merge_store.specs.Runs.{HasMarks}
+use Rattle.store_sums.specs.Runs.{HasMarks}
 use Rattle.merge_store.specs.Now.{outs_now}
 use Rattle.merge_store.proofs.store.Store.remade.Goals as goal
 

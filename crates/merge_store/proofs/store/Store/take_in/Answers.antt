@@ -1,7 +1,5 @@
-use Rattle.std.proofs.Common.{Option, true, ◌≡◌, ◌∙◌, ◌+◌, ◌++◌, ◌∷◌, [], ◌<◌, ap, sym, subst, length, map, List, ℕ, None, nat_eq}
-use Rattle.std.specs.Prelude.{All, option_map}
-use Rattle.std.specs.declared.sync.Arc.{Arc}
-use Rattle.cov_tree.specs.declared.name.Name.{Name}
+use Rattle.std.proofs.Common.{◌≡◌, ◌∙◌, ◌+◌, ◌++◌, ◌∷◌, [], ◌<◌, ap, sym, subst, length, map, List, ℕ, None, nat_eq}
+use Rattle.std.specs.Prelude.{All}
 use Rattle.std.specs.Map.{lookup}
 use Rattle.std.specs.Cmp.Lexicographic.{pointwise}
 use Rattle.std.specs.Arc.{arc_value}
@@ -23,15 +21,13 @@ use Rattle.merge_store.specs.declared.held.Kept.{Kept}
 use Rattle.merge_store.specs.Words.{entry_of, test_of}
 use Rattle.merge_store.specs.Stores.{opening_of, entries_of}
 use Rattle.merge_store.proofs.ById.{none_kept}
-use Rattle.merge_store.proofs.Ranges.{map_more}
+use Rattle.store_sums.proofs.Ranges.{map_more}
 use Rattle.merge_store.proofs.Tallied.{rows_are, all_inside}
-use Rattle.merge_store.specs.Runs.{HasMarks}
-use Rattle.merge_store.proofs.Marking.{admitted_marks, parents_len}
 use Rattle.merge_store.proofs.Admitting.{counts_room, admit_keeps, test_at}
 use Rattle.merge_store.proofs.store.Store.take_in.Goals as goal
 
-pub add_counts-requires-clause-inside : goal.add_counts-requires-clause-inside
-add_counts-requires-clause-inside c =
+pub add-requires-clause-inside : goal.add-requires-clause-inside
+add-requires-clause-inside c =
     let s = c.args.self.now in
     let p = c.args.prepared in
     let d = design_of (opening_of s) (entries_of s) in
@@ -39,14 +35,14 @@ add_counts-requires-clause-inside c =
     let rows : c.deref.result.now ≡ rows_from 0 (tally d p.of) = c.deref.ensures ∙ c.into_parts-rec.ensures.tally ∙ rows_are d p.of p.counted tallied in
     subst (λ (n : ℕ). All (λ (row : ℕ × ℕ). row.0 < n) c.deref.result.now) (sym s.keeps.sums.same_len) (subst (λ (xs : List (ℕ × ℕ)). All (λ (row : ℕ × ℕ). row.0 < d.bin_count) xs) (sym rows) (all_inside d p.of))
 
-pub add_counts-requires-clause-room : goal.add_counts-requires-clause-room
-add_counts-requires-clause-room c =
+pub add-requires-clause-room : goal.add-requires-clause-room
+add-requires-clause-room c =
     let s = c.args.self.now in
     let p = c.args.prepared in
     let d = design_of (opening_of s) (entries_of s) in
     let tallied : IsTallyOf d p.of p.counted = subst (λ (x : Design). IsTallyOf x p.of p.counted) c.requires.same c.into_parts-rec.ensures.counted in
     let rows : c.deref.result.now ≡ rows_from 0 (tally d p.of) = c.deref.ensures ∙ c.into_parts-rec.ensures.tally ∙ rows_are d p.of p.counted tallied in
-    subst (λ (xs : List (ℕ × ℕ)). HasRoom (count_in xs) s.counts.items) (sym rows) (counts_room s.keeps p.of)
+    subst (λ (xs : List (ℕ × ℕ)). HasRoom (count_in xs) s.sums.counts.items) (sym rows) (counts_room s.keeps p.of)
 
 pub add_test-requires-clause-new : goal.add_test-requires-clause-new
 add_test-requires-clause-new c =
@@ -68,7 +64,7 @@ invariant_of-self-2-clause-keeps c =
     let tallied : IsTallyOf d r p.counted = subst (λ (x : Design). IsTallyOf x r p.counted) c.requires.same c.into_parts-rec.ensures.counted in
     let kept_rows : arc_value c.into_parts-rec.result.1 ≡ rows_from 0 (tally d r) = c.into_parts-rec.ensures.tally ∙ rows_are d r p.counted tallied in
     let id : c.in-Ok.id.items ≡ r.id = c.in-Ok.ensures.items ∙ c.as_slice.ensures ∙ c.id.ensures in
-    let point : length c.as_slice-4.result.now ≡ length h = ap length (c.as_slice-4.ensures.value ∙ c.reserve.ensures.items) ∙ sym (length-map s.entries.items entry_of) in
+    let point : length c.as_slice-2.result.now ≡ length h = ap length (c.as_slice-2.ensures.value ∙ c.reserve.ensures.items) ∙ sym (length-map s.entries.items entry_of) in
     let held : Held = record { caller = caller; event = HeldEvent.Admit c.in-Ok-clone.content } in
     let items : c.put.new.entries.items ≡ s.entries.items ++ held ∷ [] = c.put.ensures.items ∙ ap (λ (xs : List Held). xs ++ held ∷ []) c.reserve.ensures.items in
     let shared : arc_value c.in-Ok-clone.content ≡ r = c.in-Ok-clone.ensures.cases ∙ c.record.ensures in
@@ -77,25 +73,5 @@ invariant_of-self-2-clause-keeps c =
     let seen : (Vec ℕ Global × Kept) → Tally = λ e. arc_value e.1.tally in
     let tests : map view c.add_test.new.tests.entries ≡ map view s.tests.entries ++ (r.id, test_at (length h + 1) r) ∷ [] = c.add_test.ensures.tests ∙ (λ i. map view (c.reserve-2.ensures.entries i) ++ (id i, test_at (point i + 1) (c.into_parts-rec.ensures.of i)) ∷ []) in
     let tallies : map seen c.add_test.new.tests.entries ≡ map seen s.tests.entries ++ rows_from 0 (tally d r) ∷ [] = c.add_test.ensures.tallies ∙ (λ i. map seen (c.reserve-2.ensures.entries i) ++ kept_rows i ∷ []) in
-    let adds : Adds (count_in (rows_from 0 (tally d r))) s.counts.items c.add_counts.new.counts.items = subst (λ (rows : List (ℕ × ℕ)). Adds (count_in rows) s.counts.items c.add_counts.new.counts.items) (c.deref.ensures ∙ kept_rows) c.add_counts.ensures in
-    rw (grown, tests, tallies) (admit_keeps s.keeps caller r p.under c.args.after c.requires c.add_counts.new.counts.items adds)
-
-pub invariant_of-self-2-clause-marked : goal.invariant_of-self-2-clause-marked
-invariant_of-self-2-clause-marked c =
-    let s = c.args.self.now in
-    let seen : List (Option (Arc Name Global)) → List (Option (List ℕ)) = λ xs. map (λ (p : Option (Arc Name Global)). option_map arc_value p) xs in
-    let rows = c.rows.result.now in
-    let same : c.deref.result.now ≡ rows = c.deref.ensures ∙ sym c.deref-2.ensures ∙ sym c.rows.ensures.rows in
-    let more = c.as_slice-2.result.now in
-    let out = c.as_slice-3.result.now in
-    let counts_are : more ≡ c.add_counts.new.counts.items = c.as_slice-2.ensures.value in
-    let outs_are : out ≡ s.out.items = c.as_slice-3.ensures.value in
-    let adds : Adds (count_in rows) s.counts.items more = subst (λ (xs : List ℕ). Adds (count_in rows) s.counts.items xs) (sym counts_are) (subst (λ (xs : List (ℕ × ℕ)). Adds (count_in xs) s.counts.items c.add_counts.new.counts.items) same c.add_counts.ensures) in
-    let old : HasMarks s.branches s.counts.items (seen out) (λ p. true) s.runs = subst (λ (xs : List (Option (Arc Name Global))). HasMarks s.branches s.counts.items (seen xs) (λ p. true) s.runs) (sym outs_are) s.marked in
-    let new : HasMarks s.branches more (seen out) (λ p. true) c.mark_rows.new.runs = admitted_marks (design_of (opening_of s) (entries_of s)) s.branches s.counts.items more (seen out) rows s.runs c.mark_rows.new.runs s.keeps.nodes_are old adds c.mark_rows.ensures in
-    subst (λ (xs : List (Option (Arc Name Global))). HasMarks s.branches c.add_counts.new.counts.items (seen xs) (λ p. true) c.mark_rows.new.runs) outs_are (subst (λ (xs : List ℕ). HasMarks s.branches xs (seen out) (λ p. true) c.mark_rows.new.runs) counts_are new)
-
-pub mark_rows-requires : goal.mark_rows-requires
-mark_rows-requires c =
-    let s = c.args.self.now in
-    parents_len s.branches s.counts.items (map (λ (p : Option (Arc Name Global)). option_map arc_value p) s.out.items) (λ p. true) s.runs s.marked
+    let adds : Adds (count_in (rows_from 0 (tally d r))) s.sums.counts.items c.add.new.self.counts.items = subst (λ (rows : List (ℕ × ℕ)). Adds (count_in rows) s.sums.counts.items c.add.new.self.counts.items) (c.deref.ensures ∙ kept_rows) c.add.ensures.counts in
+    rw (grown, tests, tallies, c.add.ensures.design, c.add.ensures.out) (admit_keeps s.keeps caller r p.under c.args.after c.requires c.add.new.self.counts.items adds)

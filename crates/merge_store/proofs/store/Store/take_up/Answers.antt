@@ -1,4 +1,4 @@
-use Rattle.std.proofs.Common.{◌≡◌, ◌∙◌, ◌+◌, ◌++◌, ◌∷◌, [], ap, sym, length, map, List, ℕ, Option, arith, length-append}
+use Rattle.std.proofs.Common.{◌≡◌, ◌∙◌, ◌+◌, ◌++◌, ◌∷◌, [], ap, sym, subst, true, length, map, List, ℕ, Option, arith, length-append}
 use Rattle.std.specs.Prelude.{option_map}
 use Rattle.std.specs.Arc.{arc_value}
 use Rattle.std.specs.declared.sync.Arc.{Arc}
@@ -6,6 +6,9 @@ use Rattle.std.specs.declared.vec.Vec.{Vec}
 use Rattle.std.specs.declared.alloc.Global.{Global}
 use Rattle.std.proofs.lemmas.List.{length-map}
 use Rattle.std.proofs.lemmas.List.Sums.{length-filter, count_by-le-length}
+use Rattle.design_data.specs.declared.design.Design.{Design}
+use Rattle.ucis_model.specs.declared.node.Node.{Node}
+use Rattle.ucis_model.specs.Nodes.{nodes_of}
 use Rattle.ucis_model.specs.declared.answers.Which.TheVariants.{History}
 use Rattle.cov_tree.specs.declared.name.Name.{Name}
 use Rattle.tally.specs.declared.tally.Tally.{Tally}
@@ -19,8 +22,10 @@ use Rattle.merge_store.specs.declared.held.HeldEvent.TheVariants as HeldEvent
 use Rattle.merge_store.specs.declared.held.Kept.{Kept}
 use Rattle.merge_store.specs.Words.{entry_of, test_of}
 use Rattle.merge_store.specs.Stores.{opening_of, entries_of}
+use Rattle.merge_store.specs.Remakes.{IsRemade}
+use Rattle.store_sums.specs.Runs.{HasMarks}
 use Rattle.merge_store.proofs.Excluding.{history_amount}
-use Rattle.merge_store.proofs.Ranges.{map_more}
+use Rattle.store_sums.proofs.Ranges.{map_more}
 use Rattle.merge_store.proofs.Revising.{tally_count, revise_keeps}
 use Rattle.merge_store.proofs.store.Store.take_up.Goals as goal
 
@@ -60,5 +65,15 @@ invariant_of-self-2-clause-keeps c =
     let grown : map entry_of c.put.new.entries.items ≡ h ++ by caller (Revise (revision_of r)) ∷ [] = map_more entry_of s.entries.items c.put.new.entries.items held (by caller (Revise (revision_of r))) items is in
     let point : length c.as_slice.result.now ≡ length h + 1 = ap length c.as_slice.ensures.value ∙ sym (length-map c.put.new.entries.items entry_of) ∙ ap (λ (es : List Entry). length es) grown ∙ length-append h (by caller (Revise (revision_of r)) ∷ []) in
     let tallies = c.set_tallies.ensures.tallies ∙ c.into_parts-parts.ensures.tallies in
-    let keeps = revise_keeps (opening_of s) h caller r s.keeps c.args.ready.after m.branches (map path m.out.items) m.outs c.requires.readied c.requires.may c.requires.remade in
-    rw (grown, c.set_tallies.ensures.tests, tallies, c.into_parts-parts.ensures.design, c.into_parts-parts.ensures.counts, point) keeps
+    let remade : IsRemade h r.design (nodes_of r.design) (map path m.out.items) m.outs = subst (λ (ns : List Node). IsRemade h r.design ns (map path m.out.items) m.outs) c.requires.remade.nodes_are c.requires.remade in
+    let keeps = revise_keeps (opening_of s) h caller r s.keeps c.args.ready.after (nodes_of r.design) (map path m.out.items) m.outs c.requires.readied c.requires.may remade in
+    rw (grown, c.set_tallies.ensures.tests, tallies, c.of_parts.ensures.design ∙ c.into_parts-parts.ensures.design, ap (λ (v : Vec ℕ Global). v.items) c.of_parts.ensures.counts ∙ c.into_parts-parts.ensures.counts, c.of_parts.ensures.out, point) keeps
+
+pub of_parts-requires-clause-nodes : goal.of_parts-requires-clause-nodes
+of_parts-requires-clause-nodes c = c.requires.remade.nodes_are ∙ ap (λ (d : Design). nodes_of d) (sym c.into_parts-parts.ensures.design)
+
+pub of_parts-requires-clause-marked : goal.of_parts-requires-clause-marked
+of_parts-requires-clause-marked c =
+    let m = c.args.ready.remade in
+    let path : Option (Arc Name Global) → Option (List ℕ) = λ p. option_map (λ (a : Arc Name Global). arc_value a) p in
+    subst (λ (xs : List ℕ). HasMarks m.branches xs (map path m.out.items) (λ p. true) m.runs) (sym c.into_parts-parts.ensures.counts) c.requires.marked

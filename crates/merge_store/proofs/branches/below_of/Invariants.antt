@@ -1,6 +1,0 @@
-use Rattle.std.proofs.Common.{map}
-use Rattle.merge_store.specs.Branches.{HasChildren}
-use Rattle.merge_store.proofs.branches.below_of.Given as goal
-
-abbrev pub invariant-loop-place : goal.invariant-loop-place
-invariant-loop-place l = HasChildren l.nodes l.place (map (λ list. list.items) l.lists.items)

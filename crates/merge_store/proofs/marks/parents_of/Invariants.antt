@@ -1,7 +1,0 @@
-use Rattle.std.proofs.Common.{◌≡◌, map, take}
-use Rattle.ucis_model.specs.Paths.{node_at}
-use Rattle.cov_history.specs.Nodes.{bin_nodes}
-use Rattle.merge_store.proofs.marks.parents_of.Given as goal
-
-abbrev pub invariant-loop-bin : goal.invariant-loop-bin
-invariant-loop-bin l = l.parents.items ≡ map (λ n. (node_at l.branches n).parent) (take l.bin-index (bin_nodes l.branches))

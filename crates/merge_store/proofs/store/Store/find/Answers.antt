@@ -1,7 +1,0 @@
-use Rattle.std.proofs.Common.{◌∙◌, ap, List}
-use Rattle.ucis_model.specs.declared.node.Node.{Node}
-use Rattle.ucis_model.specs.Paths.{find_in}
-use Rattle.merge_store.proofs.store.Store.find.Goals as goal
-
-pub returns : goal.returns
-returns c = c.find.ensures ∙ ap (λ (ns : List Node). find_in ns c.args.path.now) c.args.self.now.keeps.nodes_are

@@ -1,9 +1,0 @@
-use Rattle.std.proofs.Common.{◌≡◌, map, take}
-use Rattle.cov_history.specs.Answers.{count_row}
-use Rattle.merge_store.specs.Branches.{part}
-use Rattle.tally.specs.Rows.{count_in}
-use Rattle.merge_store.specs.Now.{nodes_now, excluded_now}
-use Rattle.merge_store.proofs.store.Store.test_rows.Given as goal
-
-abbrev pub invariant-loop-bin : goal.invariant-loop-bin
-invariant-loop-bin l = l.list.items ≡ map (count_row (nodes_now l.self) (count_in l.tally) (excluded_now l.self)) (take l.bin-index (part l.first 65536 l.bins))

@@ -1,0 +1,11 @@
+pub mod Trees
+pub mod Ranges
+pub mod Children
+pub mod Stored
+pub mod Walks
+pub mod Grouping
+pub mod Merging
+pub mod Running
+pub mod Numbers
+pub mod Marking
+pub mod Excluded

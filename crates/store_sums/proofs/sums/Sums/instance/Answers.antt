@@ -1,0 +1,18 @@
+use Rattle.std.proofs.Common.{◌∙◌, ap, map, length, List, ℕ, ◌≤◌, arith}
+use Rattle.std.specs.Prelude.{filter}
+use Rattle.percent.specs.Millionths.{sums}
+use Rattle.ucis_model.specs.Paths.{node_at}
+use Rattle.cov_history.specs.Nodes.{children}
+use Rattle.cov_history.specs.Coverage as cover
+use Rattle.store_sums.specs.Now.{nodes_now, count_now, excluded_now}
+use Rattle.store_sums.proofs.Walks.{take_all, instance_is}
+use Rattle.store_sums.proofs.sums.Sums.instance.Goals as goal
+
+pub returns : goal.returns
+returns c =
+    let s = c.args.self.now in
+    let xs = children (nodes_now s) c.args.node in
+    let parts : List ℕ → List (ℕ × ℕ) = λ ys. map (λ m. ((node_at (nodes_now s) m).weight, cover.item_coverage (nodes_now s) (count_now s) (excluded_now s) m)) (filter (cover.has_live (nodes_now s) (excluded_now s)) ys) in
+    let len = ap (λ (ys : List ℕ). length ys) c.children-child-items.ensures in
+    let end : length xs ≤ c.loop-child.child-index = omega (arith, len, c.loop-child-test.false) in
+    c.get.ensures (parts xs) (c.loop-child.invariant.sums ∙ ap (λ ys. sums (parts ys)) (take_all xs c.loop-child.child-index end)) ∙ instance_is (nodes_now s) (count_now s) (excluded_now s) c.args.node

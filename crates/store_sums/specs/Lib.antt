@@ -1,0 +1,4 @@
+pub mod Branches
+pub mod Groups
+pub mod Runs
+pub mod Now
