@@ -28,8 +28,8 @@ kept_send = search (sendable, crosses, content.the_send, content.the_sync, tally
 pub planned_send : IsSend planned.the_row
 planned_send = search (sendable, crosses, design_send, design_sync, plan.the_send, plan.the_sync) depth 30
 
-pub sums_send : IsSend sums.the_row
-sums_send = search (sendable, crosses, name.the_send, name.the_sync, planned_send, branches.the_send, runs.the_send) depth 30
+pub sums_field_send : IsSend (sums.the_field).row
+sums_field_send = search (sendable, crosses, name.the_send, name.the_sync, planned_send, branches.the_send, runs.the_send) depth 30
 
 pub store_send : IsSend store.the_row
-store_send = search (sendable, crosses, map.the_send, design_send, design_sync, sums_send, held_send, kept_send) depth 40 fits 4000
+store_send = search (sendable, crosses, map.the_send, design_send, design_sync, sums_field_send, held_send, kept_send) depth 40 fits 4000
