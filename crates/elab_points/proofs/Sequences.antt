@@ -20,7 +20,7 @@ use Rattle.const_eval.specs.Terms.{Term}
 use Rattle.const_eval.specs.Scopes.{Levels}
 use Rattle.trans_seq.specs.declared.seq.Seq.{Seq}
 use Rattle.trans_seq.specs.Cells.{cells_of_seqs}
-use Rattle.trans_seq.specs.Lists.{listed_by_all}
+use Rattle.trans_lists.specs.Lists.{listed_by_all}
 use Rattle.trans_seq.proofs.Members.{first_in, later_in}
 use Rattle.auto_bins.specs.Automatic.{automatic_ranges}
 use Rattle.design_data.specs.Bins.{seqs_of}
