@@ -6,14 +6,14 @@ use Rattle.std.proofs.lemmas.Bool.{false≢true}
 use Rattle.std.proofs.lemmas.List.{map-id, map-append}
 use Rattle.cov_base.specs.Sets.{written}
 use Rattle.trans_seq.specs.declared.seq.Item.{Item}
-use Rattle.trans_lists.specs.Lists.{from_on, lengths, choices, joined, by_lengths, news, all_of, listed}
-use Rattle.trans_lists.specs.Found.{fronted, in_front, new_groups, packed}
-use Rattle.trans_lists.specs.Held.{words, once}
-use Rattle.trans_lists.specs.Alone.{ahead, groups_ahead}
-use Rattle.trans_lists.proofs.Ahead.{ahead-all, ahead-joined, groups_next, groups-times}
-use Rattle.trans_lists.proofs.Counted.{map-same}
-use Rattle.trans_lists.proofs.ListingLemmas.{others}
-use Rattle.trans_lists.proofs.News.{Word, news-map, all_of-append, all_of-new_groups, all_of-packed, new_groups-joined, packed-new_groups, packed-joined}
+use Rattle.trans_found.specs.Lists.{from_on, lengths, choices, joined, by_lengths, news, all_of, listed}
+use Rattle.trans_found.specs.Found.{fronted, in_front, new_groups, packed}
+use Rattle.trans_found.specs.Held.{words, once}
+use Rattle.trans_found.specs.Alone.{ahead, groups_ahead}
+use Rattle.trans_found.proofs.Ahead.{ahead-all, ahead-joined, groups_next, groups-times}
+use Rattle.trans_found.proofs.Counted.{map-same}
+use Rattle.trans_found.proofs.ListingLemmas.{others}
+use Rattle.trans_found.proofs.News.{Word, news-map, all_of-append, all_of-new_groups, all_of-packed, new_groups-joined, packed-new_groups, packed-joined}
 
 -- ---- nothing in front, or nothing behind
 

@@ -1,13 +1,7 @@
-pub mod News
-pub mod Counted
-pub mod FoundLemmas
-pub mod ListingLemmas
 pub mod Written
 pub mod MergeLemmas
 pub mod MetLemmas
-pub mod Numbers
-pub mod Ahead
-pub mod HeldLemmas
-pub mod AloneLemmas
 pub mod RunLemmas
 pub mod ChosenLemmas
+pub use Rattle.trans_found.proofs.News
+pub use Rattle.trans_found.proofs.Counted

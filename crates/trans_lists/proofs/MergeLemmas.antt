@@ -5,15 +5,15 @@ use Rattle.std.specs.List.{list_any}
 use Rattle.std.proofs.lemmas.Bool.{or_parts, true≢false}
 use Rattle.cov_ground.specs.Limits.{most_bins}
 use Rattle.trans_seq.specs.declared.seq.Seq.{Seq}
-use Rattle.trans_lists.specs.declared.found.Found.{Found}
-use Rattle.trans_lists.specs.declared.fault.ExpandFault.{ExpandFault}
-use Rattle.trans_lists.specs.declared.fault.ExpandFault.TheVariants.{Unbounded, TooLong, TooManyBins, Memory}
+use Rattle.trans_found.specs.declared.found.Found.{Found}
+use Rattle.trans_found.specs.declared.fault.ExpandFault.{ExpandFault}
+use Rattle.trans_found.specs.declared.fault.ExpandFault.TheVariants.{Unbounded, TooLong, TooManyBins, Memory}
 use Rattle.trans_seq.specs.Windows.{InSome}
-use Rattle.trans_lists.specs.Lists.{is_among, news, all_of, listed, has_endless, IsShort, lists_by_all, listed_by_all, RefusesToExpand, RefusesToExpandAll}
-use Rattle.trans_lists.specs.Found.{lists_of, Takes, FailsAfter}
+use Rattle.trans_found.specs.Lists.{is_among, news, all_of, listed, has_endless, IsShort, lists_by_all, listed_by_all, RefusesToExpand, RefusesToExpandAll}
+use Rattle.trans_found.specs.Found.{lists_of, Takes, FailsAfter}
 use Rattle.trans_seq.proofs.Members.{none_in, cases_in, in_flat_map}
-use Rattle.trans_lists.proofs.News.{Word, among_left, among_right, among_news}
-use Rattle.trans_lists.proofs.Counted.{no_more, listed-differ, news_from, map-same}
+use Rattle.trans_found.proofs.News.{Word, among_left, among_right, among_news}
+use Rattle.trans_found.proofs.Counted.{no_more, listed-differ, news_from, map-same}
 use Rattle.trans_lists.proofs.Written.{from_flat_map, among-of, among-from, listed-windows}
 
 pub none_of : (p : Seq → Bool) (seqs : List Seq) (seq : Seq) → list_any p seqs ≡ false → Contains seqs seq → p seq ≡ false

@@ -5,22 +5,15 @@ use Rattle.std.specs.List.{list_any}
 use Rattle.std.proofs.lemmas.List.{get_or-take, get_or_default, length-take, take_all}
 use Rattle.cov_ground.specs.Limits.{most_bins}
 use Rattle.trans_seq.specs.declared.seq.Seq.{Seq}
-use Rattle.trans_lists.specs.declared.found.Found.{Found}
-use Rattle.trans_lists.specs.declared.fault.ExpandFault.{ExpandFault}
+use Rattle.trans_found.specs.declared.found.Found.{Found}
+use Rattle.trans_found.specs.declared.fault.ExpandFault.{ExpandFault}
 use Rattle.trans_seq.specs.Windows.{InSeq}
-use Rattle.trans_lists.specs.Lists.{is_among, news, all_of, listed, has_endless, lists_by_all, listed_by_all}
-use Rattle.trans_lists.specs.Found.{lists_of, Holds, Takes, FailsAfter, IsHeldBefore, Merges}
-use Rattle.trans_lists.proofs.News.{Word, among_first, among_later, news-append, among_news}
-use Rattle.trans_lists.proofs.FoundLemmas.{flat_next, flat_rest, fails_first, fails_behind}
+use Rattle.trans_found.specs.Lists.{is_among, news, all_of, listed, has_endless, lists_by_all, listed_by_all}
+use Rattle.trans_found.specs.Found.{lists_of, Holds, Takes, FailsAfter, IsHeldBefore, Merges}
+use Rattle.trans_found.proofs.News.{Word, among_first, among_later, news-append, among_news, news_none}
+use Rattle.trans_found.proofs.FoundLemmas.{flat_next, flat_rest, fails_first, fails_behind}
 use Rattle.trans_lists.proofs.MergeLemmas.{none_of, among_all}
 use Rattle.trans_lists.proofs.Written.{among-of, among-from, listed-windows}
-
--- nothing is new of what is there
-pub news_none : (before xs : List Word) → ((w : Word) → is_among xs w ≡ true → is_among before w ≡ true) → news before xs ≡ []
-news_none before [] had = refl
-news_none before (x ∷ xs) had =
-    ap (λ (b : Bool). cond b (news before xs) (x ∷ news (before ++ x ∷ []) xs)) (had x (among_first x xs))
-    ∙ news_none before xs (λ w h. had w (among_later x xs w h))
 
 lists_found : (seqs : List Seq) (place : ℕ) (found : Found) → Merges seqs place found → lists_of found ≡ news [] (lists_by_all (take place seqs))
 lists_found seqs place found m = ap (λ g. all_of g ++ found.fresh.items) m.groups ∙ m.fresh

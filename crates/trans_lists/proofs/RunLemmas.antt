@@ -4,16 +4,15 @@ use Rattle.std.specs.Prelude.{replicate, Contains}
 use Rattle.std.proofs.lemmas.List.{map-append, replicate-append-replicate}
 use Rattle.std.proofs.lemmas.List.Concat.{flat_map-append}
 use Rattle.cov_base.specs.Sets.{written}
-use Rattle.trans_lists.specs.declared.fault.ExpandFault.{ExpandFault}
+use Rattle.trans_found.specs.declared.fault.ExpandFault.{ExpandFault}
 use Rattle.trans_seq.specs.declared.seq.Item.{Item}
-use Rattle.trans_lists.specs.Lists.{from_on, lengths, choices, joined, by_lengths, is_among, all_of}
-use Rattle.trans_lists.specs.Found.{FailsAfter, HasList, fronted, new_groups, packed}
-use Rattle.trans_lists.specs.Held.{once}
-use Rattle.trans_lists.specs.Alone.{ahead}
-use Rattle.trans_lists.proofs.Ahead.{ahead-append, ahead-times}
-use Rattle.trans_lists.proofs.ListingLemmas.{from_on_low, others, fails_same, news_all}
-use Rattle.trans_lists.proofs.MetLemmas.{news_none}
-use Rattle.trans_lists.proofs.News.{Word, among_left, among_right, among_news, all_of-append, all_of-new_groups, new_groups-append, packed-append, packed_level}
+use Rattle.trans_found.specs.Lists.{from_on, lengths, choices, joined, by_lengths, is_among, all_of}
+use Rattle.trans_found.specs.Found.{FailsAfter, HasList, fronted, new_groups, packed}
+use Rattle.trans_found.specs.Held.{once}
+use Rattle.trans_found.specs.Alone.{ahead}
+use Rattle.trans_found.proofs.Ahead.{ahead-append, ahead-times}
+use Rattle.trans_found.proofs.ListingLemmas.{from_on_low, others, fails_same, news_all}
+use Rattle.trans_found.proofs.News.{Word, among_left, among_right, among_news, all_of-append, all_of-new_groups, new_groups-append, packed-append, packed_level, news_none}
 
 -- ---- what is known adds no group
 

@@ -13,11 +13,11 @@ use Rattle.cov_base.specs.Sets.{written, is_in}
 use Rattle.trans_seq.specs.declared.seq.Item.{Item}
 use Rattle.trans_seq.specs.declared.seq.Repeat.{Repeat}
 use Rattle.trans_seq.specs.declared.seq.Repeat.TheVariants.{Once, Consec, Goto, NonConsec}
-use Rattle.trans_lists.specs.Lists.{from_on, lengths, choices, joined, by_lengths, is_among, all_of, listed, goes_on, is_endless, Expands}
+use Rattle.trans_found.specs.Lists.{from_on, lengths, choices, joined, by_lengths, is_among, all_of, listed, goes_on, is_endless, Expands}
 use Rattle.trans_seq.specs.Windows.{is_known_in, AllInside, InRepeat, InItem, InSeq, is_end}
 use Rattle.trans_seq.proofs.Members.{none_in, first_in, later_in, cases_in, in_map, in_flat_map}
-use Rattle.trans_lists.proofs.News.{Word, among_first, among_later, among_cons, among_news}
-use Rattle.trans_lists.proofs.Counted.{news_from}
+use Rattle.trans_found.proofs.News.{Word, among_first, among_later, among_cons, among_news}
+use Rattle.trans_found.proofs.Counted.{news_from}
 
 module _ {X Y : Type 0} where
   from_map : (f : X → Y) (xs : List X) (y : Y) → Contains (map f xs) y → (x : X) × Contains xs x × (f x ≡ y)

@@ -1,4 +1,1 @@
-pub mod Found
-pub mod Held
-pub mod Alone
-pub mod Lists
+pub use Rattle.trans_found.specs.Lists

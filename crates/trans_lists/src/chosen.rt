@@ -2,18 +2,18 @@
 ghost use Rattle.std.specs.Prelude.{◌≡◌, ◌+◌, ◌≤◌, map, OnOk, IfErr};
 ghost use Rattle.cov_base.specs.Sets.{written};
 ghost use Rattle.cov_ground.specs.Limits.{most_cells};
-ghost use Rattle.trans_lists.specs.Alone.{groups_ahead};
+ghost use Rattle.trans_found.specs.Alone.{groups_ahead};
 ghost use Rattle.trans_seq.specs.Cells.{cells_of_items};
-ghost use Rattle.trans_lists.specs.Found.{lists_of, Holds, Takes, FailsAfter, AllHaveList, in_front};
-ghost use Rattle.trans_lists.specs.Held.{words, AreHeld};
-ghost use Rattle.trans_lists.specs.Lists.{all_of, by_lengths, choices, joined, listed};
+ghost use Rattle.trans_found.specs.Found.{lists_of, Holds, Takes, FailsAfter, AllHaveList, in_front};
+ghost use Rattle.trans_found.specs.Held.{words, AreHeld};
+ghost use Rattle.trans_found.specs.Lists.{all_of, by_lengths, choices, joined, listed};
 
-use crate::fault::ExpandFault;
-use crate::found::Found;
-use crate::held::Known;
 use crate::listing::{ends, run_of};
 use crate::spread::{add_once, take_items};
 use std::alloc::Global;
+use trans_found::ExpandFault;
+use trans_found::found::Found;
+use trans_found::held::Known;
 use trans_seq::Item;
 
 /// Choices of lengths that are gone through one by one.

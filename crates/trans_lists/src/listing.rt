@@ -2,23 +2,23 @@
 ghost use Rattle.std.specs.Prelude.{◌≡◌, ◌+◌, ◌-◌, ◌<◌, ◌≤◌, ◌↔◌, ℤ, Contains, List, [], false, map, length, IsTrue, IfOk, IfErr, IfSome, IfNone, OnOk, All};
 ghost use Rattle.std.specs.List.{list_any};
 ghost use Rattle.cov_ground.specs.Limits.{most_bins, most_cells};
-ghost use Rattle.trans_lists.specs.Held.{AreHeld};
-ghost use Rattle.trans_lists.specs.Found.{lists_of, Holds, Takes, FailsAfter, Merges, Extends, HasList, NoList, AllHaveList, SomeNoList, in_front, new_groups, packed};
+ghost use Rattle.trans_found.specs.Held.{AreHeld};
+ghost use Rattle.trans_found.specs.Found.{lists_of, Holds, Takes, FailsAfter, Merges, Extends, HasList, NoList, AllHaveList, SomeNoList, in_front, new_groups, packed};
 ghost use Rattle.trans_seq.specs.Cells.{cells_of_repeat, cells_of_items};
 ghost use Rattle.trans_seq.specs.Windows.{HasWord, SomeHasWord};
-ghost use Rattle.trans_lists.specs.Lists.{lengths, by_lengths, from_on, all_of, listed, is_endless, has_endless as seq_has_endless, IsShort, IsFirstLong, HasEndless, Expands, RefusesToExpand, ExpandsAll, RefusesToExpandAll, lists_by_all, listed_by_all};
+ghost use Rattle.trans_found.specs.Lists.{lengths, by_lengths, from_on, all_of, listed, is_endless, has_endless as seq_has_endless, IsShort, IsFirstLong, HasEndless, Expands, RefusesToExpand, ExpandsAll, RefusesToExpandAll, lists_by_all, listed_by_all};
 
-use crate::alone::groups_before;
 use crate::chosen::{has_few_choices, take_each};
-use crate::fault::ExpandFault;
-use crate::found::{Found, none_found, take_all, take_length};
-use crate::held::{Known, none_known};
 use crate::met::{Met, is_held, none_met};
 use crate::spread::front_of;
 use cov_base::{Int, Memory, ValueSet};
 use cov_ground::limits::MOST_CELLS;
 use cov_tree::List;
 use std::alloc::Global;
+use trans_found::ExpandFault;
+use trans_found::alone::groups_before;
+use trans_found::found::{Found, none_found, take_all, take_length};
+use trans_found::held::{Known, none_known};
 use trans_seq::{Item, Repeat, Seq, cells, same_values};
 
 /// Whether the item has lists of any length.

@@ -1,11 +1,11 @@
 //! Sequences whose lists an earlier sequence of the declaration has.
 ghost use Rattle.std.specs.Prelude.{◌≡◌, ◌<◌, IsTrue, IfOk, length};
-ghost use Rattle.trans_lists.specs.Found.{IsHeldBefore};
+ghost use Rattle.trans_found.specs.Found.{IsHeldBefore};
 
-use crate::marks::with_items;
 use cov_base::Memory;
 use std::alloc::Global;
 use std::collections::HashMap;
+use trans_found::marks::with_items;
 use trans_seq::Seq;
 
 /// By the mark of its items, the place of the first such sequence.

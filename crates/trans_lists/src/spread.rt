@@ -1,18 +1,18 @@
 //! Items of which each stands once: their lists are taken number by number, and what is known to be found is passed over.
 ghost use Rattle.std.specs.Prelude.{◌≡◌, [], ◌++◌, ℕ, replicate, IsTrue, IfOk, IfErr, OnOk};
 ghost use Rattle.cov_base.specs.Sets.{written, without};
-ghost use Rattle.trans_lists.specs.Found.{Holds, Takes, FailsAfter, lists_of};
-ghost use Rattle.trans_lists.specs.Alone.{IsFront};
-ghost use Rattle.trans_lists.specs.Held.{begun, begun_by, once as item_once, AreHeld};
+ghost use Rattle.trans_found.specs.Found.{Holds, Takes, FailsAfter, lists_of};
+ghost use Rattle.trans_found.specs.Alone.{IsFront};
+ghost use Rattle.trans_found.specs.Held.{begun, begun_by, once as item_once, AreHeld};
 
-use crate::alone::count_ahead;
-use crate::fault::ExpandFault;
-use crate::found::{Found, found_count, list_of, take_list};
-use crate::held::{Known, has_all, is_none, known_numbers};
 use crate::listing::ends;
 use crate::widened::{keep, keep_by_sets};
 use cov_base::{Int, Memory, ValueSet};
 use std::alloc::Global;
+use trans_found::ExpandFault;
+use trans_found::alone::count_ahead;
+use trans_found::found::{Found, found_count, list_of, take_list};
+use trans_found::held::{Known, has_all, is_none, known_numbers};
 use trans_seq::{Item, Repeat};
 
 /// Adds an item that stands once, so many times.

@@ -2,15 +2,15 @@
 //! has.
 ghost use Rattle.std.specs.Prelude.{◌≡◌, ◌∷◌, ◌++◌, ℤ, List, [], IfOk, OnOk};
 ghost use Rattle.cov_base.specs.Sets.{written};
-ghost use Rattle.trans_lists.specs.Held.{begun_by, HasAll, AreHeld, Keeps};
+ghost use Rattle.trans_found.specs.Held.{begun_by, HasAll, AreHeld, Keeps};
 
-use crate::alone::count_ahead;
-use crate::held::{
+use cov_base::{Int, Memory, ValueSet};
+use std::alloc::Global;
+use trans_found::alone::count_ahead;
+use trans_found::held::{
     Held, Known, are_parts, has_few, has_mark_by_sets, held_behind, is_full, joined_set,
     mark_by_sets, mark_by_size, remember,
 };
-use cov_base::{Int, Memory, ValueSet};
-use std::alloc::Global;
 use trans_seq::{Item, Repeat};
 
 /// Numbers that are looked up for each number that was gone through, to learn whether more is found than was known.

@@ -1,13 +1,13 @@
 use Rattle.std.proofs.Common.{rules, ◌≡◌, ◌+◌, ◌-◌, ◌<◌, ◌∷◌, length, refl, ap, subst, ◌∙◌, arith}
 use Rattle.std.specs.List.{flat_map}
 use Rattle.std.proofs.lemmas.List.{take_all}
-use Rattle.trans_lists.specs.Alone.{groups_ahead}
-use Rattle.trans_lists.specs.Found.{Takes, FailsAfter, lists_of, in_front}
-use Rattle.trans_lists.specs.Held.{words}
-use Rattle.trans_lists.specs.Lists.{from_on, all_of, by_lengths, news}
-use Rattle.trans_lists.proofs.FoundLemmas.{takes_part, fails_part}
-use Rattle.trans_lists.proofs.ListingLemmas.{others, split, no_items, size_at, length-from_on, if_err}
-use Rattle.trans_lists.proofs.HeldLemmas.{takes-same, fails-same, on-ok}
+use Rattle.trans_found.specs.Alone.{groups_ahead}
+use Rattle.trans_found.specs.Found.{Takes, FailsAfter, lists_of, in_front}
+use Rattle.trans_found.specs.Held.{words}
+use Rattle.trans_found.specs.Lists.{from_on, all_of, by_lengths, news}
+use Rattle.trans_found.proofs.FoundLemmas.{takes_part, fails_part}
+use Rattle.trans_found.proofs.ListingLemmas.{others, split, no_items, size_at, length-from_on, if_err}
+use Rattle.trans_found.proofs.HeldLemmas.{takes-same, fails-same, on-ok}
 use Rattle.trans_lists.proofs.ChosenLemmas.{chosen-none, chosen-run, chosen-size, chosen-sizes, sized}
 use Rattle.trans_lists.proofs.chosen.+take_choices.Goals as goal
 

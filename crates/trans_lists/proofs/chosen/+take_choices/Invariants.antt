@@ -1,8 +1,8 @@
 use Rattle.std.proofs.Common.{◌≡◌, ◌+◌, ◌-◌, ◌*◌, length, take}
 use Rattle.std.specs.List.{flat_map}
-use Rattle.trans_lists.specs.Found.{Takes, lists_of}
-use Rattle.trans_lists.specs.Held.{AreHeld}
-use Rattle.trans_lists.specs.Lists.{from_on}
+use Rattle.trans_found.specs.Found.{Takes, lists_of}
+use Rattle.trans_found.specs.Held.{AreHeld}
+use Rattle.trans_found.specs.Lists.{from_on}
 use Rattle.trans_lists.proofs.ChosenLemmas.{sized}
 use Rattle.trans_lists.proofs.chosen.+take_choices.Given as goal
 

@@ -1,8 +1,8 @@
 use Rattle.std.proofs.Common.{rules, ◌≡◌}
-use Rattle.trans_lists.specs.Alone.{groups_ahead}
-use Rattle.trans_lists.specs.Found.{FailsAfter, lists_of}
-use Rattle.trans_lists.specs.Lists.{all_of, by_lengths, listed, news}
-use Rattle.trans_lists.proofs.HeldLemmas.{takes-same, fails-same}
+use Rattle.trans_found.specs.Alone.{groups_ahead}
+use Rattle.trans_found.specs.Found.{FailsAfter, lists_of}
+use Rattle.trans_found.specs.Lists.{all_of, by_lengths, listed, news}
+use Rattle.trans_found.proofs.HeldLemmas.{takes-same, fails-same}
 use Rattle.trans_lists.proofs.ChosenLemmas.{chosen-listed}
 use Rattle.trans_lists.proofs.chosen.take_each.Goals as goal
 

@@ -1,6 +1,6 @@
 use Rattle.std.proofs.Common.{rules, ◌≡◌, subst}
-use Rattle.trans_lists.specs.Found.{Takes, FailsAfter, lists_of}
-use Rattle.trans_lists.specs.Held.{begun, words}
+use Rattle.trans_found.specs.Found.{Takes, FailsAfter, lists_of}
+use Rattle.trans_found.specs.Held.{begun, words}
 use Rattle.trans_lists.proofs.ChosenLemmas.{begun-words}
 use Rattle.trans_lists.proofs.chosen.take_front.Goals as goal
 

@@ -4,11 +4,11 @@ use Rattle.std.proofs.lemmas.List.Elements.{All-head, All-drop}
 use Rattle.trans_seq.specs.declared.seq.Item.{Item}
 use Rattle.cov_base.specs.Sets.{written}
 use Rattle.cov_ground.specs.Limits.{most_cells}
-use Rattle.trans_lists.specs.Lists.{from_on, choices, by_lengths, all_of, listed}
-use Rattle.trans_lists.specs.Found.{FailsAfter, HasList, AllHaveList, fronted, new_groups, packed}
+use Rattle.trans_found.specs.Lists.{from_on, choices, by_lengths, all_of, listed}
+use Rattle.trans_found.specs.Found.{FailsAfter, HasList, AllHaveList, fronted, new_groups, packed}
 use Rattle.trans_seq.specs.Cells.{cells_of_items}
-use Rattle.trans_lists.specs.Alone.{groups_ahead, IsFront}
-use Rattle.trans_lists.proofs.ListingLemmas.{fails_front, cells_front, groups_front, listed_front, exceeds_front, others, split, fails_behind_too, listed_none, if_err, no_items, few_listed}
+use Rattle.trans_found.specs.Alone.{groups_ahead, IsFront}
+use Rattle.trans_found.proofs.ListingLemmas.{fails_front, cells_front, groups_front, listed_front, exceeds_front, others, split, fails_behind_too, listed_none, if_err, no_items, few_listed}
 use Rattle.trans_seq.proofs.Results.{if_ok}
 use Rattle.trans_lists.proofs.RunLemmas.{groups-run, fails-run}
 use Rattle.trans_lists.proofs.listing.+grouped.Goals as goal

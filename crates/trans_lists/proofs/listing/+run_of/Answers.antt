@@ -1,8 +1,8 @@
 use Rattle.std.proofs.Common.{◌≡◌, [], ◌∷◌, subst, sym, ◌∙◌, arith}
 use Rattle.std.proofs.lemmas.List.Elements.{All-head}
-use Rattle.trans_lists.specs.Lists.{by_lengths, all_of}
-use Rattle.trans_lists.specs.Found.{FailsAfter, HasList, AllHaveList}
-use Rattle.trans_lists.proofs.ListingLemmas.{others, split, fails_behind_too}
+use Rattle.trans_found.specs.Lists.{by_lengths, all_of}
+use Rattle.trans_found.specs.Found.{FailsAfter, HasList, AllHaveList}
+use Rattle.trans_found.proofs.ListingLemmas.{others, split, fails_behind_too}
 use Rattle.trans_lists.proofs.RunLemmas.{run-step}
 use Rattle.trans_lists.proofs.listing.+run_of.Goals as goal
 

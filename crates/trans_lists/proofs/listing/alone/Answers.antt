@@ -1,6 +1,6 @@
 use Rattle.std.proofs.Common.{[]}
-use Rattle.trans_lists.proofs.ListingLemmas.{if_err}
-use Rattle.trans_lists.proofs.HeldLemmas.{fails-expanded}
+use Rattle.trans_found.proofs.ListingLemmas.{if_err}
+use Rattle.trans_found.proofs.HeldLemmas.{fails-expanded}
 use Rattle.trans_lists.proofs.listing.alone.Goals as goal
 
 pub returns-clause-err : goal.returns-clause-err

@@ -1,8 +1,8 @@
 use Rattle.std.proofs.Common.{◌≡◌, ◌≤◌, length, ap, sym, ◌∙◌, arith}
 use Rattle.cov_ground.specs.Limits.{most_bins}
-use Rattle.trans_lists.specs.Lists.{listed, listed_by_all}
+use Rattle.trans_found.specs.Lists.{listed, listed_by_all}
 use Rattle.trans_seq.proofs.Results.{if_ok}
-use Rattle.trans_lists.proofs.AloneLemmas.{one-of, listed-one, few-by}
+use Rattle.trans_found.proofs.AloneLemmas.{one-of, listed-one, few-by}
 use Rattle.trans_lists.proofs.listing.distinct.Goals as goal
 
 pub returns-in-len1-clause-lists : goal.returns-in-len1-clause-lists

@@ -3,9 +3,9 @@ use Rattle.std.specs.Prelude.{false}
 use Rattle.std.specs.List.{list_any}
 use Rattle.cov_ground.specs.Limits.{most_bins}
 use Rattle.trans_seq.specs.Cells.{cells_of_items}
-use Rattle.trans_lists.specs.Lists.{by_lengths, all_of, listed, is_endless, RefusesToExpand}
-use Rattle.trans_lists.specs.Found.{FailsAfter, SomeNoList, new_groups, packed}
-use Rattle.trans_lists.proofs.ListingLemmas.{refuses_after, none_listed, listed_all, short_cells}
+use Rattle.trans_found.specs.Lists.{by_lengths, all_of, listed, is_endless, RefusesToExpand}
+use Rattle.trans_found.specs.Found.{FailsAfter, SomeNoList, new_groups, packed}
+use Rattle.trans_found.proofs.ListingLemmas.{refuses_after, none_listed, listed_all, short_cells}
 use Rattle.trans_lists.proofs.Written.{windows-of}
 use Rattle.trans_lists.proofs.listing.expand.Goals as goal
 

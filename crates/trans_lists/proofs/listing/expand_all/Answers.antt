@@ -1,8 +1,8 @@
 use Rattle.std.proofs.Common.{◌≡◌, ◌↔◌, subst, sym, ◌∙◌, map, Some}
 use Rattle.std.specs.Prelude.{Contains}
 use Rattle.trans_seq.specs.Windows.{InSome, SomeHasWord}
-use Rattle.trans_lists.specs.Lists.{listed_by_all}
-use Rattle.trans_lists.proofs.News.{Word}
+use Rattle.trans_found.specs.Lists.{listed_by_all}
+use Rattle.trans_found.proofs.News.{Word}
 use Rattle.trans_seq.proofs.Results.{if_ok}
 use Rattle.trans_lists.proofs.MergeLemmas.{all-windows}
 use Rattle.trans_lists.proofs.listing.expand_all.Goals as goal

@@ -3,8 +3,8 @@ use Rattle.std.specs.Prelude.{All}
 use Rattle.std.proofs.lemmas.List.{take_more, take_all}
 use Rattle.std.proofs.lemmas.List.Elements.{All-push}
 use Rattle.trans_seq.specs.Cells.{cells_of_items}
-use Rattle.trans_lists.specs.Lists.{IsShort}
-use Rattle.trans_lists.proofs.ListingLemmas.{short_cells}
+use Rattle.trans_found.specs.Lists.{IsShort}
+use Rattle.trans_found.proofs.ListingLemmas.{short_cells}
 use Rattle.trans_lists.proofs.listing.first_too_long.Goals as goal
 
 pub loop-seq-preserved : goal.loop-seq-preserved

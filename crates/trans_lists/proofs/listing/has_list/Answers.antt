@@ -1,6 +1,6 @@
 use Rattle.std.proofs.Common.{◌<◌, ◌≤◌, inr, arith}
 use Rattle.std.proofs.lemmas.Bool.{ltb-true, ltb-false}
-use Rattle.trans_lists.proofs.ListingLemmas.{has_some, has_none}
+use Rattle.trans_found.proofs.ListingLemmas.{has_some, has_none}
 use Rattle.trans_lists.proofs.listing.has_list.Goals as goal
 
 pub returns-else-low-eq0-clause-some : goal.returns-else-low-eq0-clause-some

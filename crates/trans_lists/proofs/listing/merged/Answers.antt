@@ -1,5 +1,5 @@
 use Rattle.std.proofs.Common.{arith}
-use Rattle.trans_lists.specs.Found.{lists_of}
+use Rattle.trans_found.specs.Found.{lists_of}
 use Rattle.trans_lists.proofs.MetLemmas.{merged_all, merged_few, merges_none}
 use Rattle.trans_lists.proofs.listing.merged.Goals as goal
 

@@ -1,5 +1,5 @@
-use Rattle.trans_lists.specs.Found.{Merges, lists_of}
-use Rattle.trans_lists.specs.Held.{AreHeld}
+use Rattle.trans_found.specs.Found.{Merges, lists_of}
+use Rattle.trans_found.specs.Held.{AreHeld}
 use Rattle.trans_lists.proofs.listing.merged.Given as goal
 
 abbrev pub invariant-loop-place : goal.invariant-loop-place

@@ -1,7 +1,7 @@
 use Rattle.std.proofs.Common.{rules, ◌≡◌, subst}
-use Rattle.trans_lists.specs.Lists.{listed}
-use Rattle.trans_lists.specs.Found.{Takes, FailsAfter, lists_of}
-use Rattle.trans_lists.proofs.HeldLemmas.{fails-expanded}
+use Rattle.trans_found.specs.Lists.{listed}
+use Rattle.trans_found.specs.Found.{Takes, FailsAfter, lists_of}
+use Rattle.trans_found.proofs.HeldLemmas.{fails-expanded}
 use Rattle.trans_lists.proofs.listing.take_expanded.Goals as goal
 
 pub returns-in_err-lists-clause-err : goal.returns-in_err-lists-clause-err

@@ -1,9 +1,9 @@
 use Rattle.std.proofs.Common.{◌≡◌, [], sym, subst}
-use Rattle.trans_lists.specs.Lists.{listed}
-use Rattle.trans_lists.specs.Found.{Takes, SomeNoList}
-use Rattle.trans_lists.proofs.FoundLemmas.{takes_none}
-use Rattle.trans_lists.proofs.ListingLemmas.{none_listed}
-use Rattle.trans_lists.proofs.HeldLemmas.{held-more, on-ok}
+use Rattle.trans_found.specs.Lists.{listed}
+use Rattle.trans_found.specs.Found.{Takes, SomeNoList}
+use Rattle.trans_found.proofs.FoundLemmas.{takes_none}
+use Rattle.trans_found.proofs.ListingLemmas.{none_listed}
+use Rattle.trans_found.proofs.HeldLemmas.{held-more, on-ok}
 use Rattle.trans_lists.proofs.listing.take_lists.Goals as goal
 
 pub returns-then-is_empty-clause-ok : goal.returns-then-is_empty-clause-ok

@@ -1,6 +1,6 @@
 use Rattle.std.proofs.Common.{rules, []}
-use Rattle.trans_lists.specs.Lists.{lists_by_all}
-use Rattle.trans_lists.specs.Found.{FailsAfter}
+use Rattle.trans_found.specs.Lists.{lists_by_all}
+use Rattle.trans_found.specs.Found.{FailsAfter}
 use Rattle.trans_lists.proofs.MetLemmas.{merges_more, merges_held, fails_more}
 use Rattle.trans_lists.proofs.listing.take_seq.Goals as goal
 

@@ -2,11 +2,11 @@ use Rattle.std.proofs.Common.{rules, ◌≡◌, ℕ, ◌+◌, ◌-◌, ◌<◌, 
 use Rattle.std.specs.List.{flat_map}
 use Rattle.std.proofs.lemmas.List.{take_all}
 use Rattle.cov_base.specs.Sets.{written}
-use Rattle.trans_lists.specs.Lists.{from_on, choices, joined, all_of}
-use Rattle.trans_lists.specs.Found.{Extends, FailsAfter}
-use Rattle.trans_lists.proofs.News.{Word}
-use Rattle.trans_lists.proofs.FoundLemmas.{extends_part, fails_spread}
-use Rattle.trans_lists.proofs.ListingLemmas.{size_at, length-from_on, made, made_few}
+use Rattle.trans_found.specs.Lists.{from_on, choices, joined, all_of}
+use Rattle.trans_found.specs.Found.{Extends, FailsAfter}
+use Rattle.trans_found.proofs.News.{Word}
+use Rattle.trans_found.proofs.FoundLemmas.{extends_part, fails_spread}
+use Rattle.trans_found.proofs.ListingLemmas.{size_at, length-from_on, made, made_few}
 use Rattle.trans_lists.proofs.listing.with_lengths.Goals as goal
 use Rattle.trans_lists.proofs.listing.with_lengths.Goals.{else-loop-size-test, then-loop-size-test+in_ok-take_length+else-size-high}
 

@@ -1,8 +1,8 @@
 use Rattle.std.proofs.Common.{◌+◌, ◌-◌, take, map}
 use Rattle.std.specs.List.{flat_map}
 use Rattle.cov_base.specs.Sets.{written}
-use Rattle.trans_lists.specs.Lists.{from_on, choices, joined}
-use Rattle.trans_lists.specs.Found.{Extends}
+use Rattle.trans_found.specs.Lists.{from_on, choices, joined}
+use Rattle.trans_found.specs.Found.{Extends}
 use Rattle.trans_lists.proofs.listing.with_lengths.Given as goal
 
 abbrev pub invariant-loop-size : goal.invariant-loop-size

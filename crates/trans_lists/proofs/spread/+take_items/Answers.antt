@@ -2,13 +2,13 @@ use Rattle.std.proofs.Common.{rules, ◌≡◌, ◌+◌, ◌<◌, List, [], ◌�
 use Rattle.std.specs.Prelude.{ℤ}
 use Rattle.std.specs.List.{flat_map}
 use Rattle.cov_base.specs.Sets.{written}
-use Rattle.trans_lists.specs.Lists.{news}
-use Rattle.trans_lists.specs.Found.{Takes, FailsAfter, lists_of}
-use Rattle.trans_lists.specs.Held.{begun, begun_by, HasAll, AreHeld}
-use Rattle.trans_lists.proofs.News.{Word}
-use Rattle.trans_lists.proofs.FoundLemmas.{takes_none, takes_part, fails_part, value_at, none_at, popped}
-use Rattle.trans_lists.proofs.ListingLemmas.{others, split, if_err}
-use Rattle.trans_lists.proofs.HeldLemmas.{begun-item, begun-none, passed-known, takes-same, takes-known, fails-same, takes-has, takes-keeps, held-more, on-ok}
+use Rattle.trans_found.specs.Lists.{news}
+use Rattle.trans_found.specs.Found.{Takes, FailsAfter, lists_of}
+use Rattle.trans_found.specs.Held.{begun, begun_by, HasAll, AreHeld}
+use Rattle.trans_found.proofs.News.{Word}
+use Rattle.trans_found.proofs.FoundLemmas.{takes_none, takes_part, fails_part, value_at, none_at, popped}
+use Rattle.trans_found.proofs.ListingLemmas.{others, split, if_err}
+use Rattle.trans_found.proofs.HeldLemmas.{begun-item, begun-none, passed-known, takes-same, takes-known, fails-same, takes-has, takes-keeps, held-more, on-ok}
 use Rattle.trans_lists.proofs.spread.+take_items.Goals as goal
 use Rattle.trans_lists.proofs.spread.+take_items.Goals.{take_numbers-in-Some+in_ok-push+in_ok-take_items, take_numbers-in_default}
 

@@ -1,7 +1,7 @@
 use Rattle.std.proofs.Common.{◌≡◌, ◌+◌, ◌*◌, length, take}
 use Rattle.cov_base.specs.Sets.{written}
-use Rattle.trans_lists.specs.Found.{Takes, lists_of}
-use Rattle.trans_lists.specs.Held.{begun_by, AreHeld}
+use Rattle.trans_found.specs.Found.{Takes, lists_of}
+use Rattle.trans_found.specs.Held.{begun_by, AreHeld}
 use Rattle.trans_lists.proofs.spread.+take_items.Given as goal
 
 abbrev pub decreases-take_items : goal.decreases-take_items

@@ -1,5 +1,5 @@
 use Rattle.std.proofs.Common.{arith}
-use Rattle.trans_lists.proofs.Ahead.{front_none, front_more}
+use Rattle.trans_found.proofs.Ahead.{front_none, front_more}
 use Rattle.trans_lists.proofs.spread.front_of.Goals as goal
 
 pub loop-size-init : goal.loop-size-init

@@ -1,4 +1,4 @@
-use Rattle.trans_lists.proofs.Ahead.{FrontSo}
+use Rattle.trans_found.proofs.Ahead.{FrontSo}
 use Rattle.trans_lists.proofs.spread.front_of.Given as goal
 
 abbrev pub invariant-loop-size : goal.invariant-loop-size

@@ -1,6 +1,6 @@
 use Rattle.std.proofs.Common.{◌≡◌, [], sym, ◌∙◌, length}
 use Rattle.std.proofs.lemmas.Bool.{eqb-true}
-use Rattle.trans_lists.proofs.Numbers.{left_is, none_left, none_known_left, no_ranges}
+use Rattle.trans_found.proofs.Numbers.{left_is, none_left, none_known_left, no_ranges}
 use Rattle.trans_seq.proofs.Results.{if_ok}
 use Rattle.trans_lists.proofs.spread.unknown_numbers.Goals as goal
 

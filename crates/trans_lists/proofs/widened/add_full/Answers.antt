@@ -1,5 +1,5 @@
 use Rattle.std.proofs.Common.{◌∙◌}
-use Rattle.trans_lists.proofs.FoundLemmas.{popped}
+use Rattle.trans_found.proofs.FoundLemmas.{popped}
 use Rattle.trans_lists.proofs.widened.add_full.Goals as goal
 
 pub returns-clause-first : goal.returns-clause-first

@@ -1,9 +1,9 @@
 use Rattle.std.proofs.Common.{◌≡◌, refl, ap, sym, subst, ◌∙◌, List}
 use Rattle.std.specs.Prelude.{ℤ}
 use Rattle.cov_base.specs.Sets.{written, is_in}
-use Rattle.trans_lists.specs.Held.{begun_by, HasAll, AreHeld}
+use Rattle.trans_found.specs.Held.{begun_by, HasAll, AreHeld}
 use Rattle.trans_seq.proofs.Results.{if_ok}
-use Rattle.trans_lists.proofs.HeldLemmas.{has-none, has-same}
+use Rattle.trans_found.proofs.HeldLemmas.{has-none, has-same}
 use Rattle.trans_lists.proofs.widened.full_numbers.Goals as goal
 
 pub loop-k-init : goal.loop-k-init

@@ -1,7 +1,7 @@
 use Rattle.std.proofs.Common.{◌≡◌, List}
 use Rattle.std.specs.Prelude.{ℤ}
 use Rattle.cov_base.specs.Sets.{written}
-use Rattle.trans_lists.specs.Held.{begun_by, HasAll, AreHeld}
+use Rattle.trans_found.specs.Held.{begun_by, HasAll, AreHeld}
 use Rattle.trans_lists.proofs.widened.full_numbers.Given as goal
 
 abbrev pub invariant-loop-k : goal.invariant-loop-k

@@ -2,8 +2,8 @@ use Rattle.std.proofs.Common.{◌≡◌, ◌∙◌, sym, subst, List}
 use Rattle.std.specs.Prelude.{ℤ}
 use Rattle.cov_base.specs.Sets.{written}
 use Rattle.trans_seq.specs.declared.seq.Item.{Item}
-use Rattle.trans_lists.specs.Held.{begun_by, HasAll, AreHeld}
-use Rattle.trans_lists.proofs.HeldLemmas.{on-ok, held-kept}
+use Rattle.trans_found.specs.Held.{begun_by, HasAll, AreHeld}
+use Rattle.trans_found.proofs.HeldLemmas.{on-ok, held-kept}
 use Rattle.trans_lists.proofs.widened.keep.Goals as goal
 
 -- with the same first numbers

@@ -1,7 +1,7 @@
 use Rattle.std.proofs.Common.{subst, sym}
 use Rattle.cov_base.specs.Sets.{written}
-use Rattle.trans_lists.specs.Held.{begun_by, HasAll}
-use Rattle.trans_lists.proofs.HeldLemmas.{on-ok}
+use Rattle.trans_found.specs.Held.{begun_by, HasAll}
+use Rattle.trans_found.proofs.HeldLemmas.{on-ok}
 use Rattle.trans_lists.proofs.widened.keep_wider.Goals as goal
 
 pub returns-then-many-most : goal.returns-then-many-most

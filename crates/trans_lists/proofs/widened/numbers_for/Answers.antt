@@ -1,9 +1,9 @@
 use Rattle.std.proofs.Common.{◌≡◌, refl, List}
 use Rattle.std.specs.Prelude.{ℤ}
 use Rattle.cov_base.specs.Sets.{written}
-use Rattle.trans_lists.specs.Held.{begun_by, HasAll}
+use Rattle.trans_found.specs.Held.{begun_by, HasAll}
 use Rattle.trans_seq.proofs.Results.{if_ok}
-use Rattle.trans_lists.proofs.HeldLemmas.{held-at, has-none}
+use Rattle.trans_found.proofs.HeldLemmas.{held-at, has-none}
 use Rattle.trans_lists.proofs.widened.numbers_for.Goals as goal
 
 pub returns-then-branch : goal.returns-then-branch

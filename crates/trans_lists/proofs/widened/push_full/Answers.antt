@@ -1,7 +1,7 @@
 use Rattle.std.proofs.Common.{◌∷◌, [], ◌++◌, subst, sym}
 use Rattle.cov_base.specs.Sets.{written}
-use Rattle.trans_lists.specs.Held.{begun, begun_by, HasAll}
-use Rattle.trans_lists.proofs.HeldLemmas.{has-one}
+use Rattle.trans_found.specs.Held.{begun, begun_by, HasAll}
+use Rattle.trans_found.proofs.HeldLemmas.{has-one}
 use Rattle.trans_lists.proofs.widened.push_full.Goals as goal
 
 pub returns-clause-full : goal.returns-clause-full

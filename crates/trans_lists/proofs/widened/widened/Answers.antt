@@ -1,7 +1,7 @@
 use Rattle.std.proofs.Common.{sym, subst}
 use Rattle.cov_base.specs.Sets.{written}
-use Rattle.trans_lists.specs.Held.{begun_by, HasAll}
-use Rattle.trans_lists.proofs.HeldLemmas.{has-both}
+use Rattle.trans_found.specs.Held.{begun_by, HasAll}
+use Rattle.trans_found.proofs.HeldLemmas.{has-both}
 use Rattle.trans_lists.proofs.widened.widened.Goals as goal
 
 pub returns-clause-sure : goal.returns-clause-sure
