@@ -3,11 +3,12 @@ use Rattle.std.proofs.Common.{◌≡◌, ℕ, zero, suc, ◌+◌, ◌≤◌, ◌
 use Rattle.std.specs.Prelude.{slice_index_or}
 use Rattle.design_data.specs.declared.design.Design.{Design}
 use Rattle.covd_core.specs.declared.batches.Counted.{Counted}
-use Rattle.covd_core.specs.declared.finding.Source.{Source}
-use Rattle.covd_core.specs.declared.finding.Source.TheVariants as source
-use Rattle.covd_core.specs.declared.stop.Stop.{Stop}
-use Rattle.covd_core.specs.Command.{Files, Origin, File, Made}
-use Rattle.covd_core.specs.Origins.{IsRead, IsShort}
+use Rattle.covd_commands.specs.declared.finding.Source.{Source}
+use Rattle.covd_commands.specs.declared.finding.Source.TheVariants as source
+use Rattle.covd_commands.specs.declared.stop.Stop.{Stop}
+use Rattle.covd_commands.specs.FromFiles.{Files}
+use Rattle.covd_commands.specs.Finding.{Origin, File, Made}
+use Rattle.covd_commands.specs.Origins.{IsRead, IsShort}
 use Rattle.covd_core.specs.Batches.{IsCounted, IsCountedIn, IsCountedAt, AreShort, AreRead, AreFound}
 
 module _ (files : Files) where

@@ -3,11 +3,11 @@ use Rattle.std.specs.Prelude.{◌≡◌, ℕ, ◌+◌, ◌^◌, ◌≤◌, List,
 use Rattle.design_data.specs.declared.design.Design.{Design}
 use Rattle.sampler.specs.Plans.{IsTallyOf}
 use Rattle.covd_core.specs.declared.batches.Counted.{Counted}
-use Rattle.covd_core.specs.declared.finding.Source.{Source}
-use Rattle.covd_core.specs.declared.stop.Stop.{Stop}
-use Rattle.covd_core.specs.Command.{Files, Origin, Finds}
-use Rattle.covd_core.specs.Filling.{IsFound}
-use Rattle.covd_core.specs.Origins.{IsRead, IsShort}
+use Rattle.covd_commands.specs.declared.finding.Source.{Source}
+use Rattle.covd_commands.specs.declared.stop.Stop.{Stop}
+use Rattle.covd_commands.specs.FromFiles.{Files}
+use Rattle.covd_commands.specs.Finding.{Origin, Finds, IsFound}
+use Rattle.covd_commands.specs.Origins.{IsRead, IsShort}
 
 -- the k-th record with its tally, or why none comes from there
 abbrev pub IsCounted : Files → ℕ → ℕ → Design → (k : ℕ) → Origin → Result Counted Stop → Type 0

@@ -2,15 +2,14 @@
 ghost use Rattle.std.specs.Prelude.{◌≡◌, ℕ, List, ◌+◌, ◌^◌, ◌<◌, ◌≤◌, ◌∷◌, ◌++◌, [], length, slice_index_or, IfOk, IfErr, OnOk};
 ghost use Rattle.std.specs.Arc.{arc_value};
 ghost use Rattle.sampler.specs.Plans.{IsDesignPlan};
-ghost use Rattle.covd_core.specs.Command.{Origin as AnyOrigin};
-ghost use Rattle.covd_core.specs.Filling.{NoneComes};
-ghost use Rattle.covd_core.specs.Origins.{origin_of, origins_of, IsShort};
+ghost use Rattle.covd_commands.specs.Finding.{Origin as AnyOrigin, NoneComes};
+ghost use Rattle.covd_commands.specs.Origins.{origin_of, origins_of, IsShort};
 ghost use Rattle.covd_core.specs.Batches.{IsCounted, IsCountedIn, IsCountedAt, AreReady, AreRead, AreFound};
 
-use crate::finding::{Source, read, record_of};
-use crate::origins::{Origin, Origins};
-use crate::stop::Stop;
 use cov_base::{Memory, Shelf};
+use covd_commands::finding::{Source, read, record_of};
+use covd_commands::origins::{Origin, Origins};
+use covd_commands::stop::Stop;
 use design_data::Design;
 use sampler::{EncodedRecord, Plan, bin_record_under};
 use std::alloc::Global;

@@ -1,7 +1,8 @@
 use Rattle.std.proofs.Common.{◌≡◌, List, ◌∷◌, ◌++◌, [], refl, sym, ap, subst, ◌∙◌}
-use Rattle.covd_core.specs.declared.finding.Source.{Source}
-use Rattle.covd_core.specs.Command.{Files, Origin}
-use Rattle.covd_core.specs.Origins.{origin_of, origins_of}
+use Rattle.covd_commands.specs.declared.finding.Source.{Source}
+use Rattle.covd_commands.specs.FromFiles.{Files}
+use Rattle.covd_commands.specs.Finding.{Origin}
+use Rattle.covd_commands.specs.Origins.{origin_of, origins_of}
 use Rattle.covd_core.specs.Batches.{AreRead}
 use Rattle.covd_core.proofs.batches.read_batch.Goals as goal
 

@@ -1,8 +1,9 @@
 use Rattle.std.proofs.Common.{List, ◌∷◌, [], length, sym, ap, subst, ◌∙◌, arith}
 use Rattle.std.proofs.lemmas.List.{length-append}
-use Rattle.covd_core.specs.declared.finding.Source.{Source}
-use Rattle.covd_core.specs.Command.{Files, Origin}
-use Rattle.covd_core.specs.Origins.{origin_of, origins_of, IsRead}
+use Rattle.covd_commands.specs.declared.finding.Source.{Source}
+use Rattle.covd_commands.specs.FromFiles.{Files}
+use Rattle.covd_commands.specs.Finding.{Origin}
+use Rattle.covd_commands.specs.Origins.{origin_of, origins_of, IsRead}
 use Rattle.covd_core.specs.Batches.{AreRead}
 use Rattle.covd_core.proofs.Ahead.{read_on}
 use Rattle.covd_core.proofs.batches.read_more.Goals as goal

@@ -1,6 +1,6 @@
 use Rattle.std.proofs.Common.{◌≡◌, ◌≤◌, List, length}
-use Rattle.covd_core.specs.Command.{Origin}
-use Rattle.covd_core.specs.Origins.{origins_of}
+use Rattle.covd_commands.specs.Finding.{Origin}
+use Rattle.covd_commands.specs.Origins.{origins_of}
 use Rattle.covd_core.specs.Batches.{AreRead}
 use Rattle.covd_core.proofs.batches.read_more.Given as goal
 
