@@ -8,6 +8,7 @@ pub mod NoForm
 pub mod OneEach
 pub mod Parsing
 pub mod Printed
+pub mod ReadOn
 pub mod Records
 pub mod Refusals
 pub mod Standing

@@ -4,6 +4,7 @@
 //! and where the records of a store come from.
 #![tactic(auto)]
 
+pub mod ahead;
 pub mod answer;
 pub mod check;
 pub mod count;

@@ -8,8 +8,9 @@ ghost use Rattle.covd_commands.specs.Origins.{origin_of, origins_of};
 ghost use Rattle.covd_core.specs.Batches.{AreFound};
 
 use crate::admitting::{admit_counted, admit_record};
-use crate::batches::{Counted, MOST_RECORDS, next_counted};
+use crate::batches::{Counted, next_counted};
 use cov_base::Shelf;
+use covd_commands::ahead::MOST_RECORDS;
 use covd_commands::finding::{read, record_of};
 use covd_commands::origins::{Origin, Origins};
 use covd_commands::stop::Stop;

@@ -1,8 +1,8 @@
 use Rattle.std.proofs.Common.{◌≡◌, ◌≤◌, List, length}
 use Rattle.covd_commands.specs.Finding.{Origin}
 use Rattle.covd_commands.specs.Origins.{origins_of}
-use Rattle.covd_core.specs.Batches.{AreRead}
-use Rattle.covd_core.proofs.batches.read_more.Given as goal
+use Rattle.covd_commands.specs.Ahead.{AreRead}
+use Rattle.covd_commands.proofs.ahead.read_more.Given as goal
 
 abbrev pub invariant-loop-origin : goal.invariant-loop-origin
 invariant-loop-origin g l = record {

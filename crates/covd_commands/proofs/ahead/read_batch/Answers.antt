@@ -3,8 +3,8 @@ use Rattle.covd_commands.specs.declared.finding.Source.{Source}
 use Rattle.covd_commands.specs.FromFiles.{Files}
 use Rattle.covd_commands.specs.Finding.{Origin}
 use Rattle.covd_commands.specs.Origins.{origin_of, origins_of}
-use Rattle.covd_core.specs.Batches.{AreRead}
-use Rattle.covd_core.proofs.batches.read_batch.Goals as goal
+use Rattle.covd_commands.specs.Ahead.{AreRead}
+use Rattle.covd_commands.proofs.ahead.read_batch.Goals as goal
 
 pub returns-clause-read : goal.returns-clause-read
 returns-clause-read g c =

@@ -4,9 +4,9 @@ use Rattle.covd_commands.specs.declared.finding.Source.{Source}
 use Rattle.covd_commands.specs.FromFiles.{Files}
 use Rattle.covd_commands.specs.Finding.{Origin}
 use Rattle.covd_commands.specs.Origins.{origin_of, origins_of, IsRead}
-use Rattle.covd_core.specs.Batches.{AreRead}
-use Rattle.covd_core.proofs.Ahead.{read_on}
-use Rattle.covd_core.proofs.batches.read_more.Goals as goal
+use Rattle.covd_commands.specs.Ahead.{AreRead}
+use Rattle.covd_commands.proofs.ReadOn.{read_on}
+use Rattle.covd_commands.proofs.ahead.read_more.Goals as goal
 
 pub loop-origin-preserved : goal.loop-origin-preserved
 loop-origin-preserved g c =
