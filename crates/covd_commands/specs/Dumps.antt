@@ -13,7 +13,7 @@ use Rattle.record_codec.specs.declared.record.Fields.{Fields}
 use Rattle.vcd_reader.specs.declared.fault.DumpFault.{DumpFault}
 use Rattle.vcd_reader.specs.Reading.{reading, longest_dump}
 use Rattle.vcd_reader.specs.Records.{recorded}
-use Rattle.vcd_reader.specs.Refusals.{Fails}
+use Rattle.vcd_reader.specs.Refusals.{◌>>=◌, Fails}
 
 -- ---- the id of a test
 
