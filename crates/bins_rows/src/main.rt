@@ -1,8 +1,8 @@
 //! Street: worked rows.
 //!
-//! Worked rows of `name_map`, `auto_bins`, `value_bins`, `wildcard_bins`, `cross_select` and `trans_seq`: each line of standard input
-//! is a call with its arguments, and is written again with its answer behind ` =`. The file `stdout` has the answers, worked out by
-//! hand after IEEE 1800-2017, clause 19.
+//! Worked rows of `name_map`, `auto_bins`, `value_bins`, `wildcard_bins`, `cross_select`, `trans_seq` and `trans_lists`: each
+//! line of standard input is a call with its arguments, and is written again with its answer behind ` =`. The file `stdout`
+//! has the answers, worked out by hand after IEEE 1800-2017, clause 19.
 #![tactic(auto)]
 
 mod names;

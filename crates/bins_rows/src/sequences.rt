@@ -4,7 +4,8 @@ use cov_base::{Int, ValueSet};
 use cov_tree::List;
 use std::alloc::Global;
 use std::io::Print;
-use trans_seq::{Item, Repeat, Seq, expand, expand_all};
+use trans_lists::{expand, expand_all};
+use trans_seq::{Item, Repeat, Seq};
 
 /// The repetition behind a sign.
 fn repeat_of(sign: char, ends: &str) -> Repeat {

@@ -1,76 +1,33 @@
 -- Where a reader of covergroups stands, from one part of a rule to the next.
-use Rattle.std.proofs.Common.{◌≡◌, ℕ, suc, ◌+◌, List, [], ◌∷◌, ◌++◌, codes, slice_get, length, ◌-◌, Option, Some, None, Bool, true, false, not, ◌&&◌, ◌||◌, ◌⊎◌, eqb, append-nil, Result, Ok, Err, inl, inr, refl, sym, ◌∙◌, ap, subst, arith}
+use Rattle.std.proofs.Common.{◌≡◌, ℕ, suc, ◌+◌, List, [], ◌∷◌, ◌++◌, codes, slice_get, length, ◌-◌, Option, Some, None, Bool, true, false, not, ◌&&◌, eqb, inl, inr, refl, sym, ◌∙◌, ap, subst, arith}
 use Rattle.cov_tree.specs.declared.expr.Expr.{Expr}
 use Rattle.cov_tree.specs.declared.groups.Member.{Member}
 use Rattle.cov_tree.specs.declared.groups.Formal.{Formal}
 use Rattle.cov_tree.specs.declared.groups.EdgeText.{EdgeText}
 use Rattle.cov_tree.specs.declared.declarations.TypeText.{TypeText}
 use Rattle.cov_lexer.specs.declared.kind.Kind.{Kind}
-use Rattle.cov_lexer.specs.declared.kind.Kind.TheVariants.{Ident, CovergroupWord, EndgroupWord, CoverpointWord, CrossWord, WithWord, OtherWord, InputWord, OrWord, OpenParen, CloseParen, Comma, Semi, Colon, AtSign, Assign}
+use Rattle.cov_lexer.specs.declared.kind.Kind.TheVariants.{Ident, CovergroupWord, EndgroupWord, WithWord, OtherWord, InputWord, OpenParen, CloseParen, Semi, Colon, AtSign, Assign}
 use Rattle.cov_grammar.specs.declared.marked.Marked.{Marked}
 use Rattle.cov_grammar.specs.declared.place.Place.{Place}
 use Rattle.cov_grammar.specs.declared.place.Room.{Room}
 use Rattle.cov_grammar.specs.declared.place.Stop.{Stop}
 use Rattle.cov_grammar.specs.declared.place.Stop.TheVariants.{Memory, Syntax, TooDeep}
-use Rattle.cov_lexer.specs.Kinds.{code, has, has_code}
-use Rattle.cov_grammar.specs.Rule.{Rule, In, one, word, same_word, here, offset, both, bind, either, give, map_to, fold, ahead, behind, maybe}
-use Rattle.cov_grammar.specs.Parses.{Reads, Stops, Fails, Parses}
-use Rattle.std.specs.Prelude.{IfOk, IfErr}
-use Rattle.std.specs.Result.{IsErrAnd}
+use Rattle.cov_grammar.specs.Rule.{Rule, In, one, word, same_word, offset, both, either, map_to, ahead, behind, maybe}
+use Rattle.cov_grammar.specs.Parses.{Reads, Stops, Fails}
 use lib.Pointwise.{pointwise}
 use Rattle.std.proofs.lemmas.Bool.{eqb-true}
 use Rattle.std.proofs.lemmas.Grind.{common_steps}
-use Rattle.std.proofs.lemmas.Result.{err_from_is_err_and}
-use Rattle.cov_grammar.specs.Expressions.{pair, snoc, expr}
-use Rattle.cov_grammar.specs.Bins.{ident, optset}
-use Rattle.cov_grammar.specs.Groups.{point, cross, label, item, member}
-use Rattle.cov_grammar.specs.Designs.{list_or, Written, written, with_formal, last_is_ref, is_ref_or, argument_of, by_event, by_function, sampling_or, group_of, type_text, formal, formal_list, formals, edge, event, argument, argument_list, argument_parens, sampled, sampling, members, group_end, group}
+use Rattle.cov_grammar.specs.Expressions.{pair, expr}
+use Rattle.cov_grammar.specs.Bins.{ident}
+use Rattle.cov_grammar.specs.Designs.{list_or, Written, written, with_formal, last_is_ref, is_ref_or, argument_of, by_event, by_function, sampling_or, group_of, type_text, formal, formal_list, formals, event, argument, argument_list, argument_parens, sampled, sampling, members, group_end, group}
 use Rattle.cov_grammar.proofs.Sets.{disjoint, and_true, split, In_apart}
-use Rattle.cov_grammar.proofs.Lawful.{Lawful, Lawfuls, facts_of, lawful_word, lawful_one, lawful_here, lawful_same_word, lawful_map, lawful_maybe, lawful_both, lawful_fold}
-use Rattle.cov_grammar.proofs.Compose.{Past, map_reads, both_reads, both_fails, both_then_fails, maybe_none, maybe_some, maybe_fails}
-use Rattle.cov_grammar.proofs.Steps.{Leads, leads_self, here_reads, one_fails, one_next, both_opens, step, ends, bind_step, bind_ends, left, right, map_leads, without, maybe_step, many_breaks}
+use Rattle.cov_grammar.proofs.Lawful.{Lawful, Lawfuls, facts_of, lawful_word, lawful_one, lawful_here, lawful_same_word, lawful_map, lawful_maybe, lawful_both}
+use Rattle.cov_grammar.proofs.Compose.{map_reads, both_reads, both_fails, both_then_fails, maybe_none, maybe_some, maybe_fails}
+use Rattle.cov_grammar.proofs.Steps.{Leads, leads_self, here_reads, one_fails, one_next, step, ends, bind_step, bind_ends, left, right, map_leads, without, maybe_step}
 use Rattle.cov_grammar.proofs.BinsLaws.{ident_lawful}
-use Rattle.cov_grammar.proofs.GroupLaws.{option_words, item_firsts, label_lawful, member_lawful}
-use Rattle.cov_grammar.proofs.DesignLaws.{append, directions, type_text_lawful, value_lawful, formal_rest_lawful, formal_list_lawful, formal_parens_lawful, formals_lawful, edge_lawful, event_lawful, argument_type_lawful, argument_rest_lawful, argument_list_lawful, argument_parens_lawful, sample_lawful, function_lawful, sampled_lawful, event_or_sampled_lawful, sampling_lawful, members_lawful, group_end_lawful, group_head_lawful, group_body_lawful, group_rest_lawful}
-use Rattle.cov_parser.proofs.DesignWalks.{Members}
-
--- a list of kinds without its first
-or_rest : (a b : Bool) → (a || b) ≡ true → ((a || false) ≡ true → ⊥) → b ≡ true
-or_rest true b h n = absurd (n refl)
-or_rest false b h n = h
-
-pub other_kind : (ts : List Marked) (i : ℕ) (k : Kind) (ks : List Kind) → In ts i (k ∷ ks) → (In ts i (k ∷ []) → ⊥) → In ts i ks
-other_kind ts i k ks h n = record {
-  token = h.token;
-  stands = h.stands;
-  of = or_rest (eqb (code h.token.kind) (code k)) (has h.token.kind ks) h.of (λ e. n (record { token = h.token; stands = h.stands; of = e }));
-}
-
-or_cases : (a b : Bool) → (a || b) ≡ true → (a ≡ true) ⊎ (b ≡ true)
-or_cases true b h = inl refl
-or_cases false b h = inr h
-
-or_more : (a b : Bool) → a ≡ true → (a || b) ≡ true
-or_more true b h = refl
-or_more false b h = cc
-
-or_other : (a b : Bool) → b ≡ true → (a || b) ≡ true
-or_other true b h = refl
-or_other false b h = h
-
-has_split : (n : ℕ) (xs ys : List Kind) → has_code n (xs ++ ys) ≡ true → (has_code n xs ≡ true) ⊎ (has_code n ys ≡ true)
-has_split n [] ys h = inr h
-has_split n (x ∷ xs) ys h = elim (or_cases (eqb n (code x)) (has_code n (xs ++ ys)) h) [
-  | inl e ↦ inl (or_more (eqb n (code x)) _ e)
-  | inr e ↦ elim (has_split n xs ys e) [ inl l ↦ inl (or_other (eqb n (code x)) _ l) | inr r ↦ inr r ]
-]
-
--- a token of these kinds or those
-In_split : (ts : List Marked) (i : ℕ) (xs ys : List Kind) → In ts i (xs ++ ys) → In ts i xs ⊎ In ts i ys
-In_split ts i xs ys h = elim (has_split (code h.token.kind) xs ys h.of) [
-  | inl e ↦ inl (record { token = h.token; stands = h.stands; of = e })
-  | inr e ↦ inr (record { token = h.token; stands = h.stands; of = e })
-]
+use Rattle.cov_grammar.proofs.DesignLaws.{directions, type_text_lawful, value_lawful, formal_rest_lawful, formal_list_lawful, formal_parens_lawful, formals_lawful, event_lawful, argument_type_lawful, argument_rest_lawful, argument_list_lawful, argument_parens_lawful, sample_lawful, function_lawful, sampled_lawful, event_or_sampled_lawful, sampling_lawful, members_lawful, group_end_lawful, group_head_lawful, group_body_lawful, group_rest_lawful}
+use Rattle.item_parser.proofs.DeclWalks.{maybe_stuck}
+use Rattle.item_parser.proofs.MemberWalks.{In_split, edge_parens, in_parens_lawful}
 
 -- pieces of a text that are compared byte by byte
 and_parts : (a b : Bool) → (a && b) ≡ true → (a ≡ true) × (b ≡ true)
@@ -104,37 +61,6 @@ pieces_differ b xs ys h e same =
     let n : not (pointwise eqb xs ys) ≡ true = sym h ∙ e in
     let m : not true ≡ true = subst (λ z. not z ≡ true) all n in
     cc
-
--- the token that was read, as one of this kind
-pub word_of : (ts : List Marked) (ks : List Kind) (k : Kind) {d : Room} {p : Place} {t : Marked} {q : Place} → In ts p.at (k ∷ []) → Reads (λ _. one ts ks) d p t q → Reads (λ _. word ts k) d p t q
-unfolding one
-word_of ts ks k {t = t} h r =
-    let same : Some h.token ≡ Some t = sym h.stands ∙ r.derives.0 in
-    let eq : h.token ≡ t = cc in
-    let of : has t.kind (k ∷ []) ≡ true = subst (λ (u : Marked). has u.kind (k ∷ []) ≡ true) eq h.of in record {
-      derives = (r.derives.0, of, r.derives.2);
-      reach = λ e n x. let at = ap (λ (z : Place). z.at) r.derives.2 in elim x [ inl y ↦ omega (arith, y, at) | inr y ↦ omega (arith, y.3, at) ];
-    }
-
--- the exit of a `?`, for an answer's fault
-pub fault_of : {A T : Type 0} {F : Room → Rule T} {d : Room} {p : Place} {s : Stop} (r : Result A Stop) → IsErrAnd r (λ e. e ≡ s) → Fails F d p s → IfErr r (Fails F d p)
-fault_of r h f =
-    let x = err_from_is_err_and r h in
-    rw (x.1, x.2) f
-
--- where not even the first token of A stands
-pub maybe_stuck : {T : Type 0} {ts : List Marked} {A : Room → Rule T} (la : Lawful ts A) {d : Room} {p : Place} → Stops A d p p.at → Reads (λ e. maybe (A e)) d p None p
-unfolding maybe either give map_to bind
-maybe_stuck la {p = p} c = record {
-  derives = inl (refl, refl);
-  reach = λ e n h. elim h [
-    | inl g ↦ omega (arith, g)
-    | inr g ↦ elim g [
-      | inl b ↦ c.reach e n b
-      | inr x ↦ (let l = c.reach e x.1.at ((facts_of la e).whole p x.0 x.1 x.2) in let same = x.3 in omega arith)
-    ]
-  ];
-}
 
 -- A or nothing before a closing token that doesn't stand there
 pub unclosed : {T : Type 0} {ts : List Marked} {A : Room → Rule T} (la : Lawful ts A) (filled : la.null ≡ false) (k : Kind) (apart : disjoint (la.cont ++ la.first) (k ∷ []) ≡ true) {d : Room} {p : Place} (e : Stop) →
@@ -272,44 +198,6 @@ module _ (text : List ℕ) (ts : List Marked) where
   pub list_closes : {d : Room} {p : Place} {fs : List Formal} {q : Place} → Reads (formal_list text ts) d p fs q → Leads (λ _. word ts CloseParen) d q parens d p (λ _. Some fs)
   list_closes {d = d} {p = p} r = step _ maybe_list_lawful (w CloseParen) refl (leads_self parens d p) (maybe_some (formal_list_lawful text ts) refl r)
 
-  -- edge { ( "or" | "," ) edge }
-  abbrev pub between : List Kind
-  between = OrWord ∷ Comma ∷ []
-
-  abbrev pub single : EdgeText → List EdgeText
-  single x = x ∷ []
-
-  abbrev pub edge_list : Room → Rule (List EdgeText)
-  edge_list e = fold snoc (map_to single (edge text ts e)) (ahead (one ts between) (edge text ts e))
-
-  abbrev more_edge_lawful : Lawful ts (λ e. ahead (one ts between) (edge text ts e))
-  more_edge_lawful = lawful_both _ (lawful_one ts between) (edge_lawful text ts) refl
-
-  abbrev edge_list_lawful : Lawful ts edge_list
-  edge_list_lawful = lawful_fold snoc (lawful_map (edge_lawful text ts) single) more_edge_lawful refl refl refl
-
-  -- "(" edge { ( "or" | "," ) edge } ")"
-  abbrev closed_lawful : Lawful ts (λ e. behind (edge_list e) (word ts CloseParen))
-  closed_lawful = lawful_both _ edge_list_lawful (w CloseParen) refl
-
-  abbrev pub edge_parens : Room → Rule (List EdgeText)
-  edge_parens e = ahead (word ts OpenParen) (behind (edge_list e) (word ts CloseParen))
-
-  abbrev in_parens_lawful : Lawful ts edge_parens
-  in_parens_lawful = lawful_both _ (w OpenParen) closed_lawful refl
-
-  pub event_unopened : {d : Room} {p : Place} {e : Stop} → Fails (λ _. word ts OpenParen) d p e → Fails edge_parens d p e
-  event_unopened f = both_fails _ (w OpenParen) closed_lawful refl f
-
-  event_edges : {d : Room} {p : Place} {u : Marked} {m : Place} → Reads (λ _. word ts OpenParen) d p u m → Leads (λ e. behind (edge_list e) (word ts CloseParen)) d m edge_parens d p (λ x. x)
-  event_edges {d = d} {p = p} s = step _ (w OpenParen) closed_lawful refl (leads_self edge_parens d p) s
-
-  pub event_stops : {d : Room} {p : Place} {u : Marked} {m : Place} {e : Stop} → Reads (λ _. word ts OpenParen) d p u m → Fails edge_list d m e → Fails edge_parens d p e
-  event_stops s f = ends _ edge_list_lawful (w CloseParen) refl (event_edges s) f
-
-  pub event_closes : {d : Room} {p : Place} {u : Marked} {m : Place} {es : List EdgeText} {k : Place} → Reads (λ _. word ts OpenParen) d p u m → Reads edge_list d m es k → Leads (λ _. word ts CloseParen) d k edge_parens d p (λ _. es)
-  event_closes s x = step _ edge_list_lawful (w CloseParen) refl (event_edges s) x
-
   -- sarg
   abbrev input : Rule (Option Marked)
   input = maybe (word ts InputWord)
@@ -408,92 +296,19 @@ module _ (text : List ℕ) (ts : List Marked) where
   by_functions {d = d} {p = p} h = map_leads by_function (sampled_lawful text ts) (right (lawful_map (event_lawful text ts) by_event) (lawful_map (sampled_lawful text ts) by_function) refl refl
       (leads_self (λ e. either (map_to by_event (event text ts e)) (map_to by_function (sampled text ts e))) d p) refl (λ v. In_apart ts p.at (AtSign ∷ []) (WithWord ∷ []) refl v h))
 
-  at_sign : {d : Room} {p : Place} {t : Marked} {q : Place} → In ts p.at (AtSign ∷ []) → Reads (λ _. word ts AtSign) d p t q → Leads edge_parens d q (λ e. either (map_to by_event (event text ts e)) (map_to by_function (sampled text ts e))) d p by_event
+  at_sign : {d : Room} {p : Place} {t : Marked} {q : Place} → In ts p.at (AtSign ∷ []) → Reads (λ _. word ts AtSign) d p t q → Leads (edge_parens text ts) d q (λ e. either (map_to by_event (event text ts e)) (map_to by_function (sampled text ts e))) d p by_event
   unfolding event
-  at_sign h r = step _ (w AtSign) in_parens_lawful refl (by_events h) r
+  at_sign h r = step _ (w AtSign) (in_parens_lawful text ts) refl (by_events h) r
 
   with_word : {d : Room} {p : Place} {t : Marked} {q : Place} → In ts p.at (WithWord ∷ []) → Reads (λ _. word ts WithWord) d p t q → Leads sample_function d q (λ e. either (map_to by_event (event text ts e)) (map_to by_function (sampled text ts e))) d p by_function
   unfolding sampled
   with_word h r = step _ (w WithWord) (function_lawful text ts) refl (by_functions h) r
 
-  pub sampled_by_event : {d : Room} {p : Place} {t : Marked} {q : Place} → In ts p.at (AtSign ∷ []) → Reads (λ _. word ts AtSign) d p t q → Leads edge_parens d q (sampling text ts) d p (λ es. (es, []))
-  sampled_by_event h r = maybe_step (event_or_sampled_lawful text ts) refl in_parens_lawful samplings (at_sign h r) (let n = (one_next ts (AtSign ∷ []) r).0 in omega arith)
+  pub sampled_by_event : {d : Room} {p : Place} {t : Marked} {q : Place} → In ts p.at (AtSign ∷ []) → Reads (λ _. word ts AtSign) d p t q → Leads (edge_parens text ts) d q (sampling text ts) d p (λ es. (es, []))
+  sampled_by_event h r = maybe_step (event_or_sampled_lawful text ts) refl (in_parens_lawful text ts) samplings (at_sign h r) (let n = (one_next ts (AtSign ∷ []) r).0 in omega arith)
 
   pub sampled_by_function : {d : Room} {p : Place} {t : Marked} {q : Place} → In ts p.at (WithWord ∷ []) → Reads (λ _. word ts WithWord) d p t q → Leads sample_function d q (sampling text ts) d p (λ args. ([], args))
   sampled_by_function h r = maybe_step (event_or_sampled_lawful text ts) refl (function_lawful text ts) samplings (with_word h r) (let n = (one_next ts (WithWord ∷ []) r).0 in omega arith)
-
-  -- a member whose first token stands there fails behind it
-  ident_begins : (p : Place) → In ts p.at (Ident ∷ []) → (ident text ts).begins p (p.at + 1)
-  unfolding ident map_to bind one
-  ident_begins p h = inl (inr (h.token, h.stands, h.of, refl))
-
-  label_begins : (p : Place) → In ts p.at (Ident ∷ []) → (maybe (label text ts)).begins p (p.at + 1)
-  unfolding maybe either label both map_to bind
-  label_begins p h = inr (inl (inl (ident_begins p h)))
-
-  optset_begins : (p : Place) (d : Room) → In ts p.at option_words → (optset text ts d).begins p (p.at + 1)
-  unfolding optset
-  optset_begins p d h = both_opens _ ts option_words _ p h
-
-  point_begins : (p : Place) (start : ℕ) (l : Option (List ℕ)) (d : Room) → In ts p.at (CoverpointWord ∷ []) → (point text ts start l d).begins p (p.at + 1)
-  unfolding point both bind one
-  point_begins p start l d h = inl (inl (inr (h.token, h.stands, h.of, refl)))
-
-  cross_begins : (p : Place) (start : ℕ) (l : Option (List ℕ)) (d : Room) → In ts p.at (CrossWord ∷ []) → (cross text ts start l d).begins p (p.at + 1)
-  unfolding cross both bind one
-  cross_begins p start l d h = inl (inl (inr (h.token, h.stands, h.of, refl)))
-
-  item_behind : (p : Place) (d : Room) → (In ts p.at (Ident ∷ []) → ⊥) → (n : ℕ) → (either (point text ts (offset ts p.at) None d) (cross text ts (offset ts p.at) None d)).begins p n → (item text ts d).begins p n
-  unfolding item bind
-  item_behind p d n m b = inr ((offset ts p.at, None), p, (both_reads pair (lawful_here ts) (lawful_maybe (label_lawful text ts) refl) refl (here_reads ts d p) (maybe_none (label_lawful text ts) refl {d = d} {p = p} n)).derives, b)
-
-  item_named : (p : Place) (d : Room) → In ts p.at (Ident ∷ []) → (item text ts d).begins p (p.at + 1)
-  unfolding item both map_to bind here
-  item_named p d h = inl (inr (offset ts p.at, p, (refl, refl), inl (label_begins p h)))
-
-  item_tests : (p : Place) (d : Room) → In ts p.at (CoverpointWord ∷ []) → (item text ts d).begins p (p.at + 1)
-  unfolding either
-  item_tests p d h = item_behind p d (λ v. In_apart ts p.at (Ident ∷ []) (CoverpointWord ∷ []) refl v h) _ (inl (point_begins p (offset ts p.at) None d h))
-
-  item_crosses : (p : Place) (d : Room) → In ts p.at (CrossWord ∷ []) → (item text ts d).begins p (p.at + 1)
-  unfolding either
-  item_crosses p d h = item_behind p d (λ v. In_apart ts p.at (Ident ∷ []) (CrossWord ∷ []) refl v h) _ (inr (cross_begins p (offset ts p.at) None d h))
-
-  item_begins : (p : Place) (d : Room) → In ts p.at item_firsts → (item text ts d).begins p (p.at + 1)
-  item_begins p d h = elim (In_split ts p.at (Ident ∷ []) (CoverpointWord ∷ CrossWord ∷ []) h) [
-    | inl i ↦ item_named p d i
-    | inr o ↦ elim (In_split ts p.at (CoverpointWord ∷ []) (CrossWord ∷ []) o) [ inl i ↦ item_tests p d i | inr i ↦ item_crosses p d i ]
-  ]
-
-  member_begins : (p : Place) (d : Room) → In ts p.at (option_words ++ item_firsts) → (member text ts d).begins p (p.at + 1)
-  unfolding member either map_to bind
-  member_begins p d h = elim (In_split ts p.at option_words item_firsts h) [
-    | inl o ↦ inl (inl (optset_begins p d o))
-    | inr i ↦ inr (inl (inl (item_begins p d i)))
-  ]
-
-  pub member_past : {d : Room} {p : Place} (e : Stop) → In ts p.at (option_words ++ item_firsts) → Fails (member text ts) d p e → Past p e
-  member_past Memory h f = tt
-  member_past {d = d} {p = p} (Syntax k) h f = let l = f.cause.reach d (p.at + 1) (member_begins p d h) in omega arith
-  member_past (TooDeep k) h f = tt
-
-  pub member_breaks : {d : Room} {o : Place} (ms : List Member) {p : Place} (e : Stop) → Members text ts d o ms p → In ts p.at (option_words ++ item_firsts) → Fails (member text ts) d p e → Fails (members text ts) d o e
-  member_breaks ms e l h f = many_breaks append (member_lawful text ts) refl refl ms l (member_past e h f) f
-
-  pub nothing_more : {d : Room} {o : Place} (ms : List Member) {p : Place} → Members text ts d o (ms ++ []) p → Members text ts d o ms p
-  nothing_more {d = d} {o = o} ms {p = p} l = subst (λ ms. Members text ts d o ms p) (append-nil ms) l
-
-  pub items_left : (p : Place) → In ts p.at (option_words ++ item_firsts) → (In ts p.at option_words → ⊥) → In ts p.at item_firsts
-  items_left p h n = elim (In_split ts p.at option_words item_firsts h) [ inl o ↦ absurd (n o) | inr i ↦ i ]
-
-  -- what a reader of an item and of an option answered
-  pub item_read_as : {d : Room} {p : Place} (r : Result (Member × Place) Stop) → Leads (item text ts) d p (member text ts) d p (λ m. m ∷ []) → Parses (item text ts) d p r → IfOk r (λ x. Reads (member text ts) d p (x.0 ∷ []) x.1)
-  item_read_as (Ok x) l h = l.reads h
-  item_read_as (Err e) l h = tt
-
-  pub item_fails_as : {d : Room} {p : Place} (r : Result (Member × Place) Stop) → Leads (item text ts) d p (member text ts) d p (λ m. m ∷ []) → Parses (item text ts) d p r → IfErr r (Fails (member text ts) d p)
-  item_fails_as (Ok x) l h = tt
-  item_fails_as (Err e) l h = l.fails h
 
   -- group
   abbrev pub signed_head : Room → Rule (List Formal × (List EdgeText × List Formal))

@@ -9,15 +9,13 @@ ghost use Rattle.cov_tree.specs.declared.groups.EdgeText.{EdgeText};
 ghost use Rattle.cov_grammar.specs.Groups.{item, member};
 ghost use Rattle.cov_grammar.specs.Designs.{Written, with_formal, last_is_ref, is_ref_or, formal, formal_list, formals, edge, edge_kind, edge_or_any, argument, argument_list, argument_parens, sampling, members, group_end, group};
 ghost use Rattle.cov_grammar.proofs.DesignLaws.{argument_lawful, edge_lawful, formal_lawful};
-ghost use Rattle.expr_parser.specs.Reading.{ParsesAlways, Took, over};
-ghost use Rattle.cov_parser.specs.Parts.{direction, edge_parens, edge_word, edges, maybe_input, maybe_label, sample_function};
+ghost use Rattle.token_reader.specs.Reading.{ParsesAlways, Took, over};
+ghost use Rattle.cov_parser.specs.Parts.{direction, maybe_input, sample_function};
 
-use crate::crosses::cross;
-use crate::points::point;
-use crate::types::type_text;
 use cov_grammar::{Kind, Marked, Place, Room, Stop};
 use cov_tree::{Decl, EdgeKind, EdgeText, Formal, List, Member, Name};
-use expr_parser::{Held, Item, Reader, add, alone, put_last};
+use item_parser::{event, expr_behind, members, type_text};
+use token_reader::{Held, Item, Reader, add, alone, put_last};
 
 /// Formals of a group, with commas between them. Each is told the direction of the one before it.
 #[derive(Drop)]
@@ -83,7 +81,7 @@ impl Item for SampleArgumentList {
         &[Kind::Comma]
     }
 
-    #[tactic(auto, using(expr_parser::proofs::Chains::put_parses))]
+    #[tactic(auto, using(token_reader::proofs::Chains::put_parses))]
     fn read(
         &self,
         reader: Reader<'_>,
@@ -95,39 +93,6 @@ impl Item for SampleArgumentList {
     }
 
     ghost separable = { λ _ text ts. record { lawful = argument_lawful text ts; apart = refl } };
-}
-
-/// Parts of an event, with `or` or commas between them.
-#[derive(Drop)]
-struct EdgeList;
-
-impl Item for EdgeList {
-    type Tree = EdgeText;
-
-    ghost Written = { EdgeText };
-
-    ghost rule = { λ _. edge };
-
-    ghost put = { snoc };
-
-    ghost separators = { OrWord ∷ Comma ∷ [] };
-
-    fn separators(&self) -> &'static [Kind] {
-        &[Kind::OrWord, Kind::Comma]
-    }
-
-    #[tactic(auto, using(expr_parser::proofs::Chains::put_parses))]
-    fn read(
-        &self,
-        reader: Reader<'_>,
-        place: Place,
-        room: Room,
-        list: &mut List<EdgeText>,
-    ) -> Result<Place, Stop> {
-        put_last(list, edge(reader, place, room))
-    }
-
-    ghost separable = { λ _ text ts. record { lawful = edge_lawful text ts; apart = refl } };
 }
 
 /// A covergroup.
@@ -232,7 +197,7 @@ fn formal(
     let (by_ref, at) = direction(reader, place, by_ref);
     let (typ, at) = type_text(reader, at, room)?;
     let (name, at) = reader.ident(at)?;
-    let (default, after) = reader.expr_behind(Kind::Assign, at, room)?;
+    let (default, after) = expr_behind(reader, Kind::Assign, at, room)?;
     let formal = Formal {
         by_ref,
         typ: typ.put(),
@@ -337,121 +302,4 @@ fn behind_input(reader: Reader<'_>, place: Place) -> Place
         Some((_, next)) => next,
         None => place,
     }
-}
-
-/// The parts of a coverage event in parentheses, behind its `@`.
-fn event(reader: Reader<'_>, place: Place, room: Room) -> Result<(List<EdgeText>, Place), Stop>
-    ensures { Parses (over reader.entry edge_parens) room place result }
-{
-    let (_, at) = reader.word(place, Kind::OpenParen)?;
-    let (edges, at) = edges(reader, at, room)?;
-    let (_, after) = reader.word(at, Kind::CloseParen)?;
-    Ok((edges, after))
-}
-
-/// The parts of an event, with `or` or commas between them.
-fn edges(reader: Reader<'_>, place: Place, room: Room) -> Result<(List<EdgeText>, Place), Stop>
-    ensures { Parses (over reader.entry edges) room place result }
-{
-    reader.list(place, room, &EdgeList)
-}
-
-/// A part of an event.
-fn edge(reader: Reader<'_>, place: Place, room: Room) -> Result<(Held<EdgeText>, Place), Stop>
-    ensures { Parses (over reader.entry edge) room place result }
-{
-    let (kind, at) = edge_word(reader, place);
-    let (name, at) = reader.ident(at)?;
-    let (guard, after) = reader.expr_behind(Kind::IffWord, at, room)?;
-    let guard = guard.put();
-    Ok((Held::of(EdgeText { kind, name, guard }), after))
-}
-
-/// Which changes a part of an event tells.
-fn edge_word(reader: Reader<'_>, place: Place) -> (EdgeKind, Place)
-    ensures { Took (over reader.entry edge_word) (λ t. result.0 ≡ edge_or_any t) place result.1 }
-{
-    match reader.take(
-        place,
-        &[Kind::PosedgeWord, Kind::NegedgeWord, Kind::EdgeWord],
-    ) {
-        Some((token, next)) => (edge_kind(token.kind), next),
-        None => (EdgeKind::Any, place),
-    }
-}
-
-fn edge_kind(kind: Kind) -> EdgeKind
-    ensures { result ≡ edge_kind kind }
-{
-    match kind {
-        Kind::PosedgeWord => EdgeKind::Pos,
-        Kind::NegedgeWord => EdgeKind::Negative,
-        _ => EdgeKind::Both,
-    }
-}
-
-/// What a member begins with.
-const MEMBER_KINDS: [Kind; 6] = [
-    Kind::Semi,
-    Kind::OptionWord,
-    Kind::TypeOptionWord,
-    Kind::Ident,
-    Kind::CoverpointWord,
-    Kind::CrossWord,
-];
-
-/// Members, up to a token that begins none.
-fn members(reader: Reader<'_>, place: Place, room: Room) -> Result<(List<Member>, Place), Stop>
-    ensures { Parses (over reader.entry members) room place result }
-{
-    let mut members = List::new(reader.alloc);
-    let mut at = place;
-    while let Some((token, next)) = reader.take(at, &MEMBER_KINDS) {
-        if token.kind.is_one_of(&[Kind::Semi]) {
-            at = next;
-        } else {
-            let (member, after) = member(reader, at, room)?;
-            add(&mut members, member)?;
-            at = after;
-        }
-    }
-    Ok((members, at))
-}
-
-/// A member that isn't a lone `;`.
-fn member(reader: Reader<'_>, place: Place, room: Room) -> Result<(Held<Member>, Place), Stop>
-    requires { In reader.tokens.now place.at
-        (OptionWord ∷ TypeOptionWord ∷ Ident ∷ CoverpointWord ∷ CrossWord ∷ []) }
-    ensures read { IfOk result (λ x. Reads (over reader.entry member) room place (x.0 ∷ []) x.1) }
-    ensures fault { IfErr result (Fails (over reader.entry member) room place) }
-{
-    if let Some((_, _)) = reader.take(place, &[Kind::OptionWord, Kind::TypeOptionWord]) {
-        let (option, after) = reader.option(place, room)?;
-        return Ok((Held::of(Member::Opt(option.put())), after));
-    }
-    item(reader, place, room)
-}
-
-/// A coverpoint or a cross, with its label.
-fn item(reader: Reader<'_>, place: Place, room: Room) -> Result<(Held<Member>, Place), Stop>
-    ensures { Parses (over reader.entry item) room place result }
-{
-    let start = reader.start_at(place.at);
-    let (label, at) = maybe_label(reader, place)?;
-    if let Some((_, _)) = reader.take(at, &[Kind::CrossWord]) {
-        return cross(reader, at, room, start, label);
-    }
-    point(reader, at, room, start, label)
-}
-
-/// `name:`, or nothing.
-fn maybe_label(reader: Reader<'_>, place: Place) -> Result<(Held<Option<Name>>, Place), Stop>
-    ensures { ParsesAlways (over reader.entry maybe_label) place result }
-{
-    let Some((token, next)) = reader.take(place, &[Kind::Ident]) else {
-        return Ok((Held::of(None), place));
-    };
-    let (_, after) = reader.word(next, Kind::Colon)?;
-    let name = reader.name_of(token)?;
-    Ok((Held::of(Some(name)), after))
 }

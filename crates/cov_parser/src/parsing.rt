@@ -9,17 +9,17 @@ ghost use Rattle.cov_grammar.specs.Fault.{DerivesWithin, Derives, IsCause, is_fo
 ghost use Rattle.cov_parser.specs.Parse.{place_of, IsParseFault};
 ghost use Rattle.cov_parser.specs.Told.{told};
 ghost use Rattle.cov_parser.specs.declared.fault.ParseFault.TheVariants.{Memory};
-ghost use Rattle.expr_parser.specs.Reading.{over};
+ghost use Rattle.token_reader.specs.Reading.{over};
 
-use crate::declarations::{enumeration, named, variables};
 use crate::fault::ParseFault;
 use crate::groups::group;
 use crate::marks::marks;
 use cov_grammar::{Kind, Place, Room, Stop};
 use cov_lexer::Token;
 use cov_tree::{Decl, DesignText, List};
-use expr_parser::Reader;
+use item_parser::{enumeration, named, variables};
 use std::alloc::Global;
+use token_reader::Reader;
 
 /// What a text may use up.
 const LIMITS: Room = Room {

@@ -1,12 +1,8 @@
-pub mod Behind
-pub mod Early
 pub mod FrameLaws
 pub mod Heads
 pub mod Loops
-pub mod Readers
 pub mod ReplyFaults
 pub mod ReplyLaws
-pub mod RequestLaws
 pub mod RowLaws
 pub mod Sizes
-pub mod Texts
+pub mod SmallNumbers

@@ -2,10 +2,11 @@
 use Rattle.std.proofs.Common.{◌≡◌, ℕ, zero, suc, ◌+◌, ◌-◌, ◌<◌, ◌≤◌, eqb, Bool, true, false, cond, List, [], ◌∷◌, ◌++◌, length, Result, Ok, Err, refl, sym, ap, subst, ◌∙◌, append_assoc, arith, inl, inr}
 use Rattle.std.proofs.lemmas.Bool.{cases_lt, eqb-true}
 use Rattle.std.proofs.lemmas.List.{append-nil}
-use Rattle.cov_proto.specs.declared.fault.Fault.{Fault}
-use Rattle.cov_proto.specs.declared.fault.Fault.TheVariants.{At, Memory}
-use Rattle.cov_proto.specs.Given.{GivesOrLacks}
-use Rattle.cov_proto.specs.Reading.{◌>>=◌, Reader, nothing, appended, rows_in}
+use Rattle.request_forms.specs.declared.fault.Fault.{Fault}
+use Rattle.request_forms.specs.declared.fault.Fault.TheVariants.{At, Memory}
+use Rattle.request_forms.specs.Given.{GivesOrLacks}
+use Rattle.request_forms.specs.Reading.{◌>>=◌, Reader, nothing}
+use Rattle.cov_proto.specs.Reading.{appended, rows_in}
 
 -- rows behind others
 abbrev pub with_front : {A : Type 0} → List A → Result (List A) ℕ → Result (List A) ℕ

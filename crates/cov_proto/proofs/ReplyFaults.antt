@@ -1,9 +1,10 @@
 -- Where faults of replies stand: a byte more, and fronts.
-use Rattle.std.proofs.Common.{◌≡◌, ℕ, ◌<◌, eqb, Bool, true, false, List, [], ◌∷◌, ◌++◌, length, take, drop, Result, Ok, Err, refl, sym, ap, subst, ◌∙◌, append_assoc, arith}
+use Rattle.std.proofs.Common.{◌≡◌, ℕ, zero, suc, ◌+◌, ◌<◌, ◌≤◌, eqb, Bool, true, false, List, [], ◌∷◌, ◌++◌, length, take, drop, Result, Ok, Err, refl, sym, ap, subst, ◌∙◌, append_assoc, arith, length-append}
 use Rattle.std.specs.Prelude.{◌||◌}
-use Rattle.std.specs.List.{flat_map}
+use Rattle.std.specs.List.{AllByRecursion, flat_map}
 use Rattle.std.specs.Int.{w64, to_be_bytes}
-use Rattle.std.proofs.lemmas.List.{append-nil, take-append-drop, length-drop, length-take}
+use Rattle.std.proofs.lemmas.Bool.{eqb-true, ne_eqb}
+use Rattle.std.proofs.lemmas.List.{append-nil, nil_from_length, take-append-drop, length-drop, length-take}
 use Rattle.ucis_model.specs.declared.answers.Answer.{Answer}
 use Rattle.ucis_model.specs.declared.answers.Answer.TheVariants as answer
 use Rattle.cov_proto.specs.declared.replies.Body.{Body}
@@ -12,14 +13,39 @@ use Rattle.cov_proto.specs.declared.replies.Reply.{Reply}
 use Rattle.cov_proto.specs.Laws.{AreBytes, SpellsReply, FailsBy, stops_reply, is_open}
 use Rattle.cov_proto.specs.Limits.{IsAnswer, IsReplyBody, IsReply, HasAnswerType, HasBodyType, HasReplyType}
 use Rattle.cov_proto.specs.Spelled.{count_row, test_row, answer_tag, answer_fields, body_tag, body_fields, reply_spelled}
-use Rattle.cov_proto.specs.Reading.{rows}
-use Rattle.cov_proto.specs.Requests.{from_front}
+use Rattle.request_forms.specs.Reading.{Reader, made}
+use Rattle.request_forms.specs.Requests.{from_front}
+use Rattle.cov_proto.specs.Reading.{rows_in, rows}
 use Rattle.cov_proto.specs.Replies.{count_row_at, test_row_at, body_at, tagged_at, reply_left, reply_read}
-use Rattle.cov_proto.proofs.Readers.{IsBytes-take, no_fault, number32, number64, digest_field, pair_field}
-use Rattle.cov_proto.proofs.Texts.{limit_field}
-use Rattle.cov_proto.proofs.Behind.{place_behind, rows_more, only_made, nothing_made, path_made, before_made, rows_made}
+use Rattle.request_forms.proofs.Readers.{IsBytes-take, IsField, no_fault, number32, number64, digest_field, pair_field}
+use Rattle.request_forms.proofs.Behind.{place_behind, made_more, only_made, nothing_made, path_made, before_made}
+use Rattle.cov_proto.proofs.SmallNumbers.{limit_field}
 use Rattle.cov_proto.proofs.RowLaws.{cover_row_field, count_row_field, rank_row_field, test_row_field, fault_field, some_count, some_rank, some_test}
 use Rattle.cov_proto.proofs.ReplyLaws.{joined, body_tags, is_spelled, begins, read_again}
+
+-- ---- less than a row behind rows
+
+rows_in_more : {A : Type 0} {read : Reader A} {s : A → List ℕ} {F : A → Type 0} → IsField read s F → ((x : A) → 1 ≤ length (s x)) → (byte : ℕ) → read (byte ∷ []) ≡ Err 1 → (n : ℕ) (xs : List A) → length (flat_map s xs) < n → AllByRecursion F xs
+    → rows_in read n (flat_map s xs ++ byte ∷ []) ≡ Err 1
+unfolding rows_in
+rows_in_more f some byte short zero xs lt fits = absurd (omega arith)
+rows_in_more f some byte short (suc n) [] lt fits = rw short refl
+rows_in_more {read = read} {s = s} f some byte short (suc n) (x ∷ xs) lt fits =
+    let all : length ((s x ++ flat_map s xs) ++ byte ∷ []) ≡ length (s x) + length (flat_map s xs) + 1 = omega (arith, length-append (s x ++ flat_map s xs) (byte ∷ []), length-append (s x) (flat_map s xs)) in
+    let filled : eqb (length ((s x ++ flat_map s xs) ++ byte ∷ [])) 0 ≡ false = ne_eqb _ 0 (λ e. absurd (omega (arith, e, all))) in
+    let below : rows_in read n (flat_map s xs ++ byte ∷ []) ≡ Err 1 = rows_in_more f some byte short n xs (omega (arith, some x, lt, length-append (s x) (flat_map s xs))) fits.1 in
+    rw (filled, append_assoc (s x) (flat_map s xs) (byte ∷ []), f.again x (flat_map s xs ++ byte ∷ []) fits.0, below) refl
+
+rows_more : {A : Type 0} {read : Reader A} {s : A → List ℕ} {F : A → Type 0} → IsField read s F → ((x : A) → 1 ≤ length (s x)) → (xs : List A) (byte : ℕ) (more : List ℕ) → read (byte ∷ []) ≡ Err 1 → AllByRecursion F xs → eqb (length more) 0 ≡ true
+    → rows read (flat_map s xs ++ byte ∷ more) ≡ Err (length (byte ∷ more))
+rows_more {read = read} {s = s} f some xs byte more short fits e =
+    let nil : more ≡ [] = nil_from_length more (eqb-true _ _ e) in
+    let last : rows read (flat_map s xs ++ byte ∷ []) ≡ Err (length (byte ∷ [])) = rows_in_more f some byte short (length (flat_map s xs ++ byte ∷ [])) xs (omega (arith, length-append (flat_map s xs) (byte ∷ []))) fits in
+    subst (λ (l : List ℕ). rows read (flat_map s xs ++ byte ∷ l) ≡ Err (length (byte ∷ l))) (sym nil) last
+
+rows_made : {A C : Type 0} {read : Reader A} {s : A → List ℕ} {F : A → Type 0} → IsField read s F → ((x : A) → 1 ≤ length (s x)) → (make : List A → C) (xs : List A) (byte : ℕ) (more : List ℕ) → read (byte ∷ []) ≡ Err 1 → AllByRecursion F xs → eqb (length more) 0 ≡ true
+    → made make (rows read) (flat_map s xs ++ byte ∷ more) ≡ Err (length (byte ∷ more))
+rows_made {read = read} {s = s} f some make xs byte more short fits e = made_more (rows read) make (flat_map s xs ++ byte ∷ more) (length (byte ∷ more)) (rows_more f some xs byte more short fits e)
 
 -- ---- a byte more
 

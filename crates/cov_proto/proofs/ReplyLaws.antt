@@ -15,13 +15,14 @@ use Rattle.cov_proto.specs.declared.replies.Reply.{Reply}
 use Rattle.cov_proto.specs.Laws.{AreBytes, SpellsReply, BeginsReply}
 use Rattle.cov_proto.specs.Limits.{IsTestRow, HasTestType, IsAnswer, IsReplyBody, IsReply, HasAnswerType, HasBodyType, HasReplyType}
 use Rattle.cov_proto.specs.Spelled.{answer_tag, answer_fields, body_tag, body_fields, reply_spelled}
-use Rattle.cov_proto.specs.Reading.{◌>>=◌, Form, Table, number_at, only, made, found, unknown}
-use Rattle.cov_proto.specs.Requests.{from_front}
+use Rattle.request_forms.specs.Reading.{◌>>=◌, Form, Table, number_at, only, made, found, unknown}
+use Rattle.request_forms.specs.Requests.{from_front}
 use Rattle.cov_proto.specs.Replies.{bare_replies, number_replies, long_replies, bare_at, number_reply_at, body_at, is_reply_tag, tagged_at, reply_left, reply_read}
-use Rattle.cov_proto.proofs.Readers.{bind_ok, bind_err, both, let_pass, ok_is, fault_is, no_fault, Begun, begun_low, bind_early, then_early, then_low, IsMet, at_front, behind_front, before_more, number_cut, IsForm, number32, number64, digest_field, pair_field, nothing_form, only_form, before_form, bytes_form}
-use Rattle.cov_proto.proofs.Texts.{path_form, limit_field}
-use Rattle.cov_proto.proofs.Early.{IsEarly}
-use Rattle.cov_proto.proofs.Behind.{decided, made_early, unknown_early, front_ok, front_fault}
+use Rattle.request_forms.proofs.Readers.{bind_ok, bind_err, both, let_pass, ok_is, fault_is, no_fault, Begun, begun_low, bind_early, then_early, then_low, IsMet, at_front, behind_front, before_more, number_cut, IsForm, number32, number64, digest_field, pair_field, nothing_form, only_form, before_form, bytes_form}
+use Rattle.request_forms.proofs.Texts.{path_form}
+use Rattle.request_forms.proofs.Early.{IsEarly}
+use Rattle.cov_proto.proofs.SmallNumbers.{limit_field}
+use Rattle.request_forms.proofs.Behind.{decided, made_early, unknown_early, front_ok, front_fault}
 use Rattle.cov_proto.proofs.RowLaws.{IsTest, cover_row_field, fault_field, count_rows_form, rank_rows_form, test_rows_form}
 
 -- a tag and fields that spell a body within its limits

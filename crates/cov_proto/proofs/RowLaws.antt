@@ -3,7 +3,7 @@ use Rattle.std.proofs.Common.{◌≡◌, ℕ, zero, suc, ◌+◌, ◌-◌, ◌^�
 use Rattle.std.specs.List.{AllByRecursion, flat_map}
 use Rattle.std.specs.Int.{w8, w64, to_be_bytes}
 use Rattle.std.proofs.lemmas.Bool.{eqb-true}
-use Rattle.std.proofs.lemmas.List.{nil_from_length}
+use Rattle.std.proofs.lemmas.List.{nil_from_length, append-nil}
 use Rattle.tally.specs.declared.ranked.Ranked.{Ranked}
 use Rattle.ucis_model.specs.declared.answers.CountRow.{CountRow}
 use Rattle.ucis_model.specs.declared.answers.HistoryKind.TheVariants as history
@@ -11,11 +11,35 @@ use Rattle.ucis_model.specs.declared.answers.HistoryNode.{HistoryNode}
 use Rattle.cov_proto.specs.Laws.{AreBytes}
 use Rattle.cov_proto.specs.Limits.{IsTestRow, IsRecordFault, HasCountType, HasCoverType, HasTestType, HasRankType}
 use Rattle.cov_proto.specs.Spelled.{one_byte, count_row, cover_row, test_row, rank_row}
-use Rattle.cov_proto.specs.Reading.{◌>>=◌, Reader, number_within, rows_in, rows}
+use Rattle.request_forms.specs.Reading.{◌>>=◌, Reader, number_within}
+use Rattle.cov_proto.specs.Reading.{shaped, rows_in, rows}
 use Rattle.cov_proto.specs.Replies.{count_row_at, cover_row_at, test_row_at, rank_row_at, greatest_number, record_fault_at}
-use Rattle.cov_proto.proofs.Readers.{bind_ok, bind_err, let_pass, no_fault, too_many, ok_is, Takes-then, Read, Begun, IsField, Whole, IsForm, at_front, behind_front, before_more, begun_low, bind_early, then_early, then_low, wide8, wide64, number32, number64, within_first, within_early, within_field, digest_field, pair_field, shaped_field}
-use Rattle.cov_proto.proofs.Early.{IsEarly, parted}
-use Rattle.cov_proto.proofs.Texts.{text_field, flag_field, kind_field}
+use Rattle.request_forms.proofs.Readers.{bind_ok, bind_err, let_pass, no_fault, too_many, ok_is, Takes-then, Read, Begun, IsField, Whole, IsForm, at_front, behind_front, before_more, begun_low, bind_early, then_early, then_low, wide8, wide64, number32, number64, within_first, within_early, within_field, digest_field, pair_field}
+use Rattle.request_forms.proofs.Early.{IsEarly, parted}
+use Rattle.request_forms.proofs.Texts.{text_field}
+use Rattle.cov_proto.proofs.SmallNumbers.{flag_field, kind_field}
+
+-- ---- what is made of a field
+
+pub shaped_field : {A B : Type 0} {read : Reader A} {s : A → List ℕ} {F : A → Type 0} → IsField read s F → (make : A → B) (of : B → A) (t : B → List ℕ) (G : B → Type 0)
+    → ((x : A) → F x → (s x ≡ t (make x)) × G (make x)) → ((y : B) → G y → (t y ≡ s (of y)) × F (of y) × (make (of y) ≡ y)) → IsField (shaped make read) t G
+shaped_field {A = A} {B = B} {read = read} {s = s} {F = F} f make of t G there back = record { takes = takes; again = again; begun = begun; example = record { value = make f.example.value; fits = (there f.example.value f.example.fits).1 }; early = then_early read f.early (λ x. (make x.0, x.1)) }
+  where
+    takes : (bytes : List ℕ) (x : B × List ℕ) → AreBytes bytes → shaped make read bytes ≡ Ok x → Read t G bytes x
+    takes bytes x fits e =
+        let a = bind_ok (read bytes) _ x e in
+        let m = f.takes bytes a.0 fits a.1 in
+        let h = there a.0.0 m.fits in
+        subst (λ (y : B × List ℕ). Read t G bytes y) (ok_is (make a.0.0, a.0.1) x a.2) (record { takes = record { parts = m.takes.parts ∙ ap (λ (l : List ℕ). l ++ a.0.1) h.0; rest_fits = m.takes.rest_fits }; fits = h.1 })
+
+    again : (y : B) (rest : List ℕ) → G y → shaped make read (t y ++ rest) ≡ Ok (y, rest)
+    again y rest fits = let h = back y fits in rw (h.0, f.again (of y) rest h.1) (ap (λ (z : B). Ok (z, rest)) h.2)
+
+    begun : (bytes : List ℕ) (left : ℕ) → AreBytes bytes → shaped make read bytes ≡ Err left → Begun t G bytes left
+    begun bytes left fits e = elim (bind_err (read bytes) _ left e) [
+      | inl h ↦ before_more [] make (λ x fit. let k = there x fit in (sym k.0 ∙ sym (append-nil (s x)), k.1)) (f.begun bytes left fits h)
+      | inr h ↦ absurd (no_fault (make h.0.0, h.0.1) left h.2)
+    ]
 
 -- ---- fields of one row
 

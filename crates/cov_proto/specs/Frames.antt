@@ -2,19 +2,12 @@
 use Rattle.std.specs.Prelude.{◌≡◌, ◌⊎◌, ℕ, ◌<◌, ◌≤◌, List, ◌++◌, length}
 use Rattle.std.specs.List.{flat_map}
 use Rattle.std.specs.Int.{w32, to_be_bytes}
+pub use Rattle.request_forms.specs.Frames.{longest_body, frame}
 use Rattle.cov_proto.specs.declared.frames.FrameStep.{FrameStep}
 use Rattle.cov_proto.specs.declared.frames.FrameStep.TheVariants.{More, Body, BadLength}
 
--- the most bytes of a body
-abbrev pub longest_body : ℕ
-longest_body = 1048640
-
 abbrev pub IsBody : List ℕ → Type 0
 IsBody body = (0 < length body) × (length body ≤ longest_body)
-
--- the length in four bytes, and the body
-abbrev pub frame : List ℕ → List ℕ
-frame body = to_be_bytes w32 (length body) ++ body
 
 abbrev pub frames : List (List ℕ) → List ℕ
 frames bodies = flat_map frame bodies

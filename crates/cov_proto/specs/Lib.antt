@@ -4,5 +4,6 @@ pub mod Laws
 pub mod Limits
 pub mod Reading
 pub mod Replies
-pub mod Requests
 pub mod Spelled
+pub use Rattle.request_forms.specs.Requests
+pub use Rattle.request_forms.specs.declared.requests.Request

@@ -11,10 +11,11 @@ use Rattle.ucis_model.specs.declared.answers.Answer.TheVariants as answer
 use Rattle.cov_proto.specs.declared.replies.Body.{Body}
 use Rattle.cov_proto.specs.declared.replies.Body.TheVariants.{Store, Done, Farewell, BadMessage, NoUpload, StageBusy, TooLong, Outside, Differs, Missing, DigestDiffers, BadRecord, WrongShape, BadDesign, ShapeDiffers, ReadOnly}
 use Rattle.cov_proto.specs.declared.replies.Reply.{Reply}
-use Rattle.cov_proto.specs.declared.requests.RequestFault.{RequestFault}
-use Rattle.cov_proto.specs.declared.requests.RequestFault.TheVariants as fault
-use Rattle.cov_proto.specs.Reading.{◌>>=◌, Reader, Form, Table, number_at, number_within, digest_at, text_at, flag_at, kind_at, limit_at, pair, shaped, nothing, only, before, any_bytes, path, rows, made, found, unknown}
-use Rattle.cov_proto.specs.Requests.{from_front}
+use Rattle.request_forms.specs.declared.requests.RequestFault.{RequestFault}
+use Rattle.request_forms.specs.declared.requests.RequestFault.TheVariants as fault
+use Rattle.request_forms.specs.Reading.{◌>>=◌, Reader, Form, Table, number_at, number_within, digest_at, text_at, flag_at, kind_at, pair, nothing, only, before, any_bytes, path, made, found, unknown}
+use Rattle.request_forms.specs.Requests.{from_front}
+use Rattle.cov_proto.specs.Reading.{limit_at, shaped, rows}
 
 -- ---- rows
 

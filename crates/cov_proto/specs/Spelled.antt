@@ -1,6 +1,6 @@
--- How requests and replies are spelled: one list of bytes, which is the body of a frame. It begins with a tag, in a reply the point
--- follows, and then stand the fields. Numbers have their highest byte first; the last text of a body has no length.
-use Rattle.std.specs.Prelude.{ℕ, List, [], ◌∷◌, ◌++◌, length, Bool, true, false}
+-- How replies are spelled: one list of bytes, which is the body of a frame. It begins with a tag, the point follows, and then stand the
+-- fields. Numbers have their highest byte first; the last text of a body has no length.
+use Rattle.std.specs.Prelude.{ℕ, List, [], ◌∷◌, ◌++◌, Bool, true, false}
 use Rattle.std.specs.List.{flat_map}
 use Rattle.std.specs.Int.{w32, w64, to_be_bytes}
 use Rattle.design_data.specs.declared.infos.BinKind.{BinKind}
@@ -13,14 +13,10 @@ use Rattle.ucis_model.specs.declared.answers.Which.{Which}
 use Rattle.ucis_model.specs.declared.answers.Which.TheVariants as which
 use Rattle.ucis_model.specs.declared.answers.Answer.{Answer}
 use Rattle.ucis_model.specs.declared.answers.Answer.TheVariants as answer
-use Rattle.cov_proto.specs.declared.requests.Request.{Request}
-use Rattle.cov_proto.specs.declared.requests.Request.TheVariants as request
+pub use Rattle.request_forms.specs.Spelled.{one_byte, text, request_spelled}
 use Rattle.cov_proto.specs.declared.replies.Body.{Body}
 use Rattle.cov_proto.specs.declared.replies.Body.TheVariants as body
 use Rattle.cov_proto.specs.declared.replies.Reply.{Reply}
-
-abbrev pub one_byte : ℕ → List ℕ
-one_byte n = n ∷ []
 
 abbrev pub flag : Bool → List ℕ
 flag false = 0 ∷ []
@@ -37,29 +33,6 @@ limit which.Tests = 0 ∷ []
 limit which.Bytes = 1 ∷ []
 limit which.Entries = 2 ∷ []
 limit which.History = 3 ∷ []
-
--- its length in one byte, and the text
-abbrev pub text : List ℕ → List ℕ
-text bytes = one_byte (length bytes) ++ bytes
-
--- what is asked
-unfoldable pub request_spelled : Request → List ℕ
-request_spelled (request.Hello point) = 0x01 ∷ to_be_bytes w64 point
-request_spelled (request.Begin len) = 0x02 ∷ to_be_bytes w64 len
-request_spelled (request.Piece offset bytes) = 0x03 ∷ (to_be_bytes w64 offset ++ bytes)
-request_spelled (request.Commit digest) = 0x04 ∷ digest
-request_spelled (request.Counts first path) = 0x05 ∷ (to_be_bytes w32 first ++ path)
-request_spelled (request.Coverage path) = 0x06 ∷ path
-request_spelled (request.Illegal first) = 0x07 ∷ to_be_bytes w32 first
-request_spelled (request.Tests first) = 0x08 ∷ to_be_bytes w32 first
-request_spelled (request.TestCounts first id path) = 0x09 ∷ (to_be_bytes w32 first ++ (text id ++ path))
-request_spelled request.Rank = 0x0A ∷ []
-request_spelled (request.Exclude path) = 0x0B ∷ path
-request_spelled (request.Include path) = 0x0C ∷ path
-request_spelled (request.NameOf bin) = 0x0D ∷ to_be_bytes w32 bin
-request_spelled request.Bye = 0x0E ∷ []
-request_spelled (request.Revise digest) = 0x0F ∷ digest
-request_spelled (request.Fetch place offset) = 0x10 ∷ (to_be_bytes w32 place ++ to_be_bytes w64 offset)
 
 -- bin, kind, whether it is excluded, count
 unfoldable pub count_row : CountRow → List ℕ

@@ -2,20 +2,23 @@
 ghost use Rattle.std.specs.Prelude.{◌≡◌, ◌≤◌, ◌-◌, ◌^◌, length, IfOk, IfErr, false};
 ghost use Rattle.std.specs.Int.{w64};
 ghost use Rattle.cov_proto.specs.Frames.{longest_body};
-ghost use Rattle.cov_proto.specs.Given.{Gives, GivesOrLacks, MayLack};
+ghost use Rattle.request_forms.specs.Given.{Gives, GivesOrLacks};
+ghost use Rattle.cov_proto.specs.Given.{MayLack};
 ghost use Rattle.cov_proto.specs.Laws.{SpellsReply, HasNoReply};
-ghost use Rattle.cov_proto.specs.Reading.{number_within};
+ghost use Rattle.request_forms.specs.Reading.{number_within};
 ghost use Rattle.cov_proto.specs.Replies.{counts_at, coverage_at, tests_at, ranks_at, path_is_at, chunk_at};
 ghost use Rattle.cov_proto.specs.Replies.{outside_at, bad_record_at, full_at, bad_design_at, greatest_number};
 ghost use Rattle.cov_proto.specs.Replies.{bare_at, number_reply_at, body_at, is_reply_tag, tagged_at};
 ghost use Rattle.cov_proto.specs.Replies.{takes_memory, begins_with_text, MayWant};
 ghost use Rattle.cov_proto.specs.Replies.{reply_left, reply_read, HasReadReply};
 
-use crate::fault::{BadAt, Fault, place};
-use crate::fields::{end, only_digest, only_u32, only_u64, path, u8_within, u32_at, u64_at};
 use crate::rows::{CountRows, RankRows, TestRows, all_rows, cover_row, limit_at};
 use crate::{Body, Reply, RequestFault};
 use cov_tree::Name;
+use request_forms::fault::{BadAt, Fault, place};
+use request_forms::fields::{
+    end, only_digest, only_u32, only_u64, path, u8_within, u32_at, u64_at,
+};
 use std::alloc::Global;
 use ucis_model::Answer;
 
@@ -103,7 +106,7 @@ fn outside(bytes: &[u8]) -> Result<Body, BadAt>
 }
 
 // The number 0.
-#[tactic(auto, unfolding(crate::specs::Reading::number_within))]
+#[tactic(auto, unfolding(request_forms::specs::Reading::number_within))]
 fn zero_at(bytes: &[u8]) -> Result<(u64, &[u8]), BadAt>
     ensures { Gives (λ x. (x.0, x.1.now)) result (number_within w64 0 0 bytes.now) }
 {
@@ -115,7 +118,7 @@ fn zero_at(bytes: &[u8]) -> Result<(u64, &[u8]), BadAt>
 }
 
 // Any number of 64 bits.
-#[tactic(auto, unfolding(crate::specs::Reading::number_within))]
+#[tactic(auto, unfolding(request_forms::specs::Reading::number_within))]
 fn any_u64_at(bytes: &[u8]) -> Result<(u64, &[u8]), BadAt>
     ensures { Gives (λ x. (x.0, x.1.now)) result (number_within w64 0 (2 ^ 64 - 1) bytes.now) }
 {

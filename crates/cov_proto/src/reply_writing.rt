@@ -7,11 +7,11 @@ ghost use Rattle.cov_proto.specs.Limits.{IsAnswer, IsReplyBody, IsReply, IsTestR
 ghost use Rattle.cov_proto.specs.Spelled.{flag, kind, limit, text, count_row, cover_row, test_row, rank_row};
 ghost use Rattle.cov_proto.specs.Spelled.{answer_tag, answer_fields, body_tag, body_fields, reply_spelled};
 
-use crate::request_writing::digest_size;
-use crate::writing::{append, append_tagged, append_u32_and, append_u64_and};
 use crate::{Body, Reply};
 use cov_tree::Name;
 use design_data::BinKind;
+use request_forms::digest_size;
+use request_forms::writing::{append, append_tagged, append_u32_and, append_u64_and};
 use tally::Ranked;
 use ucis_model::{Answer, CountRow, CoverRow, HistoryNode, Which};
 

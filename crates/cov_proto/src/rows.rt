@@ -1,42 +1,16 @@
 //! Rows of replies, until the bytes end.
 ghost use Rattle.std.specs.Prelude.{◌≡◌, IfOk};
-ghost use Rattle.cov_proto.specs.Given.{Gives, GivesOrLacks};
-ghost use Rattle.cov_proto.specs.Reading.{flag_at, kind_at, limit_at, Reader, appended, rows};
+ghost use Rattle.request_forms.specs.Given.{Gives, GivesOrLacks};
+ghost use Rattle.request_forms.specs.Reading.{Reader};
+ghost use Rattle.cov_proto.specs.Reading.{limit_at, appended, rows};
 ghost use Rattle.cov_proto.specs.Replies.{count_row_at, cover_row_at, test_row_at, rank_row_at};
 
-use crate::fault::{BadAt, Fault};
-use crate::fields::{digest_at, end, text_at, u8_within, u32_at, u64_at};
 use cov_tree::{List, Name};
-use design_data::BinKind;
+use request_forms::fault::{BadAt, Fault};
+use request_forms::fields::{digest_at, end, flag_at, kind_at, text_at, u8_within, u32_at, u64_at};
 use std::alloc::Global;
 use tally::Ranked;
 use ucis_model::{CountRow, CoverRow, HistoryKind, HistoryNode, Which};
-
-// The number of the last kind of bins.
-const LAST_KIND: u8 = 3;
-
-#[inline]
-#[tactic(auto, unfolding(crate::specs::Reading::flag_at))]
-fn flag_at(bytes: &[u8]) -> Result<(bool, &[u8]), BadAt>
-    ensures { Gives (λ x. (x.0, x.1.now)) result (flag_at bytes.now) }
-{
-    let (number, rest) = u8_within(0, 1, bytes)?;
-    Ok((number == 1, rest))
-}
-
-#[inline]
-#[tactic(auto, unfolding(crate::specs::Reading::kind_at))]
-fn kind_at(bytes: &[u8]) -> Result<(BinKind, &[u8]), BadAt>
-    ensures { Gives (λ x. (x.0, x.1.now)) result (kind_at bytes.now) }
-{
-    let (number, rest) = u8_within(0, LAST_KIND, bytes)?;
-    match number {
-        0 => Ok((BinKind::CvgBin, rest)),
-        1 => Ok((BinKind::IllegalBin, rest)),
-        2 => Ok((BinKind::IgnoreBin, rest)),
-        _ => Ok((BinKind::DefaultBin, rest)),
-    }
-}
 
 #[tactic(auto, unfolding(crate::specs::Reading::limit_at))]
 pub(crate) fn limit_at(bytes: &[u8]) -> Result<(Which, &[u8]), BadAt>

@@ -4,11 +4,6 @@ use Rattle.std.specs.Prelude.{if◌then◌else◌}
 use Rattle.std.proofs.lemmas.List.{take_all}
 use Rattle.design_data.specs.declared.design.Design.{Design}
 use Rattle.record_codec.specs.declared.record.Record.{Record}
-use Rattle.record_codec.specs.declared.record.Fields.{Fields}
-use Rattle.record_codec.specs.Spelling.{fields_of}
-use Rattle.record_maker.specs.Generator.{version_of, start_of}
-use Rattle.cov_counting.specs.Tables.{signals_of, instances_of}
-use Rattle.sampler.specs.Shape.{Fits}
 use Rattle.ucis_model.specs.declared.answers.Answer.{Answer}
 use Rattle.ucis_model.specs.declared.answers.Answer.TheVariants as answers
 use Rattle.cov_history.specs.declared.entry.Entry.{Entry}
@@ -22,9 +17,10 @@ use Rattle.merge_store.specs.declared.faults.Admitted.TheVariants as admits
 use Rattle.merge_store.specs.declared.faults.AdmitFault.{AdmitFault}
 use Rattle.merge_store.specs.Stores.{opening_of, entries_of}
 use Rattle.merge_store.specs.Told.{Makes, refused, taken_in}
-use Rattle.covd_core.specs.declared.stop.Stop.{Stop}
-use Rattle.covd_core.specs.declared.stop.Stop.TheVariants.{Memory, Refused}
-use Rattle.covd_core.specs.Admission.{entry_for, admission, behind, refusal_line, made_fields}
+use Rattle.covd_commands.specs.declared.stop.Stop.{Stop}
+use Rattle.covd_commands.specs.declared.stop.Stop.TheVariants.{Memory, Refused}
+use Rattle.covd_core.specs.Admission.{entry_for, admission, behind}
+use Rattle.covd_commands.specs.Unadmitted.{refusal_line}
 use Rattle.covd_core.specs.Filling.{IsPlain, IsRefusal, Admits}
 
 -- ---- the design stays
@@ -93,13 +89,3 @@ module _ (d : Design) (s t : Store) (plain : IsPlain d s) (since : ℕ) (now : s
   pub refused_is : (f : AdmitFault) (stop : Stop) → Makes (entries_of s) (entry_for r) (admit_at (opening_of s) (entries_of s) since (entry_for r) r) (refused f) (entries_of t) → IsRefusal k f stop → Admits d k (entries_of s) r (entries_of t) (Err stop)
   refused_is f (Refused a) m i = (ap (refusal_line k) (sym (expected_is d s plain since now r)) ∙ line k (entries_of s) (entries_of t) (entry_for r) _ f a.text.items m i.0, i.1)
   refused_is f Memory m i = tt
-
--- ---- made records fit
-
-pub made_fits : (d : Design) (seed rounds test : ℕ) (r : Record) → fields_of r ≡ made_fields d seed rounds test → Fits d r
-unfolding start_of
-made_fits d seed rounds test r e =
-    let version : r.version ≡ version_of d = ap (λ (f : Fields). f.version) e in
-    let signals : r.signals ≡ signals_of d = ap (λ (f : Fields). f.signals) e in
-    let instances : r.instances ≡ instances_of d (version_of d) = ap (λ (f : Fields). f.instances) e in
-    record { signals = signals; instances = instances ∙ ap (instances_of d) (sym version) }

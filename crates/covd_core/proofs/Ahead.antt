@@ -1,38 +1,16 @@
 -- Records that are read ahead of their turn, and counted.
-use Rattle.std.proofs.Common.{◌≡◌, ℕ, zero, suc, ◌+◌, ◌≤◌, ◌<◌, List, [], ◌∷◌, ◌++◌, length, Result, refl, sym, subst, arith}
+use Rattle.std.proofs.Common.{◌≡◌, ℕ, suc, ◌+◌, ◌<◌, List, [], ◌∷◌, length, Result, refl, subst, arith}
 use Rattle.std.specs.Prelude.{slice_index_or}
 use Rattle.design_data.specs.declared.design.Design.{Design}
 use Rattle.covd_core.specs.declared.batches.Counted.{Counted}
-use Rattle.covd_core.specs.declared.finding.Source.{Source}
-use Rattle.covd_core.specs.declared.finding.Source.TheVariants as source
-use Rattle.covd_core.specs.declared.stop.Stop.{Stop}
-use Rattle.covd_core.specs.Command.{Files, Origin, File, Made}
-use Rattle.covd_core.specs.Origins.{IsRead, IsShort}
-use Rattle.covd_core.specs.Batches.{IsCounted, IsCountedIn, IsCountedAt, AreShort, AreRead, AreFound}
+use Rattle.covd_commands.specs.declared.finding.Source.{Source}
+use Rattle.covd_commands.specs.declared.stop.Stop.{Stop}
+use Rattle.covd_commands.specs.FromFiles.{Files}
+use Rattle.covd_commands.specs.Finding.{Origin}
+use Rattle.covd_core.specs.Batches.{IsCounted, IsCountedIn, IsCountedAt, AreFound}
+use Rattle.covd_commands.specs.Ahead.{AreRead}
 
 module _ (files : Files) where
-  -- one more origin is read
-  pub read_on : (all : List Origin) (batch : List Source) (origin : Origin) (later : List Origin) (read : Source) → IsRead files origin read → AreRead files all batch (origin ∷ later) → AreRead files all (batch ++ read ∷ []) later
-  read_on all [] origin later read is r = subst (λ (xs : List Origin). AreRead files xs (read ∷ []) later) (sym r) (is, refl)
-  read_on [] (b ∷ batch) origin later read is r = absurd r
-  read_on (o ∷ all) (b ∷ batch) origin later read is r = (r.0, read_on all batch origin later read is r.1)
-
-  pub read_few : (origins : List Origin) (batch : List Source) (left : List Origin) → AreRead files origins batch left → length batch ≤ length origins
-  read_few origins [] left r = omega arith
-  read_few [] (b ∷ batch) left r = absurd r
-  read_few (o ∷ origins) (b ∷ batch) left r = let le = read_few origins batch left r.1 in omega (arith, le)
-
-  short_of : (origin : Origin) (read : Source) → IsRead files origin read → IsShort read
-  short_of (File name) (source.Bytes bytes) r = r.1
-  short_of (Made seed rounds) (source.Bytes bytes) r = absurd r
-  short_of origin (source.Numbers numbers) r = tt
-
-  pub read_short : (origins : List Origin) (batch : List Source) (left : List Origin) → AreRead files origins batch left → AreShort batch
-  read_short origins [] left r index read e = absurd (cc e)
-  read_short [] (b ∷ batch) left r index read e = absurd r
-  read_short (o ∷ origins) (b ∷ batch) left r zero read e = let same : b ≡ read = cc e in subst IsShort same (short_of o b r.0)
-  read_short (o ∷ origins) (b ∷ batch) left r (suc index) read e = read_short origins batch left r.1 index read e
-
   -- what is counted of what is read
   pub found_all : (d : Design) (k : ℕ) (origins : List Origin) (batch : List Source) (left : List Origin) (found : List (Result Counted Stop)) → AreRead files origins batch left → length found ≡ length batch
       → ((index : ℕ) (x : Result Counted Stop) → index < length batch → IsCountedAt d k batch index (slice_index_or found index x)) → AreFound files d k origins found

@@ -11,7 +11,7 @@ use Rattle.design_data.specs.declared.infos.GroupInfo.{GroupInfo}
 use Rattle.record_codec.specs.declared.record.Record.{Record}
 use Rattle.record_codec.specs.declared.record.SignalRow.{SignalRow}
 use Rattle.record_codec.specs.declared.record.InstRow.{InstRow}
-use Rattle.cov_counting.specs.Tables.{signal_row, arg_row, instance_row, name_of}
+use Rattle.covd_commands.specs.Tables.{signal_row, arg_row, instance_row, name_of}
 use Rattle.sampler.specs.Shape.{Fits}
 use Rattle.cov_history.specs.Tables.{fits, agree, same_sign, is_signal, is_arg, is_instance}
 

@@ -1,9 +1,10 @@
 -- What a command leaves whose text was written whole.
 use Rattle.std.proofs.Common.{ℕ, List, inl, inr}
 use Rattle.cov_spec.specs.Told.{Grows}
-use Rattle.covd_core.specs.declared.status.Status.{Status}
-use Rattle.covd_core.specs.declared.status.Status.TheVariants as status
-use Rattle.covd_core.specs.Command.{Files, Answers, Ends, Leaves}
+use Rattle.covd_commands.specs.declared.status.Status.{Status}
+use Rattle.covd_commands.specs.declared.status.Status.TheVariants as status
+use Rattle.covd_commands.specs.FromFiles.{Files}
+use Rattle.covd_core.specs.Command.{Answers, Ends, Leaves}
 use Rattle.covd_core.proofs.Fillings.{never_memory, never_write_fault, no_answer}
 
 module _ (words : List (List ℕ)) (files : Files) (before now : ℕ) (text : List ℕ) where

@@ -4,12 +4,11 @@ use Rattle.std.specs.Prelude.{◌⊎◌}
 use Rattle.cov_spec.specs.Causes.{Rose}
 use Rattle.cov_ground.specs.Limits.{longest_design}
 use Rattle.design_data.specs.declared.design.Design.{Design}
-use Rattle.covd_core.specs.declared.status.Status.{Status}
-use Rattle.covd_core.specs.declared.status.Status.TheVariants as status
-use Rattle.covd_core.specs.Command.{Files, HasDesign, HasNoDesign}
-use Rattle.covd_core.specs.Command.{NoDesign}
+use Rattle.covd_commands.specs.declared.status.Status.{Status}
+use Rattle.covd_commands.specs.declared.status.Status.TheVariants as status
+use Rattle.covd_commands.specs.FromFiles.{Files, HasDesign, HasNoDesign, NoDesign}
 use Rattle.covd_core.specs.Sessions.{OneDesign, HasOneDesign}
-use Rattle.covd_core.proofs.OneAnswer.{IsRefused, refused, refused_one, not_refused, design_one, no_design, no_design_one}
+use Rattle.covd_commands.proofs.OneEach.{IsRefused, refused, refused_one, not_refused, design_one, no_design, no_design_one}
 
 module _ (all : List (List ℕ × List ℕ)) (before now : ℕ) (calm : Rose before now → ⊥) (name : List ℕ) where
   abbrev IsUncompiled : Status → List ℕ → Type 0

@@ -3,9 +3,10 @@ use Rattle.std.proofs.Common.{◌≡◌, ℕ, List, inl, inr, sym, subst}
 use Rattle.std.specs.Prelude.{◌⊎◌}
 use Rattle.cov_spec.specs.Causes.{Rose}
 use Rattle.cov_spec.specs.Told.{Grows, GrowsByFront}
-use Rattle.covd_core.specs.declared.status.Status.{Status}
-use Rattle.covd_core.specs.declared.status.Status.TheVariants as status
-use Rattle.covd_core.specs.Command.{Files, NoDesign, Ends}
+use Rattle.covd_commands.specs.declared.status.Status.{Status}
+use Rattle.covd_commands.specs.declared.status.Status.TheVariants as status
+use Rattle.covd_commands.specs.FromFiles.{Files, NoDesign}
+use Rattle.covd_core.specs.Command.{Ends}
 use Rattle.covd_core.specs.Sessions.{LeavesRefusal}
 
 module _ (files : Files) (before now : ℕ) (design text : List ℕ) (e e' : Ends) where

@@ -3,11 +3,12 @@ use Rattle.std.specs.Prelude.{◌≡◌, ℕ, ◌+◌, ◌^◌, ◌≤◌, List,
 use Rattle.design_data.specs.declared.design.Design.{Design}
 use Rattle.sampler.specs.Plans.{IsTallyOf}
 use Rattle.covd_core.specs.declared.batches.Counted.{Counted}
-use Rattle.covd_core.specs.declared.finding.Source.{Source}
-use Rattle.covd_core.specs.declared.stop.Stop.{Stop}
-use Rattle.covd_core.specs.Command.{Files, Origin, Finds}
-use Rattle.covd_core.specs.Filling.{IsFound}
-use Rattle.covd_core.specs.Origins.{IsRead, IsShort}
+use Rattle.covd_commands.specs.declared.finding.Source.{Source}
+use Rattle.covd_commands.specs.declared.stop.Stop.{Stop}
+use Rattle.covd_commands.specs.FromFiles.{Files}
+use Rattle.covd_commands.specs.Finding.{Origin, Finds, IsFound}
+use Rattle.covd_commands.specs.Origins.{IsRead}
+use Rattle.covd_commands.specs.Ahead.{AreShort}
 
 -- the k-th record with its tally, or why none comes from there
 abbrev pub IsCounted : Files → ℕ → ℕ → Design → (k : ℕ) → Origin → Result Counted Stop → Type 0
@@ -22,19 +23,9 @@ IsCountedIn d k read result = (files : Files) (before now : ℕ) (origin : Origi
 abbrev pub IsCountedAt : Design → (k : ℕ) → List Source → (index : ℕ) → Result Counted Stop → Type 0
 IsCountedAt d k batch index result = (read : Source) → slice_get batch index ≡ Some read → IsCountedIn d (k + index) read result
 
--- no file of the batch is longer than a record
-abbrev pub AreShort : List Source → Type 0
-AreShort batch = (index : ℕ) (read : Source) → slice_get batch index ≡ Some read → IsShort read
-
 -- a batch that begins with the k-th record can be counted
 abbrev pub AreReady : (k : ℕ) → List Source → Type 0
 AreReady k batch = (k + length batch ≤ 2 ^ 64) × AreShort batch
-
--- the batch has what is read of the first origins, in order; the other ones are left
-abbrev pub AreRead : Files → List Origin → List Source → (left : List Origin) → Type 0
-AreRead files origins [] left = origins ≡ left
-AreRead files [] (read ∷ batch) left = ⊥
-AreRead files (origin ∷ origins) (read ∷ batch) left = IsRead files origin read × AreRead files origins batch left
 
 -- what is found of the first origins, in order, the first of which has the k-th record; no file of theirs was unread
 abbrev pub AreFound : Files → Design → (k : ℕ) → List Origin → List (Result Counted Stop) → Type 0

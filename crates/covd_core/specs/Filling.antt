@@ -2,20 +2,21 @@
 use Rattle.std.specs.Prelude.{◌≡◌, ℕ, List, [], Some, None, Result, Ok, Err}
 use Rattle.design_data.specs.declared.design.Design.{Design}
 use Rattle.record_codec.specs.declared.record.Record.{Record}
-use Rattle.record_codec.specs.Spelling.{Encodes, fields_of}
-use Rattle.sampler.specs.Shape.{Fits}
 use Rattle.cov_history.specs.declared.entry.Entry.{Entry}
 use Rattle.cov_history.specs.History.{design_of}
 use Rattle.merge_store.specs.declared.store.Store.{Store}
 use Rattle.merge_store.specs.declared.faults.AdmitFault.{AdmitFault}
 use Rattle.merge_store.specs.Stores.{opening_of, entries_of}
 use Rattle.merge_store.specs.Told.{refused}
-use Rattle.covd_core.specs.declared.stop.Stop.{Stop}
-use Rattle.covd_core.specs.declared.stop.Stop.TheVariants.{Memory, Refused}
-use Rattle.covd_core.specs.declared.status.Status.{Status}
-use Rattle.covd_core.specs.declared.status.Status.TheVariants as status
-use Rattle.covd_core.specs.Admission.{admission, behind, refusal_line, made_fields}
-use Rattle.covd_core.specs.Command.{Files, Origin, Finds, FindsNone, IsRefusedText, NotTaken, IsTooMuch, Prints, Fills}
+use Rattle.covd_commands.specs.declared.stop.Stop.{Stop}
+use Rattle.covd_commands.specs.declared.stop.Stop.TheVariants.{Memory, Refused}
+use Rattle.covd_commands.specs.declared.status.Status.{Status}
+use Rattle.covd_commands.specs.declared.status.Status.TheVariants as status
+use Rattle.covd_core.specs.Admission.{admission, behind}
+use Rattle.covd_commands.specs.Unadmitted.{refusal_line}
+use Rattle.covd_commands.specs.FromFiles.{Files}
+use Rattle.covd_commands.specs.Finding.{Origin, Finds}
+use Rattle.covd_core.specs.Command.{NotTaken, Prints, Fills}
 
 -- a store over this design, which no entry has changed
 pub record IsPlain (d : Design) (s : Store) : Type 0 where
@@ -23,11 +24,6 @@ pub record IsPlain (d : Design) (s : Store) : Type 0 where
   pub same : design_of d (entries_of s) ≡ d
 
 -- ---- one record
-
--- a record isn't admitted, with this line
-abbrev pub IsLine : (line : List ℕ) → Stop → Type 0
-IsLine line (Refused a) = (a.status ≡ status.AdmitRefused) × (a.text.items ≡ line)
-IsLine line Memory = Unit {0}
 
 -- why a store doesn't admit the k-th record
 abbrev pub IsRefusal : (k : ℕ) → AdmitFault → Stop → Type 0
@@ -39,28 +35,6 @@ abbrev pub Admits : Design → (k : ℕ) → List Entry → Record → (after : 
 Admits d k h r after (Ok done) = (refusal_line k (admission d h r) ≡ None) × (after ≡ behind d h r)
 Admits d k h r after (Err (Refused a)) = (refusal_line k (admission d h r) ≡ Some a.text.items) × (a.status ≡ status.AdmitRefused)
 Admits d k h r after (Err Memory) = Unit {0}
-
--- the k-th record from its bytes
-abbrev pub IsDecoded : (k : ℕ) → Design → List ℕ → Result Record Stop → Type 0
-IsDecoded k d bytes (Ok r) = Encodes r bytes × Fits d r
-IsDecoded k d bytes (Err (Refused a)) = (a.status ≡ status.RecordRefused) × ((r : Record) → Encodes r bytes → Fits d r → ⊥) × IsRefusedText k d bytes a.text.items
-IsDecoded k d bytes (Err Memory) = Unit {0}
-
--- the record of a test
-abbrev pub IsMade : Design → (seed rounds test : ℕ) → Result Record Stop → Type 0
-IsMade d seed rounds test (Ok r) = fields_of r ≡ made_fields d seed rounds test
-IsMade d seed rounds test (Err (Refused a)) = (a.status ≡ status.AdmitRefused) × IsTooMuch d seed rounds test a.text.items
-IsMade d seed rounds test (Err Memory) = Unit {0}
-
--- the k-th record, or why none comes from there
-abbrev pub IsFound : Files → ℕ → ℕ → Design → (k : ℕ) → Origin → Result Record Stop → Type 0
-IsFound files before now d k origin (Ok r) = Finds files d k origin r
-IsFound files before now d k origin (Err (Refused a)) = FindsNone files before now d k origin a.status a.text.items
-IsFound files before now d k origin (Err Memory) = Unit {0}
-
--- why nothing can be read of an origin: no record comes from there
-abbrev pub NoneComes : Files → ℕ → ℕ → Origin → Stop → Type 0
-NoneComes files before now origin stop = (d : Design) (k : ℕ) → IsFound files before now d k origin (Err stop)
 
 -- the k-th record is found and taken in
 abbrev pub Takes : Files → ℕ → ℕ → Design → (k : ℕ) → List Entry → Origin → (after : List Entry) → Result (Unit {0}) Stop → Type 0

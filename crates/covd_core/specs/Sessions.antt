@@ -10,9 +10,10 @@ use Rattle.cov_session.specs.Alone.{own_from, others}
 use Rattle.cov_session.specs.declared.ended.Ended.{Ended}
 use Rattle.cov_session.specs.declared.ended.Ended.TheVariants as ended
 use Rattle.cov_session.specs.Streams.{Session}
-use Rattle.covd_core.specs.declared.status.Status.{Status}
-use Rattle.covd_core.specs.declared.status.Status.TheVariants as status
-use Rattle.covd_core.specs.Command.{Files, HasDesign, NoDesign, Ends, Leaves}
+use Rattle.covd_commands.specs.declared.status.Status.{Status}
+use Rattle.covd_commands.specs.declared.status.Status.TheVariants as status
+use Rattle.covd_commands.specs.FromFiles.{Files, HasDesign, NoDesign}
+use Rattle.covd_core.specs.Command.{Ends, Leaves}
 
 -- ---- words
 

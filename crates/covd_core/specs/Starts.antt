@@ -4,20 +4,21 @@ use Rattle.std.specs.Prelude.{◌≡◌, ℕ, ◌<◌, ◌≤◌, List, length, 
 use Rattle.cov_spec.specs.Causes.{Rose}
 use Rattle.cov_spec.specs.Told.{Grows, GrowsByFront, Stays}
 use Rattle.cov_base.specs.Loads.{HasFile}
-use Rattle.cov_compile.specs.Compiling.{Compiles}
-use Rattle.cov_compile.specs.Texts.{Declared}
+use Rattle.covd_commands.specs.Compiling.{Compiles}
+use Rattle.covd_commands.specs.Texts.{Declared}
 use Rattle.cov_ground.specs.Limits.{longest_design}
 use Rattle.cov_serve.specs.Seats.{most_callers}
 use Rattle.cov_serve.specs.declared.words.ServeWords.{ServeWords}
 use Rattle.cov_serve.specs.Words.{served_by}
-use Rattle.covd_core.specs.declared.status.Status.{Status}
-use Rattle.covd_core.specs.declared.status.Status.TheVariants as status
+use Rattle.covd_commands.specs.declared.status.Status.{Status}
+use Rattle.covd_commands.specs.declared.status.Status.TheVariants as status
 use Rattle.covd_core.specs.declared.starting.HadCompiled.{HadCompiled}
 use Rattle.covd_core.specs.declared.starting.HadCompiled.TheVariants as had
 use Rattle.covd_core.specs.declared.starting.Begun.{Begun}
 use Rattle.covd_core.specs.declared.starting.Begun.TheVariants as begun
-use Rattle.covd_core.specs.Lines.{bad_words_text}
-use Rattle.covd_core.specs.Command.{Files, NoDesign, Ends}
+use Rattle.covd_commands.specs.Lines.{bad_words_text}
+use Rattle.covd_commands.specs.FromFiles.{Files, NoDesign}
+use Rattle.covd_core.specs.Command.{Ends}
 
 -- the file of that name has the text, which declares the design
 pub record HasOpening (files : Files) (name : List ℕ) (c : Declared) : Type 0 where

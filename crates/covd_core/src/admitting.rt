@@ -7,11 +7,11 @@ ghost use Rattle.sampler.specs.Plans.{IsDesignPlan, IsTallyOf};
 ghost use Rattle.sampler.specs.Shape.{Fits};
 ghost use Rattle.covd_core.specs.Filling.{IsPlain, Admits, IsRefusal};
 
-use crate::Status;
 use crate::batches::Counted;
-use crate::stop::Stop;
-use crate::unadmitted::{full, id_taken, which_word};
 use cov_base::{Memory, OpenGate};
+use covd_commands::Status;
+use covd_commands::stop::Stop;
+use covd_commands::unadmitted::{full, id_taken, which_word};
 use design_data::Design;
 use merge_store::{AdmitFault, Store};
 use record_codec::Record;

@@ -1,53 +1,21 @@
 //! The commands that print.
 ghost use Rattle.std.specs.Prelude.{◌≡◌, ◌≤◌, map, string_bytes, IfOk, IfNone, MatchOption};
-ghost use Rattle.covd_core.specs.Command.{FillAnswers, Answers, IsCheckCommand, IsNoCheck, IsCountCommand, IsNoCount, ends_of, Leaves, HasOneAnswer};
-ghost use Rattle.covd_core.specs.Forms.{IsNoReport, IsNoMake};
+ghost use Rattle.covd_core.specs.Command.{FillAnswers, Answers, ends_of, Leaves, HasOneAnswer};
+ghost use Rattle.covd_commands.specs.Forms.{IsNoReport, IsNoMake};
 
-use crate::Status;
-use crate::answer::Answer;
-use crate::check::check;
-use crate::count::count;
-use crate::forms::{make_words, report_words};
-use crate::origins::Origins;
-use crate::record::{record_dump, record_words};
 use crate::report::report;
-use crate::texts::bad_words;
 use crate::writing::write_all;
 use cov_base::{Link, Memory, Shelf};
+use covd_commands::Status;
+use covd_commands::answer::Answer;
+use covd_commands::check::{check, check_words};
+use covd_commands::count::{count, count_words};
+use covd_commands::forms::{make_words, report_words};
+use covd_commands::origins::Origins;
+use covd_commands::record::{record_dump, record_words};
+use covd_commands::texts::bad_words;
 use std::alloc::Global;
 use std::thread::Threads;
-
-// The name behind `check`.
-fn check_words(words: &[String]) -> Option<&str>
-    ensures { MatchOption result (IsNoCheck (map string_bytes words.now)) (λ name. IsCheckCommand (map string_bytes words.now) name.now) }
-{
-    match words {
-        [command, design] => {
-            if command.as_str() == "check" {
-                Some(design.as_str())
-            } else {
-                None
-            }
-        }
-        _ => None,
-    }
-}
-
-// The two names behind `count`.
-fn count_words(words: &[String]) -> Option<(&str, &str)>
-    ensures { MatchOption result (IsNoCount (map string_bytes words.now)) (λ names. IsCountCommand (map string_bytes words.now) names.0.now names.1.now) }
-{
-    match words {
-        [command, design, rec] => {
-            if command.as_str() == "count" {
-                Some((design.as_str(), rec.as_str()))
-            } else {
-                None
-            }
-        }
-        _ => None,
-    }
-}
 
 // The answer of a command that fills a store; None where the words are none.
 fn filled<R: Threads + Sync, F: Shelf>(

@@ -3,10 +3,10 @@ ghost use Rattle.std.specs.Prelude.{◌≡◌, ◌≤◌, map, string_bytes};
 ghost use Rattle.covd_core.specs.Command.{ends_of, HasOneAnswer};
 ghost use Rattle.covd_core.specs.Sessions.{Runs, HasOneDesign};
 
-use crate::Status;
 use crate::printing::print;
 use crate::session::{serve, session_words};
 use cov_base::{Link, Shelf};
+use covd_commands::Status;
 use std::alloc::Global;
 use std::thread::Threads;
 

@@ -7,12 +7,12 @@ ghost use Rattle.merge_store.specs.Stores.{opening_of, entries_of};
 ghost use Rattle.covd_core.specs.Command.{ends_of};
 ghost use Rattle.covd_core.specs.Sessions.{IsSessionCommand, IsNoSession, ended_status, Conducted, LeavesRefusal, LeavesSession};
 
-use crate::Status;
-use crate::answer::Answer;
-use crate::loading::{HadDesign, had_design};
 use crate::writing::write_all;
 use cov_base::{Link, Memory, OpenGate, Shelf};
 use cov_session::{Alone, Ended, session};
+use covd_commands::Status;
+use covd_commands::answer::Answer;
+use covd_commands::loading::{HadDesign, had_design};
 use design_data::Design;
 use merge_store::Store;
 use std::alloc::Global;

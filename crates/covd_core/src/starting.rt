@@ -3,15 +3,14 @@ ghost use Rattle.std.specs.Prelude.{◌≡◌, ◌≤◌, length, map, string_by
 ghost use Rattle.covd_core.specs.Command.{ends_of};
 ghost use Rattle.covd_core.specs.Starts.{IsHadCompiled, IsBegun, IsServable, ready_words, Starts};
 
-use crate::Status;
-use crate::answer::Answer;
-use crate::loading::{Loaded, load, uncompiled};
-use crate::texts::bad_words;
 use crate::writing::write_all;
 use cov_base::{Link, Memory, Shelf};
-use cov_compile::Compiled;
 use cov_ground::limits::LONGEST_DESIGN;
 use cov_serve::{ServeWords, serve_words};
+use covd_commands::answer::Answer;
+use covd_commands::loading::{Loaded, load, uncompiled};
+use covd_commands::texts::bad_words;
+use covd_commands::{Compiled, Status};
 use std::alloc::Global;
 
 /// A text with its design, or the answer that it can't be had.

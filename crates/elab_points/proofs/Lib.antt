@@ -1,14 +1,6 @@
-pub mod Literals
 pub mod Filters
 pub mod Singles
 pub mod Removal
-pub mod Rooms
-pub mod Sequences
-pub mod Kept
-pub mod Tracked
-pub mod Distinct
-pub mod Named
-pub mod Cuts
-pub mod Clean
-pub mod Exact
 pub mod Unremoved
+pub use Rattle.elab_bins.proofs.Kept
+pub use Rattle.elab_bins.proofs.Sequences

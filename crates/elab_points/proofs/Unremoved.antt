@@ -2,7 +2,7 @@
 use Rattle.std.proofs.Common.{◌≡◌, List, [], ◌∷◌, length, refl, ap, sym, ◌∙◌, arith, not}
 use Rattle.std.specs.Prelude.{ℤ, filter}
 use Rattle.cov_base.specs.Sets.{written, set_of, without, is_in}
-use Rattle.elab_points.specs.Left.{set_left}
+use Rattle.elab_bins.specs.Left.{set_left}
 
 no_ranges : (ranges : List (ℤ × ℤ)) → length ranges ≡ 0 → ranges ≡ []
 no_ranges [] e = refl

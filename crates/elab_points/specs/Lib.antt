@@ -1,10 +1,3 @@
-pub mod Automatic
-pub mod Declarations
-pub mod Filter
-pub mod Laws
-pub mod Left
-pub mod Made
-pub mod Rest
-pub mod Transitions
-pub mod Wildcards
-pub use Rattle.elab_transitions.specs.Removal
+pub use Rattle.elab_bins.specs.Automatic
+pub use Rattle.elab_bins.specs.Left
+pub use Rattle.elab_bins.specs.Removal

@@ -1,64 +1,28 @@
 //! The declarations of bins of a point, in order.
-ghost use Rattle.std.specs.Prelude.{◌≡◌, ◌++◌, ◌∷◌, [], ◌+◌, ◌≤◌, map, true, OnOk, IfOk};
+ghost use Rattle.std.specs.Prelude.{◌≡◌, ◌+◌, ◌≤◌, true, OnOk, IfOk};
 ghost use Rattle.cov_ground.specs.Limits.{most_bins};
-ghost use Rattle.name_map.specs.Names.{with_name};
-ghost use Rattle.cov_base.specs.Sets.{written, set_of};
-ghost use Rattle.elab_base.specs.declared.names.What.TheVariants as what;
+ghost use Rattle.cov_base.specs.Sets.{written};
 ghost use Rattle.elab_base.specs.Gives.{Gives, Makes};
 ghost use Rattle.design_data.specs.declared.infos.BinRule.TheVariants.{Default};
-ghost use Rattle.elab_points.specs.declared.declared.Entry.TheVariants.{Bin};
-ghost use Rattle.elab_points.specs.Made.{IsWanted, IsPlan, plan_bins};
-ghost use Rattle.elab_points.specs.Wildcards.{patterns_in as patterns_meant, pattern_rule as rule_meant};
-ghost use Rattle.elab_points.specs.Declarations.{default_kind as default_meant, is_ignore, is_illegal, names_point, is_default, may_default, entered, whole_elements, elements_in, with_set, head_of, bins_added, values_binned, listed_binned, elements_binned, values_declared, one_added, rest_added, rule_added, default_sized, default_declared, declared_by, bins_declared, bins_walked};
+ghost use Rattle.elab_bins.specs.Made.{IsWanted};
+ghost use Rattle.elab_bins.specs.Wildcards.{patterns_in as patterns_meant, pattern_rule as rule_meant};
+ghost use Rattle.elab_bins.specs.Declarations.{default_kind as default_meant, is_ignore, is_illegal, names_point, is_default, may_default, entered, whole_elements, elements_in, with_set, head_of, bins_added, values_binned, listed_binned, elements_binned, values_declared, one_added, rest_added, rule_added, default_sized, default_declared, declared_by, bins_declared, bins_walked};
 
-use crate::filter::{filter_of, keep_numbers};
-use crate::made::{Head, Manner, Plan, Wanted, bin_of, bins_of, check_room, make_plan, size_of};
-use crate::transitions::{add_made, declare_default_sequence, declare_trans};
-use crate::wildcards::{is_kept, numbers_in, pattern_rule};
+use crate::made::{bins_of, make_plan, size_of};
 use const_eval::{Bound, Scope};
 use cov_base::{Int, Memory, ValueSet};
 use cov_tree::{BinsDecl, List, Name, Right, Size, Word};
 use design_data::{BinKind, BinRule};
-use elab_base::{ElabFault, ElabKind, What, add_name, check_unused, guard_in};
+use elab_base::{ElabFault, ElabKind, check_unused, guard_in};
+use elab_bins::{
+    Entry, Head, Manner, Walked, Wanted, add_made, bin_of, check_room, declare_default_sequence,
+    declare_trans, filter_of, is_kept, keep_bins, keep_name, keep_numbers, numbers_in,
+    pattern_rule, place_of,
+};
 use elab_values::{Domain, Listed, Made, elements_of, kind_of};
 use name_map::NameMap;
 use std::alloc::Global;
-use trans_seq::Seq;
 use value_bins::Elems;
-
-/// What a declaration of a point adds to its bins.
-#[derive(Drop)]
-pub enum Entry {
-    /// A bin.
-    Bin(Made),
-    /// A bin for each number that is listed nowhere: an array of `default`.
-    Rest(Head),
-}
-
-/// The bins of a point on the way, before removal. Sets stand one behind the other, one for each declaration.
-#[derive(Drop)]
-pub struct Walked {
-    /// The names of the declarations, to find one.
-    pub known: NameMap<What>,
-    /// The same names in order.
-    pub names: List<Name>,
-    /// The bins in order.
-    pub entries: List<Entry>,
-    /// How many bins there are, without those of arrays of `default`.
-    pub count: usize,
-    /// The sets of all listed numbers.
-    pub listed: List<(Int, Int)>,
-    /// The sets of the ignore bins.
-    pub ignored: List<(Int, Int)>,
-    /// The sets of the illegal bins.
-    pub illegal: List<(Int, Int)>,
-    /// The sequences of the ignore bins.
-    pub ignored_seqs: List<Seq>,
-    /// The sequences of the illegal bins.
-    pub illegal_seqs: List<Seq>,
-    /// How many cells the ignored and illegal sequences have.
-    pub removing: u64,
-}
 
 fn default_kind(word: &Word) -> BinKind
     ensures { result ≡ default_meant word.now }
@@ -125,7 +89,7 @@ fn is_default_allowed(word: &Word, right: &Right) -> bool
 }
 
 /// What the words of a declaration alone tell.
-#[tactic(auto, unfolding(crate::specs::Declarations::entered))]
+#[tactic(auto, unfolding(elab_bins::specs::Declarations::entered))]
 fn check_entry(name: &Name, decl: &BinsDecl, walked: &Walked) -> Result<(), ElabFault>
     ensures { Gives result (entered name.now decl.now walked.now) }
 {
@@ -150,7 +114,7 @@ fn whole(alloc: Global, set: &[(Int, Int)]) -> Result<List<Listed>, Memory>
 }
 
 /// What a declaration lists.
-#[tactic(auto, unfolding(crate::specs::Declarations::elements_in))]
+#[tactic(auto, unfolding(elab_bins::specs::Declarations::elements_in))]
 fn elements(
     alloc: Global,
     scope: &Scope,
@@ -191,16 +155,6 @@ fn add_set(
     Ok(())
 }
 
-/// The number as one of 32 bits. So many declarations as it doesn't hold don't fit into memory.
-pub(crate) fn place_of(place: usize) -> Result<u32, Memory>
-    ensures { IfOk result (λ same. same ≡ place) }
-{
-    match u32::try_from(place) {
-        Ok(place) => Ok(place),
-        Err(_) => Err(Memory),
-    }
-}
-
 /// What the bins of a declaration have in common.
 fn head(
     alloc: Global,
@@ -221,25 +175,6 @@ fn head(
     })
 }
 
-/// Adds the name of a declaration.
-pub(crate) fn keep_name(alloc: Global, name: &Name, walked: &mut Walked) -> Result<(), Memory>
-    ensures { OnOk result (walked.new ≡ record walked.old { known = with_name walked.old.known name.now what.Bin; names = walked.old.names ++ name.now ∷ [] }) }
-{
-    add_name(alloc, &mut walked.known, name, What::Bin)?;
-    walked.names.push(name.share()?)?;
-    Ok(())
-}
-
-/// Adds bins.
-pub(crate) fn keep_bins(bins: Vec<Made>, entries: &mut List<Entry>) -> Result<(), Memory>
-    ensures { OnOk result (entries.new ≡ entries.old ++ map Bin bins.items) }
-{
-    for made in bins {
-        entries.push(Entry::Bin(made))?;
-    }
-    Ok(())
-}
-
 /// Adds what a declaration lists and removes.
 fn keep_sets(alloc: Global, kind: BinKind, kept: &Elems, walked: &mut Walked) -> Result<(), Memory>
     ensures { OnOk result (walked.new ≡ record walked.old { listed = with_set true walked.old.listed (written kept.now); ignored = with_set (is_ignore kind) walked.old.ignored (written kept.now); illegal = with_set (is_illegal kind) walked.old.illegal (written kept.now) }) }
@@ -250,7 +185,7 @@ fn keep_sets(alloc: Global, kind: BinKind, kept: &Elems, walked: &mut Walked) ->
     Ok(())
 }
 
-#[tactic(auto, unfolding(crate::specs::Declarations::bins_added))]
+#[tactic(auto, unfolding(elab_bins::specs::Declarations::bins_added))]
 fn add_bins(
     alloc: Global,
     head: &Head,
@@ -270,7 +205,7 @@ fn add_bins(
 }
 
 /// Adds the bins of elements that list numbers.
-#[tactic(auto, unfolding(crate::specs::Declarations::values_binned))]
+#[tactic(auto, unfolding(elab_bins::specs::Declarations::values_binned))]
 fn bin_values(
     alloc: Global,
     domain: &Domain,
@@ -293,7 +228,7 @@ fn bin_values(
 }
 
 /// Adds the bin of elements whose patterns it keeps.
-#[tactic(auto, unfolding(crate::specs::Declarations::rule_added))]
+#[tactic(auto, unfolding(elab_bins::specs::Declarations::rule_added))]
 fn bin_patterns(
     alloc: Global,
     domain: &Domain,
@@ -310,7 +245,7 @@ fn bin_patterns(
 }
 
 /// Adds the bins of elements: of their patterns, where these are kept, and else of the numbers that they list.
-#[tactic(auto, unfolding(crate::specs::Declarations::listed_binned))]
+#[tactic(auto, unfolding(elab_bins::specs::Declarations::listed_binned))]
 fn bin_listed(
     alloc: Global,
     domain: &Domain,
@@ -339,7 +274,7 @@ fn bin_listed(
     )
 }
 
-#[tactic(auto, unfolding(crate::specs::Declarations::elements_binned))]
+#[tactic(auto, unfolding(elab_bins::specs::Declarations::elements_binned))]
 fn bin_elements(
     alloc: Global,
     scope: &Scope,
@@ -361,7 +296,7 @@ fn bin_elements(
     Ok(())
 }
 
-#[tactic(auto, unfolding(crate::specs::Declarations::values_declared))]
+#[tactic(auto, unfolding(elab_bins::specs::Declarations::values_declared))]
 fn declare_values(
     alloc: Global,
     scope: &Scope,
@@ -386,7 +321,7 @@ fn declare_values(
 }
 
 /// Adds the one bin of a declaration.
-#[tactic(auto, unfolding(crate::specs::Declarations::one_added))]
+#[tactic(auto, unfolding(elab_bins::specs::Declarations::one_added))]
 fn add_one(alloc: Global, head: &Head, rule: BinRule, walked: &mut Walked) -> Result<(), Memory>
     requires { walked.old.count + 1 ≤ most_bins }
     ensures { OnOk result (walked.new ≡ one_added head.now rule walked.old) }
@@ -397,7 +332,7 @@ fn add_one(alloc: Global, head: &Head, rule: BinRule, walked: &mut Walked) -> Re
 }
 
 /// Adds an array of `default`.
-#[tactic(auto, unfolding(crate::specs::Declarations::rest_added))]
+#[tactic(auto, unfolding(elab_bins::specs::Declarations::rest_added))]
 fn add_rest(alloc: Global, head: Head, walked: &mut Walked) -> Result<(), Memory>
     ensures { OnOk result (walked.new ≡ rest_added head walked.old) }
 {
@@ -406,7 +341,7 @@ fn add_rest(alloc: Global, head: Head, walked: &mut Walked) -> Result<(), Memory
     Ok(())
 }
 
-#[tactic(auto, unfolding(crate::specs::Declarations::rule_added))]
+#[tactic(auto, unfolding(elab_bins::specs::Declarations::rule_added))]
 fn add_default(alloc: Global, head: &Head, walked: &mut Walked) -> Result<(), ElabFault>
     ensures { Makes result walked.new (rule_added head.now Default walked.old) }
 {
@@ -425,7 +360,7 @@ fn add_sized(alloc: Global, size: &Size, head: Head, walked: &mut Walked) -> Res
     }
 }
 
-#[tactic(auto, unfolding(crate::specs::Declarations::default_declared))]
+#[tactic(auto, unfolding(elab_bins::specs::Declarations::default_declared))]
 fn declare_default(
     alloc: Global,
     scope: &Scope,
@@ -459,7 +394,7 @@ fn declare_right(
     }
 }
 
-#[tactic(auto, unfolding(crate::specs::Declarations::bins_declared))]
+#[tactic(auto, unfolding(elab_bins::specs::Declarations::bins_declared))]
 fn declare(
     alloc: Global,
     scope: &Scope,
@@ -477,7 +412,7 @@ fn declare(
 }
 
 /// All bins that are declared.
-#[tactic(auto, unfolding(crate::specs::Declarations::bins_walked))]
+#[tactic(auto, unfolding(elab_bins::specs::Declarations::bins_walked))]
 pub(crate) fn walk_bins(
     alloc: Global,
     scope: &Scope,

@@ -1,25 +1,21 @@
 //! What removal leaves of the bins of a point.
 ghost use Rattle.std.specs.Prelude.{◌≡◌, ◌++◌, OnOk, IfOk};
 ghost use Rattle.elab_base.specs.Gives.{Gives};
-ghost use Rattle.elab_points.specs.Left.{set_left as left_of_set, rule_left as left_of_rule, bin_left as left_of_bin, has_some as has_number, some_of, left_of, bins_left as left_of_bins, left_by, walked_left as left_of_walked, bins_of_point};
-ghost use Rattle.elab_points.specs.Automatic.{CanHaveBins};
-ghost use Rattle.elab_points.specs.Transitions.{transitions_left as left_of_transitions};
+ghost use Rattle.elab_bins.specs.Left.{set_left as left_of_set, rule_left as left_of_rule, bin_left as left_of_bin, has_some as has_number, some_of, left_of, bins_left as left_of_bins, left_by, walked_left as left_of_walked, bins_of_point};
+ghost use Rattle.elab_bins.specs.Automatic.{CanHaveBins};
+ghost use Rattle.elab_bins.specs.Transitions.{transitions_left as left_of_transitions};
 
-use crate::auto::add_undeclared;
-use crate::declared::{Walked, walk_bins};
-use crate::rest::fill;
-use crate::transitions::transitions_left;
-use crate::wildcards::manner_of;
+use crate::declared::walk_bins;
+use crate::manner::manner_of;
 use const_eval::Scope;
 use cov_base::{Int, Memory, ValueSet};
 use cov_tree::{BinsDecl, List, Name};
 use design_data::{BinInfo, BinKind, BinRule};
 use elab_base::ElabFault;
-use elab_transitions::Removers;
+use elab_bins::{Removers, Seq, Walked, add_undeclared, fill, transitions_left};
 use elab_values::{Domain, Made, PointBins, Settings};
 use std::alloc::Global;
 use std::mem;
-use trans_seq::Seq;
 
 /// What is left of a set, with no room to spare: a point may have very many of them.
 #[tactic(auto, using(crate::proofs::Unremoved::none_to_lose, crate::proofs::Unremoved::none_removed))]
@@ -36,7 +32,7 @@ fn set_left(alloc: Global, removed: &ValueSet, set: ValueSet) -> Result<ValueSet
     left.copy(alloc)
 }
 
-#[tactic(auto, unfolding(crate::specs::Left::rule_left))]
+#[tactic(auto, unfolding(elab_bins::specs::Left::rule_left))]
 fn rule_left(alloc: Global, removed: &ValueSet, rule: BinRule) -> Result<BinRule, Memory>
     ensures { IfOk result (λ left. left ≡ left_of_rule removed.now rule) }
 {
@@ -52,7 +48,7 @@ fn rule_left(alloc: Global, removed: &ValueSet, rule: BinRule) -> Result<BinRule
     }
 }
 
-#[tactic(auto, unfolding(crate::specs::Left::bin_left))]
+#[tactic(auto, unfolding(elab_bins::specs::Left::bin_left))]
 fn bin_left(
     alloc: Global,
     all: &ValueSet,
@@ -123,7 +119,7 @@ fn bins_left(
 }
 
 /// What removal leaves of bins, by the numbers of ignore bins and of illegal bins.
-#[tactic(auto, unfolding(crate::specs::Left::left_by))]
+#[tactic(auto, unfolding(elab_bins::specs::Left::left_by))]
 fn left(
     alloc: Global,
     ignored: List<(Int, Int)>,
@@ -162,7 +158,7 @@ fn with_transitions(
 }
 
 /// What is left of all that is declared.
-#[tactic(auto, unfolding(crate::specs::Left::walked_left))]
+#[tactic(auto, unfolding(elab_bins::specs::Left::walked_left))]
 fn walked_left(
     alloc: Global,
     domain: &Domain,
@@ -190,7 +186,7 @@ fn walked_left(
 }
 
 /// The bins of a point of this name, which stands at `at`. Each of them has something left.
-#[tactic(auto, unfolding(crate::specs::Left::bins_of_point))]
+#[tactic(auto, unfolding(elab_bins::specs::Left::bins_of_point))]
 pub fn point_bins(
     alloc: Global,
     scope: &Scope,

@@ -1,90 +1,26 @@
 //! The bins of one declaration.
-ghost use Rattle.std.specs.Prelude.{◌≡◌, ◌≤◌, ◌+◌, ℕ, nat_le, IfOk, IfErr, OnOk, map, filter, ◌∷◌, []};
+ghost use Rattle.std.specs.Prelude.{◌≡◌, ◌≤◌, ◌+◌, ℕ, IfOk, IfErr, map, filter, ◌∷◌, []};
 ghost use Rattle.std.specs.Fmt.{decimal};
 ghost use Rattle.cov_ground.specs.Limits.{most_bins};
 ghost use Rattle.cov_base.specs.Sets.{written, set_of, ascending};
-ghost use Rattle.bin_spec.specs.Parts.{parts as parts_of};
-ghost use Rattle.elab_base.specs.declared.fault.ElabKind.TheVariants as kinds;
-ghost use Rattle.elab_base.specs.Gives.{Gives, Fails, needs};
-ghost use Rattle.elab_points.specs.declared.made.Wanted.TheVariants.{Each};
-ghost use Rattle.elab_points.specs.Filter.{passes};
-ghost use Rattle.elab_points.specs.Made.{IsWanted, IsPlan, plan_bins, wanted_in, planned, indexed, named_bin, value_bin, single, part_bins, set_filtered, parts_kept, bins_made};
+ghost use Rattle.elab_bins.specs.Parts.{parts as parts_of};
+ghost use Rattle.elab_base.specs.Gives.{Gives, Fails};
+ghost use Rattle.elab_bins.specs.declared.plans.Wanted.TheVariants.{Each};
+ghost use Rattle.elab_bins.specs.Filter.{passes};
+ghost use Rattle.elab_bins.specs.Made.{IsWanted, IsPlan, plan_bins, wanted_in, planned, indexed, value_bin, single, part_bins, set_filtered, parts_kept, bins_made};
 
-use crate::filter::passing;
 use const_eval::{Bound, Scope};
 use cov_base::{Int, Memory, ValueSet};
-use cov_ground::limits::MOST_BINS;
-use cov_tree::{List, Name, Size};
-use design_data::{BinInfo, BinKind, BinRule};
-use elab_base::{ElabFault, ElabKind, copy_guard, number_in};
+use cov_tree::{List, Size};
+use design_data::BinRule;
+use elab_base::{ElabFault, ElabKind, number_in};
+use elab_bins::{Head, Plan, Wanted, bin_of, check_room, indexed_name, passing};
 use elab_values::Made;
 use std::alloc::Global;
 use value_bins::{Elems, SpreadFault, singles, spread};
 
-/// What the bins of a declaration have in common, or the automatic ones.
-#[derive(Drop)]
-pub struct Head {
-    /// The name of the declaration.
-    pub name: Name,
-    /// The kind of its bins.
-    pub kind: BinKind,
-    /// The condition behind `iff`.
-    pub guard: Option<Bound>,
-    /// Where the declaration stands, or the point of automatic bins.
-    pub at: u32,
-    /// The place of the declaration among those of the point; None for automatic bins.
-    pub declared: Option<u32>,
-}
-
-/// How a point makes bins of values, besides what their declarations say.
-#[derive(Clone, Copy, PartialEq, Eq)]
-pub struct Manner {
-    /// Whether a filter is applied to each part of `b[n]`, after the numbers are spread.
-    pub distribute: bool,
-    /// Whether scalar wildcard bins keep their patterns.
-    pub patterns: bool,
-}
-
-/// How many bins a declaration asks for: `b`, `b[]`, or `b[n]`.
-#[derive(Clone, Copy, PartialEq, Eq)]
-pub enum Wanted {
-    /// One of all numbers.
-    One,
-    /// One of each number.
-    Each,
-    /// So many, over which the numbers are spread.
-    Spread { bins: u64 },
-}
-
-/// The bins that a declaration makes.
-#[derive(Drop)]
-pub enum Plan {
-    /// One of all numbers.
-    One,
-    /// One of each of these numbers.
-    Each { numbers: List<Int> },
-    /// So many, over which the numbers are spread.
-    Spread { bins: u32 },
-}
-
-impl Plan {
-    ghost use Rattle.std.specs.Prelude.{◌≡◌};
-    ghost use Rattle.elab_points.specs.Made.{plan_bins};
-
-    /// How many bins that is.
-    pub(crate) fn count(&self) -> usize
-        ensures { result ≡ plan_bins self.now }
-    {
-        match self {
-            Plan::One => 1,
-            Plan::Each { numbers } => numbers.as_slice().len(),
-            Plan::Spread { bins } => *bins as usize,
-        }
-    }
-}
-
 /// What a declaration asks for.
-#[tactic(auto, unfolding(crate::specs::Made::wanted_in))]
+#[tactic(auto, unfolding(elab_bins::specs::Made::wanted_in))]
 pub(crate) fn size_of(
     alloc: Global,
     scope: &Scope,
@@ -108,7 +44,7 @@ pub(crate) fn size_of(
 }
 
 /// The distinct listed numbers, ascending, of which there may be as many as an item may have bins.
-#[tactic(auto, using(crate::proofs::Singles::too_many), unfolding(crate::specs::Made::planned))]
+#[tactic(auto, using(crate::proofs::Singles::too_many), unfolding(elab_bins::specs::Made::planned))]
 fn distinct(alloc: Global, elems: &Elems, at: u32) -> Result<Vec<Int>, ElabFault>
     ensures numbers { IfOk result (λ numbers. numbers.items ≡ ascending (written elems.now)) }
     ensures fault { (have : ℕ) → IfErr result (λ e. Fails e (planned have Each (written elems.now) at)) }
@@ -121,21 +57,8 @@ fn distinct(alloc: Global, elems: &Elems, at: u32) -> Result<Vec<Int>, ElabFault
     }
 }
 
-/// Whether an item that has so many bins may have so many more.
-#[tactic(auto, unfolding(elab_base::specs::Gives::needs))]
-pub(crate) fn check_room(have: usize, more: u64, at: u32) -> Result<(), ElabFault>
-    ensures gives { Gives result (needs (nat_le (have + more) most_bins) kinds.TooManyBins at) }
-    ensures few { OnOk result (more ≤ most_bins) }
-    ensures room { OnOk result (have + more ≤ most_bins) }
-{
-    if have > MOST_BINS || more > (MOST_BINS - have) as u64 {
-        return Err(ElabKind::TooManyBins.at(at));
-    }
-    Ok(())
-}
-
 /// The bins that a declaration makes, where its item, which has so many, has room for them.
-#[tactic(auto, unfolding(crate::specs::Made::planned))]
+#[tactic(auto, unfolding(elab_bins::specs::Made::planned))]
 pub(crate) fn make_plan(
     alloc: Global,
     have: usize,
@@ -165,35 +88,6 @@ pub(crate) fn make_plan(
             Ok(Plan::Spread { bins: bins as u32 })
         }
     }
-}
-
-/// `name[index]`
-#[tactic(auto, unfolding(crate::specs::Made::indexed))]
-pub(crate) fn indexed_name(alloc: Global, name: &[u8], index: &[u8]) -> Result<Name, Memory>
-    ensures { IfOk result (λ text. text ≡ indexed name.now index.now) }
-{
-    let mut text = Vec::from_slice(alloc, name)?;
-    text.push(b'[')?;
-    text.extend_from_slice(index)?;
-    text.push(b']')?;
-    Name::from_vec(text)
-}
-
-/// A bin of a declaration, or an automatic one.
-pub(crate) fn bin_of(alloc: Global, head: &Head, name: Name, rule: BinRule) -> Result<Made, Memory>
-    ensures { IfOk result (λ made. made ≡ named_bin head.now name rule) }
-{
-    let guard = copy_guard(alloc, &head.guard)?;
-    Ok(Made {
-        bin: BinInfo {
-            name,
-            kind: head.kind,
-            rule,
-            guard,
-        },
-        at: head.at,
-        declared: head.declared,
-    })
 }
 
 fn single_bin(alloc: Global, head: &Head, value: Int) -> Result<Made, Memory>
@@ -324,7 +218,7 @@ fn whole_bin(alloc: Global, head: &Head, elems: &Elems) -> Result<List<Made>, Me
 }
 
 /// The bins of a declaration that lists `numbers`, of which a filter keeps `kept`.
-#[tactic(auto, unfolding(crate::specs::Made::bins_made))]
+#[tactic(auto, unfolding(elab_bins::specs::Made::bins_made))]
 pub(crate) fn bins_of(
     alloc: Global,
     distribute: bool,

@@ -8,12 +8,12 @@ use Rattle.std.proofs.lemmas.List.Kept.{AllPairs-cons, AllPairs-filter}
 use Rattle.cov_tree.specs.declared.bins.BinsDecl.{BinsDecl}
 use Rattle.const_eval.specs.Terms.{Term}
 use Rattle.trans_seq.specs.declared.seq.Seq.{Seq}
-use Rattle.trans_seq.specs.Lists.{has_endless, is_among, lists_by_all, listed_by_all}
+use Rattle.trans_lists.specs.Lists.{has_endless, is_among, lists_by_all, listed_by_all}
 use Rattle.trans_seq.specs.Words.{word_of}
 use Rattle.trans_seq.proofs.Members.{none_in, first_in, later_in, cases_in, in_filter, from_filter, in_map}
-use Rattle.trans_seq.proofs.News.{among_first, among_later}
-use Rattle.trans_seq.proofs.Counted.{AllDiffer, news_differ}
-use Rattle.trans_seq.proofs.MergeLemmas.{all-windows}
+use Rattle.trans_lists.proofs.News.{among_first, among_later}
+use Rattle.trans_lists.proofs.Counted.{AllDiffer, news_differ}
+use Rattle.trans_lists.proofs.MergeLemmas.{all-windows}
 use Rattle.elab_values.specs.declared.made.Made.{Made}
 use Rattle.elab_transitions.specs.Lists.{seq_of_list}
 use Rattle.elab_values.specs.Words.{kind_of}

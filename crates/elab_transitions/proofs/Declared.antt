@@ -9,7 +9,7 @@ use Rattle.cov_tree.specs.declared.bins.Step.{Step}
 use Rattle.const_eval.specs.Terms.{Term}
 use Rattle.const_eval.specs.Scopes.{Levels}
 use Rattle.trans_seq.specs.declared.seq.Seq.{Seq}
-use Rattle.trans_seq.specs.Lists.{has_endless}
+use Rattle.trans_lists.specs.Lists.{has_endless}
 use Rattle.elab_base.specs.declared.fault.ElabKind.TheVariants as kind
 use Rattle.elab_base.specs.Gives.{needs}
 use Rattle.elab_base.specs.Steps.{guard_in}

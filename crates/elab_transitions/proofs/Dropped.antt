@@ -9,7 +9,7 @@ use Rattle.const_eval.specs.Terms.{Term}
 use Rattle.trans_seq.specs.declared.seq.Seq.{Seq}
 use Rattle.trans_seq.specs.Windows.{InSeq, InSome}
 use Rattle.trans_seq.specs.Words.{known}
-use Rattle.trans_seq.specs.Lists.{listed_by_all}
+use Rattle.trans_lists.specs.Lists.{listed_by_all}
 use Rattle.trans_seq.proofs.Members.{none_in, cases_in}
 use Rattle.trans_seq.proofs.WordLemmas.{in_seq_word}
 use Rattle.design_data.specs.Bins.{seqs_of}

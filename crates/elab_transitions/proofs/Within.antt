@@ -15,10 +15,10 @@ use Rattle.trans_seq.specs.declared.seq.Seq.{Seq}
 use Rattle.trans_seq.specs.declared.seq.Repeat.{Repeat}
 use Rattle.trans_seq.specs.declared.seq.Repeat.TheVariants.{Once, Consec, Goto, NonConsec}
 use Rattle.trans_seq.specs.Cells.{cells_of_repeat, cells_of_items, cells_of_seqs}
-use Rattle.trans_seq.specs.Lists.{goes_on, is_endless, has_endless, listed_by_all}
+use Rattle.trans_lists.specs.Lists.{goes_on, is_endless, has_endless, listed_by_all}
 use Rattle.trans_seq.specs.Windows.{InRepeat, InSeq, InSome, is_known_in, is_end}
 use Rattle.trans_seq.proofs.Members.{none_in, first_in, later_in, cases_in}
-use Rattle.trans_seq.proofs.MergeLemmas.{all-windows}
+use Rattle.trans_lists.proofs.MergeLemmas.{all-windows}
 use Rattle.design_data.specs.Bins.{seqs_of}
 use Rattle.design_data.specs.Left.{is_same_seq, has_lists, has_numbers, has_seq_left}
 use Rattle.elab_values.specs.declared.made.Made.{Made}

@@ -13,7 +13,7 @@ use Rattle.trans_seq.specs.declared.seq.Item.{Item}
 use Rattle.trans_seq.specs.declared.seq.Seq.{Seq}
 use Rattle.trans_seq.specs.declared.seq.Repeat.{Repeat}
 use Rattle.trans_seq.specs.declared.seq.Repeat.TheVariants.{Once, Consec, Goto, NonConsec}
-use Rattle.trans_seq.specs.Lists.{from_on}
+use Rattle.trans_lists.specs.Lists.{from_on}
 use Rattle.trans_seq.specs.Windows.{Then, AllInside, AllOutside, IsOne, IsBlock, IsBlocks, IsGoto, InBlocks, InRepeat, InSeq, SomeHasWord, is_end, is_known_in}
 use Rattle.elab_transitions.specs.Tests.{is_then, are_inside, are_outside, is_one, is_block, are_blocks, is_goto, in_blocks, in_repeat, in_seq, in_some}
 

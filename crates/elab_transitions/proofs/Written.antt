@@ -15,7 +15,7 @@ use Rattle.trans_seq.specs.declared.seq.Item.{Item}
 use Rattle.trans_seq.specs.declared.seq.Seq.{Seq}
 use Rattle.trans_seq.specs.declared.seq.Repeat.{Repeat}
 use Rattle.trans_seq.specs.declared.seq.Repeat.TheVariants.{Once, Consec, Goto, NonConsec}
-use Rattle.trans_seq.specs.Lists.{goes_on, is_endless, has_endless}
+use Rattle.trans_lists.specs.Lists.{goes_on, is_endless, has_endless}
 use Rattle.trans_seq.specs.Windows.{IsOne, IsBlocks, IsGoto, InRepeat, InSeq, is_known_in, is_end}
 use Rattle.design_data.specs.Left.{has_numbers}
 use Rattle.elab_base.specs.declared.fault.ElabKind.TheVariants as kind

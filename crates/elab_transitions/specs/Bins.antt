@@ -11,7 +11,7 @@ use Rattle.const_eval.specs.Terms.{Term}
 use Rattle.const_eval.specs.Scopes.{Levels}
 use Rattle.trans_seq.specs.declared.seq.Seq.{Seq}
 use Rattle.trans_seq.specs.Cells.{cells_of_items, cells_of_seqs}
-use Rattle.trans_seq.specs.Lists.{goes_on, listed_by_all}
+use Rattle.trans_lists.specs.Lists.{goes_on, listed_by_all}
 use Rattle.design_data.specs.declared.infos.BinKind.{BinKind}
 use Rattle.design_data.specs.declared.infos.BinKind.TheVariants.{IllegalBin, IgnoreBin, DefaultBin}
 use Rattle.design_data.specs.declared.infos.BinRule.{BinRule}

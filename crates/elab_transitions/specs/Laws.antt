@@ -8,7 +8,7 @@ use Rattle.const_eval.specs.Terms.{Term}
 use Rattle.const_eval.specs.Scopes.{Levels}
 use Rattle.trans_seq.specs.declared.seq.Seq.{Seq}
 use Rattle.trans_seq.specs.Cells.{cells_of_seqs}
-use Rattle.trans_seq.specs.Lists.{has_endless}
+use Rattle.trans_lists.specs.Lists.{has_endless}
 use Rattle.trans_seq.specs.Windows.{SomeHasWord}
 use Rattle.design_data.specs.Bins.{seqs_of as seqs_of_rule}
 use Rattle.design_data.specs.Laws.{AddsNoWindow}

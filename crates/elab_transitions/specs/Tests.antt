@@ -7,7 +7,7 @@ use Rattle.trans_seq.specs.declared.seq.Item.{Item}
 use Rattle.trans_seq.specs.declared.seq.Seq.{Seq}
 use Rattle.trans_seq.specs.declared.seq.Repeat.{Repeat}
 use Rattle.trans_seq.specs.declared.seq.Repeat.TheVariants.{Once, Consec, Goto, NonConsec}
-use Rattle.trans_seq.specs.Lists.{from_on}
+use Rattle.trans_lists.specs.Lists.{from_on}
 use Rattle.trans_seq.specs.Windows.{is_end}
 
 -- the list begins with a list of p, and what follows is a list of q

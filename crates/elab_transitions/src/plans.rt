@@ -2,7 +2,7 @@
 ghost use Rattle.std.specs.Prelude.{◌≡◌, ◌+◌, min, nat_le, ℕ, true, IfOk, IfErr};
 ghost use Rattle.std.specs.List.{list_all, list_any};
 ghost use Rattle.cov_ground.specs.Limits.{most_bins};
-ghost use Rattle.trans_seq.specs.Lists.{goes_on as repeat_goes_on, listed_by_all};
+ghost use Rattle.trans_lists.specs.Lists.{goes_on as repeat_goes_on, listed_by_all};
 ghost use Rattle.elab_base.specs.declared.fault.ElabKind.TheVariants as kinds;
 ghost use Rattle.elab_base.specs.Gives.{Gives, Fails, needs};
 ghost use Rattle.elab_transitions.specs.Bins.{is_removing as is_removing_word, any_goes_on as some_goes_on, is_bounded as is_bounded_by, is_within as is_within_limit, is_short as is_short_by, removing_after as removing_then, removing_in, bins_in, plan_in, fitted};
@@ -14,7 +14,8 @@ use cov_tree::{BinsDecl, List, Word};
 use elab_base::{ElabFault, ElabKind};
 use elab_values::is_array;
 use std::alloc::Global;
-use trans_seq::{ExpandFault, Repeat, Seq, cells, cells_of_seqs, expand_all};
+use trans_lists::{ExpandFault, expand_all};
+use trans_seq::{Repeat, Seq, cells, cells_of_seqs};
 
 /// What stands before a declaration of a point.
 #[derive(Clone, Copy, PartialEq, Eq)]

@@ -12,13 +12,14 @@ use Rattle.design_data.specs.Laws.{Value}
 use Rattle.word_table.specs.declared.row.PlacedWord.{PlacedWord}
 use Rattle.word_table.specs.Placed.{HasPlace, EndsAt, AddsEnded}
 use Rattle.word_table.proofs.Keeping.{last_itself}
-use Rattle.point_sampler.specs.declared.plan.Machine.{Machine}
-use Rattle.point_sampler.specs.declared.plan.Removers.{Removers}
+use Rattle.point_tables.specs.declared.tables.Machine.{Machine}
+use Rattle.point_tables.specs.declared.tables.Removers.{Removers}
 use Rattle.point_sampler.specs.declared.plan.PointPlan.{PointPlan}
-use Rattle.point_sampler.specs.Plans.{removed_by}
+use Rattle.point_tables.specs.Tables.{removed_by}
 use Rattle.point_sampler.specs.Points.{RunsStand, AreRecent}
 use Rattle.point_sampler.specs.Met.{IsPlaceOf, MetBy, EndedBy, Answered, SomeTaken, Ascend, StandApart, IsTracePlace, AreTransMet}
-use Rattle.point_sampler.proofs.Places.{in_none, once_append}
+use Rattle.point_tables.proofs.Places.{in_none}
+use Rattle.point_sampler.proofs.Places.{once_append}
 
 -- ---- what they say
 

@@ -1,9 +1,9 @@
 -- Which bins of a point are met at a value of its trace.
-use Rattle.std.proofs.Common.{◌≡◌, ◌≢◌, ◌⊎◌, ℕ, ◌+◌, ◌<◌, List, [], ◌∷◌, ◌++◌, length, get_or, drop, Bool, true, false, Option, Some, None, refl, ap, sym, subst, ◌∙◌, inl, inr, arith}
+use Rattle.std.proofs.Common.{◌≡◌, ◌≢◌, ◌⊎◌, ℕ, zero, suc, ◌+◌, ◌<◌, List, [], ◌∷◌, ◌++◌, length, get_or, drop, Bool, true, false, Option, Some, None, refl, ap, sym, subst, ◌∙◌, inl, inr, arith}
 use Rattle.std.specs.Prelude.{Contains, AllPairs, All, slice_get, not}
 use Rattle.std.proofs.lemmas.Bool.{false≢true, true≢false}
 use Rattle.std.proofs.lemmas.List.Elements.{Contains-append_left, Contains-append_right, Contains-append_cases, Contains-get_or}
-use Rattle.std.proofs.lemmas.Option.{slice_get_within, slice_get-get_or, get_or_from_slice_get}
+use Rattle.std.proofs.lemmas.Option.{cond_some, slice_get_within, slice_get-get_or, get_or_from_slice_get}
 use Rattle.trans_seq.specs.declared.seq.Seq.{Seq}
 use Rattle.trans_seq.specs.Windows.{InSome, EndsKept, EndsWindow}
 use Rattle.design_data.specs.declared.infos.ItemInfo.{ItemInfo}
@@ -17,13 +17,33 @@ use Rattle.design_data.specs.Laws.{Value, is_listed}
 use Rattle.cov_counting.specs.Hits.{Meets, EndsNone, IsDefaultSequence}
 use Rattle.word_table.specs.Placed.{EndsAt}
 use Rattle.point_sampler.specs.declared.plan.PointPlan.{PointPlan}
-use Rattle.point_sampler.specs.declared.plan.Machine.{Machine}
-use Rattle.point_sampler.specs.Plans.{IsPlanOf, removed_by, machines_from, is_default_sequence, places_from, has_value}
+use Rattle.point_tables.specs.declared.tables.Machine.{Machine}
+use Rattle.point_sampler.specs.Plans.{IsPlanOf, is_default_sequence}
+use Rattle.point_tables.specs.Tables.{removed_by, machine_of, machines_from, places_from, has_value}
 use Rattle.point_sampler.specs.Met.{MetBy, StandApart, IsTransPlace, IsTracePlace, EndsNowhere, AreTransMet, SomeMeets, AreMet}
-use Rattle.point_sampler.proofs.Places.{once_append, from_places, to_places, places_once}
-use Rattle.point_sampler.proofs.Automata.{from_machines, to_machines}
+use Rattle.point_sampler.proofs.Places.{in_first, once_append, from_places, to_places, places_once}
+use Rattle.point_tables.proofs.Automata.{from_machines}
 use Rattle.point_sampler.proofs.Knowing.{kept_by_word, window_by_word}
-use Rattle.point_sampler.proofs.Taking.{same_bin}
+use Rattle.point_tables.proofs.Bins.{same_bin}
+
+-- ---- automata
+
+-- each transition bin is among those that are to have an automaton
+pub to_machines : (first : ℕ) (bins : List BinInfo) (index : ℕ) (bin : BinInfo) (seqs : List Seq) → slice_get bins index ≡ Some bin → bin.rule ≡ Trans seqs
+    → Contains (machines_from first bins) (record { place = first + index; kind = bin.kind; watcher = seqs })
+to_machines first [] index bin seqs is rule = let lt : index < length {A = BinInfo} [] = slice_get_within [] index bin is in absurd (omega (arith, lt))
+to_machines first (b ∷ bins) zero bin seqs is rule =
+    let e : first ≡ first + 0 = omega arith in
+    let same : bin ≡ b = sym (cond_some true b bin is).1 in
+    Contains-append_left (machine_of first b.kind b.rule) (machines_from (first + 1) bins) (record { place = first + 0; kind = bin.kind; watcher = seqs })
+    (subst (λ (n : ℕ). Contains (machine_of first b.kind b.rule) (record { place = n; kind = bin.kind; watcher = seqs })) e
+    (subst (λ (x : BinInfo). Contains (machine_of first x.kind x.rule) (record { place = first; kind = bin.kind; watcher = seqs })) same
+    (subst (λ (r : BinRule). Contains (machine_of first bin.kind r) (record { place = first; kind = bin.kind; watcher = seqs })) (sym rule)
+    (in_first (record { place = first; kind = bin.kind; watcher = seqs }) []))))
+to_machines first (b ∷ bins) (suc index) bin seqs is rule =
+    let e : first + 1 + index ≡ first + suc index = omega arith in
+    Contains-append_right (machine_of first b.kind b.rule) (machines_from (first + 1) bins) (record { place = first + suc index; kind = bin.kind; watcher = seqs })
+    (subst (λ (n : ℕ). Contains (machines_from (first + 1) bins) (record { place = n; kind = bin.kind; watcher = seqs })) e (to_machines (first + 1) bins index bin seqs is rule))
 
 -- ---- rules
 

@@ -1,33 +1,18 @@
 -- Automata that rest are passed over.
-use Rattle.std.proofs.Common.{◌≡◌, ◌⊎◌, ℕ, zero, suc, ◌+◌, ◌-◌, ◌<◌, ◌≤◌, ℤ, List, [], ◌∷◌, ◌++◌, length, take, get_or, Bool, false, Some, refl, sym, subst, ◌∙◌, inl, inr, arith}
+use Rattle.std.proofs.Common.{◌≡◌, ℕ, zero, suc, ◌+◌, ◌-◌, ◌<◌, ◌≤◌, List, [], ◌∷◌, ◌++◌, length, take, get_or, Bool, false, refl, sym, subst, inl, inr, arith}
 use Rattle.std.specs.Prelude.{Contains}
 use Rattle.std.proofs.lemmas.Bool.{false≢true, cases_lt}
-use Rattle.std.proofs.lemmas.List.{take_more, get_or_default}
+use Rattle.std.proofs.lemmas.List.{take_more}
 use Rattle.trans_auto.specs.State.{Stands}
 use Rattle.design_data.specs.declared.infos.BinKind.TheVariants.{CvgBin}
 use Rattle.design_data.specs.Laws.{Value}
-use Rattle.point_sampler.specs.declared.plan.Machine.{Machine}
-use Rattle.point_sampler.specs.declared.plan.Entrance.{Entrance}
-use Rattle.point_sampler.specs.declared.plan.Removers.{Removers}
-use Rattle.point_sampler.specs.Plans.{key, removed_by, IsOut, AreEntrances}
-use Rattle.point_sampler.specs.Met.{AreResting, SomeTaken, Answered, IsPlaceOf}
+use Rattle.point_tables.specs.declared.tables.Machine.{Machine}
+use Rattle.point_tables.specs.declared.tables.Entrance.{Entrance}
+use Rattle.point_tables.specs.declared.tables.Removers.{Removers}
+use Rattle.point_tables.specs.Tables.{removed_by, AreEntrances, AreResting}
+use Rattle.point_sampler.specs.Met.{SomeTaken, Answered, IsPlaceOf}
 use Rattle.point_sampler.proofs.Answering.{answered_more, place_more}
 use Rattle.point_sampler.proofs.Resting.{rest_stands, rest_kept, rest_window}
-
--- ---- one more that rests
-
-pub rest_more : (entrances : List Entrance) (runs : List (List (ℕ × ℕ))) (v : Value) (from k : ℕ) (run : List (ℕ × ℕ)) (d : Entrance) → run ≡ get_or runs k run → run ≡ [] → k < length runs → length entrances ≡ length runs
-    → IsOut (get_or entrances k d) v → AreResting entrances runs v from k → AreResting entrances runs v from (k + 1)
-rest_more entrances runs v from k run d is none lt same out h j e r ge less = elim (cases_lt j k) [
-  | inl lower ↦ h j e r ge lower
-  | inr past ↦
-      let here : k ≡ j = omega (arith, past, less) in
-      subst (λ (i : ℕ). (get_or runs i r ≡ []) × IsOut (get_or entrances i e) v) here
-      (sym (get_or_default runs k run r lt) ∙ sym is ∙ none, subst (λ (x : Entrance). IsOut x v) (get_or_default entrances k d e (omega (arith, lt, same))) out)
-]
-
-pub out_at : (k : ℕ) (number : ℤ) (e : Entrance) → k ≡ key number → (k < e.low) ⊎ (e.high < k) → IsOut e (Some number)
-out_at k number e is h = subst (λ (n : ℕ). (n < e.low) ⊎ (e.high < n)) is h
 
 -- ---- those that rest, from one place up to another
 

@@ -13,10 +13,11 @@ use Rattle.design_data.specs.declared.infos.BinInfo.{BinInfo}
 use Rattle.design_data.specs.Laws.{Value}
 use Rattle.record_codec.specs.Samples.{Env}
 use Rattle.cov_counting.specs.Hits.{holds}
-use Rattle.point_sampler.specs.declared.plan.Lookup.{Lookup}
+use Rattle.point_tables.specs.declared.tables.Lookup.{Lookup}
 use Rattle.point_sampler.specs.declared.plan.PointPlan.{PointPlan}
 use Rattle.point_sampler.specs.declared.state.PointState.{PointState}
-use Rattle.point_sampler.specs.Plans.{IsPlanOf, IsStill, IsEntry, places_from, has_value}
+use Rattle.point_sampler.specs.Plans.{IsPlanOf, IsStill}
+use Rattle.point_tables.specs.Tables.{IsEntry, places_from, has_value}
 use Rattle.point_sampler.specs.Points.{IsSample, PointStands, IsOutside}
 use Rattle.point_sampler.specs.Met.{raised, IsOn, AllTaken, ValueTaken}
 use Rattle.point_sampler.specs.Quick.{HasKeys, AreRaised}

@@ -1,9 +1,7 @@
 -- Automata that rest: no window stands, and none begins with the value.
-use Rattle.std.proofs.Common.{◌≡◌, ◌↔◌, ℕ, zero, suc, ◌+◌, ◌<◌, List, [], ◌∷◌, ◌++◌, length, drop, get_or, Bool, true, false, refl, ap, sym, subst, ◌∙◌, inl, inr, arith, IsTrue, length-append}
+use Rattle.std.proofs.Common.{◌≡◌, ◌↔◌, ℕ, zero, suc, ◌+◌, ◌<◌, List, [], ◌∷◌, ◌++◌, length, drop, Bool, true, false, refl, ap, sym, subst, ◌∙◌, inl, inr, arith, IsTrue, length-append}
 use Rattle.std.specs.Prelude.{◌&&◌}
 use Rattle.std.specs.List.{AllByRecursion}
-use Rattle.std.proofs.Math.ListN.{get_or-append}
-use Rattle.std.proofs.Math.Seq.{get_or-append_seam}
 use Rattle.std.proofs.lemmas.Bool.{false≢true, cases_lt}
 use Rattle.std.proofs.lemmas.List.{drop-append-le, drop_at}
 use Rattle.trans_seq.specs.declared.seq.Item.{Item}
@@ -18,10 +16,8 @@ use Rattle.trans_auto.proofs.BitLemmas.{no-bit}
 use Rattle.trans_auto.proofs.Languages.{seqs-step, seqs-start, seqs-dead, not_fresh}
 use Rattle.trans_auto.proofs.RunLemmas.{kept-from, window-from, some-drop}
 use Rattle.design_data.specs.Laws.{Value}
-use Rattle.point_sampler.specs.declared.plan.Machine.{Machine}
-use Rattle.point_sampler.specs.declared.plan.Entrance.{Entrance}
-use Rattle.point_sampler.specs.Plans.{BeginsElsewhere, IsEntrance, AreEntrances}
-use Rattle.point_sampler.proofs.Places.{in_none}
+use Rattle.point_tables.specs.Tables.{BeginsElsewhere}
+use Rattle.point_tables.proofs.Places.{in_none}
 
 -- ---- no cell is reached by the value alone
 
@@ -72,24 +68,3 @@ module _ (own removed : List Seq) (v : Value) (out : AllByRecursion (λ seq. Beg
 
   pub rest_window : (w : List Value) → Stands own removed [] w → IsTrue false ↔ EndsWindow own (w ++ v ∷ [])
   rest_window w st = window-from own removed [] (w ++ v ∷ []) false (rest_stands w st) (λ e. absurd (false≢true e)) (λ e run c. absurd (in_none run c))
-
--- ---- one more entrance
-
-pub entrances_none : AreEntrances [] []
-entrances_none = record { same = refl; at = λ k machine entrance lt. absurd (omega (arith, lt)) }
-
-pub entrances_more : (machines : List Machine) (entrances : List Entrance) (machine : Machine) (entrance : Entrance) → IsEntrance machine.watcher entrance → AreEntrances machines entrances → AreEntrances (machines ++ machine ∷ []) (entrances ++ entrance ∷ [])
-entrances_more machines entrances machine entrance is h = record {
-  same = omega (arith, h.same, length-append machines (machine ∷ []), length-append entrances (entrance ∷ []));
-  at = λ k m e lt. elim (cases_lt k (length machines)) [
-    | inl lower ↦ subst (λ (x : Machine). IsEntrance x.watcher (get_or (entrances ++ entrance ∷ []) k e)) (sym (get_or-append machines (machine ∷ []) m k lower))
-        (subst (λ (x : Entrance). IsEntrance (get_or machines k m).watcher x) (sym (get_or-append entrances (entrance ∷ []) e k (omega (arith, lower, h.same)))) (h.at k m e lower))
-    | inr past ↦
-        let is_last : length machines ≡ k = omega (arith, lt, past, length-append machines (machine ∷ [])) in
-        let also : length entrances ≡ k = omega (arith, is_last, h.same) in
-        subst (λ (j : ℕ). IsEntrance (get_or (machines ++ machine ∷ []) j m).watcher (get_or (entrances ++ entrance ∷ []) k e)) is_last
-        (subst (λ (j : ℕ). IsEntrance (get_or (machines ++ machine ∷ []) (length machines) m).watcher (get_or (entrances ++ entrance ∷ []) j e)) also
-        (subst (λ (x : Machine). IsEntrance x.watcher (get_or (entrances ++ entrance ∷ []) (length entrances) e)) (sym (get_or-append_seam machines machine [] m))
-        (subst (λ (x : Entrance). IsEntrance machine.watcher x) (sym (get_or-append_seam entrances entrance [] e)) is)))
-  ];
-}

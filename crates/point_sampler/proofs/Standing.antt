@@ -2,8 +2,8 @@
 use Rattle.std.proofs.Common.{◌≡◌, ◌⊎◌, ℕ, suc, ◌+◌, ◌≤◌, List, [], ◌∷◌, ◌++◌, length, take, Bool, true, false, Option, Some, None, refl, ap, sym, subst, ◌∙◌, inl, inr, arith, add-one}
 use Rattle.std.specs.Prelude.{Contains, slice_get, slice_index, slice_index_or}
 use Rattle.std.proofs.lemmas.Bool.{true≢false, cases_lt}
-use Rattle.cov_spec.specs.Number.{Number}
-use Rattle.cov_spec.specs.Number.Number.{none, yes, no}
+use Rattle.cov_counting.specs.Number.{Number}
+use Rattle.cov_counting.specs.Number.Number.{none, yes, no}
 use Rattle.const_eval.specs.Terms.{Term}
 use Rattle.const_eval.specs.Values.{value}
 use Rattle.design_data.specs.declared.infos.ItemInfo.{ItemInfo}
@@ -18,8 +18,10 @@ use Rattle.point_sampler.specs.declared.plan.PointPlan.{PointPlan}
 use Rattle.point_sampler.specs.declared.state.PointState.{PointState}
 use Rattle.point_sampler.specs.Points.{IsSample, Remembers, CountsStand, PointStands, RowStands}
 use Rattle.point_sampler.specs.Met.{raised, IsOn, SomeMeets, ValueTaken}
-use Rattle.point_sampler.proofs.Places.{in_none, in_cons, in_first, in_later}
-use Rattle.point_sampler.proofs.Taking.{same_bin, at_number, from_number}
+use Rattle.point_tables.proofs.Places.{in_none}
+use Rattle.point_sampler.proofs.Places.{in_cons, in_first, in_later}
+use Rattle.point_tables.proofs.Bins.{same_bin}
+use Rattle.point_sampler.proofs.Taking.{at_number, from_number}
 
 -- ---- numbers
 

@@ -7,7 +7,7 @@ use Rattle.point_sampler.specs.declared.plan.PointPlan.{PointPlan}
 use Rattle.point_sampler.specs.declared.state.PointState.{PointState}
 use Rattle.point_sampler.specs.Points.{RunsStand, OthersStand, AreRecent, Remembers}
 use Rattle.point_sampler.specs.Met.{IsTracePlace, AreTransMet}
-use Rattle.point_sampler.proofs.Places.{in_none}
+use Rattle.point_tables.proofs.Places.{in_none}
 
 module _ (plan : PointPlan) (none : length plan.machines.items ≡ 0) (no_words : plan.words ≡ []) (alone : length plan.sequences.items ≡ 0) where
   pub still_runs : (runs : List (List (ℕ × ℕ))) (w : List Value) → RunsStand plan.machines.items plan.removers runs w

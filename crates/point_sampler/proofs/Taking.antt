@@ -1,6 +1,6 @@
 -- The places of bins that are met, counted one by one.
-use Rattle.std.proofs.Common.{◌≡◌, ◌≢◌, ◌⊎◌, ℕ, zero, suc, ◌+◌, ◌<◌, ◌≤◌, List, [], ◌∷◌, ◌++◌, length, get_or, take, Bool, true, false, cond, Some, None, All, refl, ap, sym, subst, ◌∙◌, inl, inr, arith, length-append}
-use Rattle.std.specs.Prelude.{filter, Contains, AllPairs, slice_get, slice_index, slice_set, Option, IfSome}
+use Rattle.std.proofs.Common.{◌≡◌, ◌≢◌, ◌⊎◌, ℕ, zero, suc, ◌+◌, ◌<◌, ◌≤◌, List, [], ◌∷◌, ◌++◌, length, get_or, take, Bool, true, false, cond, Some, None, All, refl, ap, sym, subst, ◌∙◌, inl, inr, arith}
+use Rattle.std.specs.Prelude.{filter, Contains, AllPairs, slice_get, slice_index, slice_set}
 use Rattle.std.proofs.lemmas.Bool.{false≢true, true≢false, cases_lt}
 use Rattle.std.proofs.lemmas.List.{get_or-set_same, get_or-set_other}
 use Rattle.std.proofs.lemmas.List.Elements.{Contains-append_left, Contains-push, Contains-push_cases, Contains-get_or}
@@ -12,21 +12,15 @@ use Rattle.design_data.specs.declared.infos.BinInfo.{BinInfo}
 use Rattle.design_data.specs.Bins.{is_coverage}
 use Rattle.record_codec.specs.Samples.{Env}
 use Rattle.cov_counting.specs.Hits.{holds}
-use Rattle.point_sampler.specs.declared.plan.Entry.{Entry}
-use Rattle.const_eval.specs.Terms.{Term}
-use Rattle.point_sampler.specs.Plans.{covering, IsGuardAt, IsEntry, IsPlain, AreEntries, AreEntriesOf}
+use Rattle.point_tables.specs.declared.tables.Entry.{Entry}
+use Rattle.point_tables.specs.Tables.{covering, IsEntry, IsPlain, AreEntries}
 use Rattle.point_sampler.specs.Met.{raised, IsOn, PlaceTaken, IsNoted, AllTaken}
-
-pub same_bin : (bins : List BinInfo) (place : ℕ) (a b : BinInfo) → slice_get bins place ≡ Some a → slice_get bins place ≡ Some b → a ≡ b
-same_bin bins place a b e f = (cond_some true a b (sym e ∙ f)).1
+use Rattle.point_tables.proofs.Bins.{same_bin, one_more}
 
 pub some_at : {X : Type 0} → (xs : List X) (k : ℕ) → k < length xs → (x : X) × (slice_get xs k ≡ Some x)
 some_at [] k lt = absurd (omega (arith, lt))
 some_at (x ∷ xs) zero lt = (x, refl)
 some_at (x ∷ xs) (suc k) lt = some_at xs k (omega (arith, lt))
-
-abbrev one_more : Bool → ℕ
-one_more b = cond b 1 0
 
 -- ---- entries
 
@@ -58,52 +52,6 @@ plain_entry bins entries place bin (inr none) empty lt is =
 pub listed_entry : (bins : List BinInfo) (entries : List Entry) (place : ℕ) (bin : BinInfo) (d : Entry) → AreEntries bins entries → (length entries ≡ 0 → ⊥) → place < length bins → slice_get bins place ≡ Some bin → IsEntry bins place bin (get_or entries place d)
 listed_entry bins entries place bin d (inl are) some lt is = are.at place bin (get_or entries place d) is (slice_get-get_or entries place d (omega (arith, lt, are.same)))
 listed_entry bins entries place bin d (inr none) some lt is = absurd (some (ap (λ (es : List Entry). length es) none.0))
-
-pub slice_get_left : {X : Type 0} → (xs ys : List X) (k : ℕ) → k < length xs → slice_get (xs ++ ys) k ≡ slice_get xs k
-slice_get_left [] ys k lt = absurd (omega (arith, lt))
-slice_get_left (x ∷ xs) ys zero lt = refl
-slice_get_left (x ∷ xs) ys (suc k) lt = slice_get_left xs ys k (omega (arith, lt))
-
-pub slice_get_last : {X : Type 0} → (xs : List X) (y : X) → slice_get (xs ++ y ∷ []) (length xs) ≡ Some y
-slice_get_last [] y = refl
-slice_get_last (x ∷ xs) y = slice_get_last xs y
-
--- one bin more
--- the place of a guard is that of a bin
-pub before_within : (bins : List BinInfo) (before : Option ℕ) (guard : Option Term) → IsGuardAt bins before guard → IfSome before (λ earlier. earlier < length bins)
-before_within bins None guard h = tt
-before_within bins (Some place) guard h = slice_get_within bins place h.0 h.1
-
-pub entries_more : (bins : List BinInfo) (place : ℕ) (bin : BinInfo) (entries : List Entry) (entry : Entry) → slice_get bins place ≡ Some bin → IsEntry bins place bin entry → AreEntriesOf bins place entries
-    → AreEntriesOf bins (place + 1) (entries ++ entry ∷ [])
-entries_more bins place bin entries entry is here h = record {
-  same = omega (arith, length-append entries (entry ∷ []), h.same);
-  at = λ p b e is_b is_e. elim (cases_lt p (length entries)) [
-    | inl lower ↦ h.at p b e is_b (sym (slice_get_left entries (entry ∷ []) p lower) ∙ is_e)
-    | inr past ↦
-        let lt : p < length (entries ++ entry ∷ []) = slice_get_within (entries ++ entry ∷ []) p e is_e in
-        let last : length entries ≡ p = omega (arith, past, lt, length-append entries (entry ∷ [])) in
-        let same : place ≡ p = omega (arith, last, h.same) in
-        let is_entry : entry ≡ e = (cond_some true entry e (sym (slice_get_last entries entry) ∙ ap (λ (k : ℕ). slice_get (entries ++ entry ∷ []) k) last ∙ is_e)).1 in
-        let is_bin : bin ≡ b = same_bin bins place bin b is (ap (λ (k : ℕ). slice_get bins k) same ∙ is_b) in
-        subst (λ (k : ℕ). IsEntry bins k b e) same (subst (λ (x : BinInfo). IsEntry bins place x e) is_bin (subst (λ (x : Entry). IsEntry bins place bin x) is_entry here))
-  ];
-}
-
-next_by : (b : Bool) (n : ℕ) → cond b (n + 1) n ≡ n + one_more b
-next_by true n = refl
-next_by false n = omega arith
-
-pub counted_more : (bins : List BinInfo) (place : ℕ) (bin : BinInfo) (covers : Bool) (number next : ℕ) → place < length bins → bin ≡ get_or bins place bin → covers ≡ is_coverage bin.kind
-    → number ≡ length (covering (take place bins)) → next ≡ cond covers (number + 1) number → next ≡ length (covering (take (place + 1) bins))
-counted_more bins place bin covers number next lt is is_covers is_number is_next =
-    let more : length (covering (take (place + 1) bins)) ≡ length (covering (take place bins)) + one_more (is_coverage (get_or bins place bin).kind) = length-filter_more (λ (b : BinInfo). is_coverage b.kind) bins place bin lt in
-    let same : one_more covers ≡ one_more (is_coverage (get_or bins place bin).kind) = ap one_more (is_covers ∙ ap (λ (b : BinInfo). is_coverage b.kind) is) in
-    omega (arith, is_next, next_by covers number, is_number, more, same)
-
-pub counted_few : (covers : Bool) (number next place : ℕ) → next ≡ cond covers (number + 1) number → number ≤ place → next ≤ place + 1
-counted_few true number next place is le = omega (arith, is, le)
-counted_few false number next place is le = omega (arith, is, le)
 
 -- ---- numbers of coverage bins
 

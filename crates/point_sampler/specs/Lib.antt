@@ -1,6 +1,5 @@
 pub mod Plans
 pub mod Points
 pub mod Met
-pub mod Keys
-pub mod Divided
 pub mod Quick
+pub use Rattle.point_tables.specs.Tables

@@ -10,13 +10,12 @@ use Rattle.design_data.specs.Laws.{Value}
 use Rattle.record_codec.specs.Samples.{Env}
 use Rattle.cov_counting.specs.Hits.{holds, Meets}
 use Rattle.word_table.specs.Placed.{HasPlace, StandOnce, EndsAt}
-use Rattle.point_sampler.specs.declared.plan.Removers.{Removers}
-use Rattle.point_sampler.specs.declared.plan.Entrance.{Entrance}
-use Rattle.point_sampler.specs.declared.plan.Machine.{Machine}
+use Rattle.point_tables.specs.declared.tables.Removers.{Removers}
+use Rattle.point_tables.specs.declared.tables.Machine.{Machine}
 use Rattle.point_sampler.specs.declared.plan.PointPlan.{PointPlan}
 use Rattle.point_sampler.specs.declared.counting.Asked.{Asked}
 use Rattle.point_sampler.specs.declared.state.Steps.{Steps}
-use Rattle.point_sampler.specs.Plans.{removed_by, IsOut, covering}
+use Rattle.point_tables.specs.Tables.{removed_by, covering}
 
 -- ---- transitions
 
@@ -49,11 +48,6 @@ pub record EndedBy (machines : List Machine) (w : List Value) : Type 0 where
 pub record Answered (machines : List Machine) (removers : Removers) (w : List Value) (met : List ℕ) (ended : Bool) : Type 0 where
   pub met_by : (place : ℕ) → Contains met place ↔ MetBy machines removers w place
   pub ended_by : IsTrue ended ↔ EndedBy machines w
-
--- the automata from one place up to another rest at the value v: no window stands, and none begins with it
-abbrev pub AreResting : List Entrance → List (List (ℕ × ℕ)) → Value → ℕ → ℕ → Type 0
-AreResting entrances runs v from to = (j : ℕ) (e : Entrance) (r : List (ℕ × ℕ)) → from ≤ j → j < to
-    → (slice_index_or runs j r ≡ []) × IsOut (slice_index_or entrances j e) v
 
 -- the automata before the k-th have taken the value v
 pub record SomeTaken (machines : List Machine) (removers : Removers) (w : List Value) (v : Value) (k : ℕ) (runs : List (List (ℕ × ℕ))) : Type 0 where

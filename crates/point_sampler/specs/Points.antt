@@ -1,6 +1,6 @@
 -- What a point has counted after some of the samples of its instance.
 use Rattle.std.specs.Prelude.{◌≡◌, ◌≢◌, ◌↔◌, ◌⊎◌, ℕ, ◌+◌, ◌-◌, ◌^◌, ◌<◌, ◌≤◌, List, [], length, take, slice_get, slice_index, slice_index_or, Contains, AllPairs, Some, IsTrue}
-use Rattle.cov_spec.specs.Number.{Number}
+use Rattle.cov_counting.specs.Number.{Number}
 use Rattle.const_eval.specs.Terms.{Term}
 use Rattle.trans_auto.specs.State.{Stands}
 use Rattle.design_data.specs.declared.infos.ItemInfo.{ItemInfo}
@@ -13,10 +13,10 @@ use Rattle.cov_counting.specs.Crosses.{SomeHitAt}
 use Rattle.word_table.specs.declared.row.PlacedWord.{PlacedWord}
 use Rattle.word_table.specs.Recent.{AreLast}
 use Rattle.point_sampler.specs.declared.plan.PointPlan.{PointPlan}
-use Rattle.point_sampler.specs.declared.plan.Removers.{Removers}
-use Rattle.point_sampler.specs.declared.plan.Machine.{Machine}
+use Rattle.point_tables.specs.declared.tables.Removers.{Removers}
+use Rattle.point_tables.specs.declared.tables.Machine.{Machine}
 use Rattle.point_sampler.specs.declared.state.PointState.{PointState}
-use Rattle.point_sampler.specs.Plans.{removed_by}
+use Rattle.point_tables.specs.Tables.{removed_by}
 
 -- the m-th of all samples has these values, and there are not more before it than a count can say
 pub record IsSample (all : List Env) (m : ℕ) (env : Env) : Type 0 where

@@ -1,9 +1,9 @@
 -- Points that are counted by their value and the index of their bins alone.
 use Rattle.std.specs.Prelude.{◌≡◌, ◌≢◌, pos, ◌+ℤ◌, ◌≤ℤ◌, ℕ, ◌+◌, ◌-◌, ◌^◌, ◌≤◌, List, [], length, slice_index, Contains, Some}
-use Rattle.bin_spec.specs.Types.{lowest, highest}
+use Rattle.cov_base.specs.Types.{lowest, highest}
 use Rattle.const_eval.specs.Typs.{Typ}
 use Rattle.design_data.specs.declared.infos.ItemInfo.{ItemInfo}
-use Rattle.point_sampler.specs.declared.plan.Lookup.{Lookup}
+use Rattle.point_tables.specs.declared.tables.Lookup.{Lookup}
 use Rattle.point_sampler.specs.declared.plan.PointPlan.{PointPlan}
 use Rattle.point_sampler.specs.Plans.{IsPlanOf, IsStill}
 use Rattle.point_sampler.specs.Met.{raised}

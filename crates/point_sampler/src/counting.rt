@@ -3,14 +3,14 @@ ghost use Rattle.std.specs.Prelude.{◌≡◌, ◌≢◌, ℕ, ◌+◌, ◌<◌,
 ghost use Rattle.const_eval.specs.Terms.{Term};
 ghost use Rattle.cov_counting.specs.Hits.{holds as holds_at};
 ghost use Rattle.design_data.specs.declared.infos.BinInfo.{BinInfo as Bin};
-ghost use Rattle.point_sampler.specs.Plans.{AreEntries, IsEntry, IsGuardAt};
+ghost use Rattle.point_tables.specs.Tables.{AreEntries, IsEntry, IsGuardAt};
 ghost use Rattle.point_sampler.specs.Points.{IsOutside};
 ghost use Rattle.point_sampler.specs.Met.{PlaceTaken, AllTaken, IsAnswered};
 
-use crate::plan::Entry;
 use cov_base::{Int, Memory};
 use cov_counting::holds;
 use design_data::{BinInfo, ItemInfo};
+use point_tables::Entry;
 
 /// A guard that was asked at a sample, and its answer.
 #[derive(Clone, Copy, Drop)]

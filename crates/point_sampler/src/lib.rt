@@ -5,20 +5,14 @@
 #![tactic(auto)]
 
 mod counting;
-mod entrances;
-mod keys;
-mod lookups;
 mod machines;
-mod patterns;
 mod plan;
 mod planning;
 mod point;
-mod questions;
 mod quick;
-mod rules;
 mod state;
-mod values;
 mod words;
 
-pub use plan::{Entrance, Entry, Lookup, Machine, PointPlan, Question, Questions, Removers};
+pub use plan::PointPlan;
+pub use point_tables::{Entrance, Entry, Lookup, Machine, Question, Questions, Removers};
 pub use state::{Ending, PointState, Steps};

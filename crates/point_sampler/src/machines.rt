@@ -3,17 +3,17 @@ ghost use Rattle.std.specs.Prelude.{◌≡◌, ◌≢◌, ◌↔◌, ◌⊎◌, 
 ghost use Rattle.trans_seq.specs.Windows.{EndsKept, EndsWindow};
 ghost use Rattle.trans_auto.specs.State.{Stands, SaysKept, SaysWindow, TakesSample};
 ghost use Rattle.design_data.specs.Laws.{Value};
-ghost use Rattle.point_sampler.specs.Plans.{removed_by, AreEntrances, IsStill};
+ghost use Rattle.point_tables.specs.Tables.{removed_by, AreEntrances};
+ghost use Rattle.point_sampler.specs.Plans.{IsStill};
 ghost use Rattle.point_sampler.specs.Points.{FitsPlan, RunsStand, OthersStand, AreRecent, Remembers};
 ghost use Rattle.point_sampler.specs.Met.{AreSteps, Answered, Ascend, IsPlaceOf, StandApart, IsTracePlace, AreTransMet};
 
-use crate::entrances::first_stirring;
-use crate::plan::{Entrance, Machine, PointPlan, Removers};
-use crate::rules::note;
+use crate::plan::PointPlan;
 use crate::state::{Ending, PointState, Steps};
 use crate::words::push_words;
 use cov_base::{Int, Memory};
 use design_data::BinKind;
+use point_tables::{Entrance, Machine, Removers, first_stirring, note};
 use trans_auto::{Answer, TransState, Watcher};
 
 /// What the sample does to the sequences that take windows away.

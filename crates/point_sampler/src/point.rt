@@ -2,20 +2,20 @@
 ghost use Rattle.std.specs.Prelude.{◌≡◌, ◌∷◌, ◌++◌, ◌+ℤ◌, [], ℕ, ◌+◌, ◌≤◌, pos, List, length, slice_index, Some, IfSome, OnOk};
 ghost use Rattle.design_data.specs.Laws.{Value};
 ghost use Rattle.record_codec.specs.Samples.{Env};
-ghost use Rattle.point_sampler.specs.Plans.{IsPoint, IsPlanOf, IsLookupOf, IsStill};
+ghost use Rattle.point_tables.specs.Tables.{IsPoint, IsLookupOf};
+ghost use Rattle.point_sampler.specs.Plans.{IsPlanOf, IsStill};
 ghost use Rattle.point_sampler.specs.Points.{IsSample, FitsPlan, Remembers, PointStands, RowStands, IsOutside};
 ghost use Rattle.point_sampler.specs.Met.{ValueTaken};
 
 use crate::counting::count_met;
-use crate::keys::key_of;
 use crate::machines::{is_still, push_value};
-use crate::plan::{Lookup, PointPlan};
+use crate::plan::PointPlan;
 use crate::state::PointState;
-use crate::values::add_values;
 use const_eval::{Bound, eval};
 use cov_base::{Int, Memory};
 use cov_counting::holds;
 use design_data::ItemInfo;
+use point_tables::{Lookup, add_values, key_of};
 
 /// The key of a value; None where it is Unknown or has none.
 #[inline(always)]

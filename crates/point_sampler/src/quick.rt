@@ -5,15 +5,17 @@ ghost use Rattle.design_data.specs.declared.infos.BinInfo.{BinInfo as Bin};
 ghost use Rattle.design_data.specs.declared.infos.ItemInfo.{ItemInfo};
 ghost use Rattle.record_codec.specs.Samples.{Env};
 ghost use Rattle.point_sampler.specs.declared.state.PointState.{PointState};
-ghost use Rattle.point_sampler.specs.Plans.{IsPlanOf, IsLookupOf, places_from, has_value};
+ghost use Rattle.point_sampler.specs.Plans.{IsPlanOf};
+ghost use Rattle.point_tables.specs.Tables.{IsLookupOf, places_from, has_value};
 ghost use Rattle.point_sampler.specs.Points.{IsSample, PointStands, IsOutside};
 ghost use Rattle.point_sampler.specs.Quick.{HasKeys, IsQuick, HasRoom, AreRaised};
 
 use crate::machines::is_still;
-use crate::plan::{Lookup, PointPlan};
+use crate::plan::PointPlan;
 use const_eval::laws::known_values_are_of_their_type;
 use const_eval::{Bound, Typ, eval, typ};
 use cov_base::{Int, highest_of, lowest_of};
+use point_tables::Lookup;
 
 /// The greatest key.
 const MOST_KEY: i128 = 0xffff_ffff_ffff_ffff;

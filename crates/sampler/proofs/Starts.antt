@@ -22,7 +22,7 @@ use Rattle.record_codec.specs.Samples.{Env, signal_value, samples_of}
 use Rattle.cov_counting.specs.Hits.{HitAt}
 use Rattle.cov_counting.specs.Crosses.{CrossHitAt}
 use Rattle.cov_counting.specs.Tallies.{IsCount, ShapeHit}
-use Rattle.point_sampler.specs.Plans.{IsPoint}
+use Rattle.point_sampler.specs.Tables.{IsPoint}
 use Rattle.point_sampler.specs.Points.{StateStands}
 use Rattle.point_sampler.specs.declared.plan.PointPlan.{PointPlan}
 use Rattle.point_sampler.specs.declared.state.PointState.{PointState}

@@ -12,6 +12,7 @@ use Rattle.record_codec.specs.Samples.{Env, envs_after, args_of, samples_of}
 use Rattle.record_codec.specs.declared.record.Record.{Record}
 use Rattle.record_codec.specs.declared.record.Event.{Event}
 use Rattle.point_sampler.specs.Plans as points
+use Rattle.point_sampler.specs.Tables.{IsPoint}
 use Rattle.point_sampler.specs.Points as points_stand
 use Rattle.cross_sampler.specs.Numbers.{row_at}
 use Rattle.cross_sampler.specs.Plans as crosses
@@ -32,7 +33,7 @@ pub record IsSample (all : List Env) (m : ℕ) (env : Env) : Type 0 where
 
 -- the plan is that of a point
 abbrev pub IsPointPlan : ItemInfo → ItemPlan → Type 0
-IsPointPlan item (plan.Point p) = points.IsPoint item × points.IsPlanOf item p
+IsPointPlan item (plan.Point p) = IsPoint item × points.IsPlanOf item p
 IsPointPlan item (plan.Cross p) = ⊥
 
 -- the plan is that of a cross of the points at these indexes

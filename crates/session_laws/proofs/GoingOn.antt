@@ -23,8 +23,8 @@ use Rattle.cov_history.specs.Turns.{Wish, Plain, Admit, Revise, wished, TurnsAt}
 use Rattle.upload_stage.specs.declared.fault.StageFault.{StageFault}
 use Rattle.upload_stage.specs.declared.fault.StageFault.TheVariants as stage
 use Rattle.upload_stage.specs.Uploads.{Upload, begin_fault, piece_fault, finish_fault, bytes_of}
-use Rattle.cov_proto.specs.declared.requests.Request.{Request}
-use Rattle.cov_proto.specs.declared.requests.Request.TheVariants as request
+use Rattle.cov_proto.specs.Request.{Request}
+use Rattle.cov_proto.specs.Request.TheVariants as request
 use Rattle.cov_proto.specs.declared.replies.Body.{Body}
 use Rattle.cov_proto.specs.declared.replies.Reply.{Reply}
 use Rattle.cov_proto.specs.Requests.{request_read}

@@ -15,8 +15,8 @@ use Rattle.cov_compile.proofs.Texts.{design_one, design_or_fault, fault_one}
 use Rattle.cov_history.specs.declared.entry.Revision.{Revision}
 use Rattle.upload_stage.specs.declared.fault.StageFault.{StageFault}
 use Rattle.upload_stage.specs.Uploads.{Upload, finish_fault, finished, bytes_of}
-use Rattle.cov_proto.specs.declared.requests.Request.{Request}
-use Rattle.cov_proto.specs.declared.requests.Request.TheVariants as request
+use Rattle.cov_proto.specs.Request.{Request}
+use Rattle.cov_proto.specs.Request.TheVariants as request
 use Rattle.cov_session.specs.Contents.{Content, NoRecord, OtherShape, Fitting, Holds, IsContent, Text, LongText, NoDesign, OtherTables, Revising, Declaring, IsTextContent, tables_apart}
 use Rattle.cov_session.specs.Table.{Row, said_to, said_to_text, IsCommitRow, IsReviseRow, IsRow}
 

@@ -9,8 +9,8 @@ use Rattle.cov_history.specs.declared.entry.Entry.{Entry}
 use Rattle.cov_history.specs.Turns.{Admit, Revise}
 use Rattle.upload_stage.specs.declared.fault.StageFault.{StageFault}
 use Rattle.upload_stage.specs.Uploads.{Upload, finish_fault, finished, bytes_of}
-use Rattle.cov_proto.specs.declared.requests.Request.{Request}
-use Rattle.cov_proto.specs.declared.requests.Request.TheVariants as request
+use Rattle.cov_proto.specs.Request.{Request}
+use Rattle.cov_proto.specs.Request.TheVariants as request
 use Rattle.cov_proto.specs.declared.replies.Body.{Body}
 use Rattle.cov_proto.specs.declared.replies.Body.TheVariants as body
 use Rattle.cov_proto.specs.declared.replies.Reply.{Reply}

@@ -11,7 +11,7 @@ use Rattle.cov_compile.specs.Texts.{Declared}
 use Rattle.cov_history.specs.declared.entry.Entry.{Entry}
 use Rattle.cov_history.specs.Turns.{Wish, Grown}
 use Rattle.upload_stage.specs.Uploads.{Upload}
-use Rattle.cov_proto.specs.declared.requests.Request.{Request}
+use Rattle.cov_proto.specs.Request.{Request}
 use Rattle.cov_proto.specs.declared.replies.Body.{Body}
 use Rattle.cov_proto.specs.declared.replies.Body.TheVariants as body
 use Rattle.cov_proto.specs.declared.replies.Reply.{Reply}

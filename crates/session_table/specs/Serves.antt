@@ -7,7 +7,7 @@ use Rattle.ucis_model.specs.declared.answers.Answer.TheVariants as answer
 use Rattle.cov_history.specs.declared.entry.Entry.{Entry}
 use Rattle.cov_history.specs.Turns.{Wish, TurnsAt}
 use Rattle.upload_stage.specs.Uploads.{Upload}
-use Rattle.cov_proto.specs.declared.requests.Request.{Request}
+use Rattle.cov_proto.specs.Request.{Request}
 use Rattle.cov_proto.specs.declared.replies.Body.{Body}
 use Rattle.cov_proto.specs.declared.replies.Body.TheVariants as body
 use Rattle.cov_proto.specs.declared.replies.Reply.{Reply}

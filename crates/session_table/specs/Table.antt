@@ -10,8 +10,8 @@ use Rattle.cov_history.specs.Turns.{Wish, Plain, Admit, Revise}
 use Rattle.upload_stage.specs.declared.fault.StageFault.{StageFault}
 use Rattle.upload_stage.specs.declared.fault.StageFault.TheVariants as stage
 use Rattle.upload_stage.specs.Uploads.{Upload, begin_fault, piece_fault, finish_fault, begun, with_piece, finished, bytes_of}
-use Rattle.cov_proto.specs.declared.requests.Request.{Request}
-use Rattle.cov_proto.specs.declared.requests.Request.TheVariants as request
+use Rattle.cov_proto.specs.Request.{Request}
+use Rattle.cov_proto.specs.Request.TheVariants as request
 use Rattle.cov_proto.specs.declared.replies.Body.{Body}
 use Rattle.cov_proto.specs.declared.replies.Body.TheVariants as body
 use Rattle.cov_proto.specs.Requests.{request_read}

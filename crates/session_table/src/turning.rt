@@ -4,7 +4,7 @@ ghost use Rattle.std.proofs.Common.{inr};
 ghost use Rattle.std.specs.Arc.{arc_value};
 ghost use Rattle.sampler.specs.Shape.{Fits};
 ghost use Rattle.upload_stage.specs.Uploads.{Upload, begin_fault, piece_fault};
-ghost use Rattle.cov_proto.specs.declared.requests.Request.TheVariants as request;
+ghost use Rattle.cov_proto.specs.Request.TheVariants as request;
 ghost use Rattle.cov_history.specs.Answers.{may_want};
 ghost use Rattle.cov_history.specs.Turns.{wish_of, IsFrom, Admit, Revise};
 ghost use Rattle.store_core.specs.Asks.{asked, Meets};

@@ -98,7 +98,8 @@ pub fn append_copies(alloc: Global, seqs: &[Seq], copies: &mut Vec<Seq>) -> Resu
     Ok(())
 }
 
-pub(crate) fn copied_items(alloc: Global, items: &[Item]) -> Result<Vec<Item>, Memory>
+/// Copies of the items, in order.
+pub fn copied_items(alloc: Global, items: &[Item]) -> Result<Vec<Item>, Memory>
     ensures { IfOk result (λ copies. copies.items ≡ items.now) }
 {
     let mut copies = Vec::with_capacity(alloc, items.len())?;
@@ -108,7 +109,8 @@ pub(crate) fn copied_items(alloc: Global, items: &[Item]) -> Result<Vec<Item>, M
     Ok(copies)
 }
 
-pub(crate) fn same_values(first: &ValueSet, second: &ValueSet) -> bool
+/// Whether both sets have the same values.
+pub fn same_values(first: &ValueSet, second: &ValueSet) -> bool
     ensures { IsTrue result ↔ (first.now ≡ second.now) }
 {
     first == second
@@ -120,7 +122,7 @@ fn same_repeat(first: Repeat, second: Repeat) -> bool
     first == second
 }
 
-pub(crate) fn same_items(first: &[Item], second: &[Item]) -> bool
+fn same_items(first: &[Item], second: &[Item]) -> bool
     ensures { IsTrue result ↔ (first.now ≡ second.now) }
 {
     if first.len() != second.len() {

@@ -1,6 +1,7 @@
 use Rattle.cov_grammar.specs.Rule.{offset}
 use Rattle.cov_grammar.specs.Designs.{written}
-use Rattle.cov_parser.proofs.CovergroupWalks.{fault_of, untyped, formal_unnamed, formal_valued, formal_put}
+use Rattle.item_parser.proofs.MemberWalks.{fault_of}
+use Rattle.cov_parser.proofs.CovergroupWalks.{untyped, formal_unnamed, formal_valued, formal_put}
 use Rattle.cov_parser.proofs.groups.formal.Goals as goal
 
 pub returns-in_err-typ-clause-fault : goal.returns-in_err-typ-clause-fault

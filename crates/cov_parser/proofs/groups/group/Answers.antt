@@ -1,5 +1,5 @@
 use Rattle.cov_grammar.proofs.Steps.{exits}
-use Rattle.expr_parser.proofs.Walks.{ident_reads, ident_fails}
+use Rattle.token_reader.proofs.Walks.{ident_reads, ident_fails}
 use Rattle.cov_parser.proofs.CovergroupWalks.{no_group, group_unnamed, group_named, group_unformal, group_eventless, head_read, group_open, group_stops, group_ends}
 use Rattle.cov_parser.proofs.groups.group.Goals as goal
 

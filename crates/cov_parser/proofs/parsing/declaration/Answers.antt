@@ -1,5 +1,5 @@
 use Rattle.cov_grammar.proofs.Steps.{leads_parses}
-use Rattle.cov_parser.proofs.DeclWalks.{decl_enum, decl_group, decl_named, decl_built_in}
+use Rattle.cov_parser.proofs.DesignWalks.{decl_enum, decl_group, decl_named, decl_built_in}
 use Rattle.cov_parser.proofs.parsing.declaration.Goals as goal
 
 pub returns-in-Some : goal.returns-in-Some

@@ -1,7 +1,7 @@
 use Rattle.std.proofs.Common.{arith}
 use Rattle.cov_grammar.proofs.Whole.{stands_first, stands_next, decl_inside, whole_derives, decl_fails}
 use Rattle.cov_grammar.specs.Fault.{limits}
-use Rattle.cov_parser.proofs.DeclWalks.{err_given}
+use Rattle.item_parser.proofs.DeclWalks.{err_given}
 use Rattle.cov_parser.proofs.parsing.design.Goals as goal
 
 pub loop-place-init : goal.loop-place-init

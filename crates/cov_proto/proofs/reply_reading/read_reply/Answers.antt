@@ -1,7 +1,7 @@
 use Rattle.std.proofs.Common.{arith, subst, Err}
-use Rattle.cov_proto.specs.declared.fault.Fault.{Fault}
+use Rattle.request_forms.specs.declared.fault.Fault.{Fault}
 use Rattle.cov_proto.specs.declared.replies.Reply.{Reply}
-use Rattle.cov_proto.specs.Given.{GivesOrLacks}
+use Rattle.request_forms.specs.Given.{GivesOrLacks}
 use Rattle.cov_proto.specs.Replies.{reply_left}
 use Rattle.cov_proto.proofs.ReplyLaws.{spells_left, none_left}
 use Rattle.cov_proto.proofs.reply_reading.read_reply.Goals as goal

@@ -2,7 +2,7 @@ use denote.Param.Send.{sendable}
 use Rattle.std.proofs.Crossing.{crosses}
 use Rattle.sampler.proofs.plan.Plan.TheSendSync as plan
 use Rattle.sampler.proofs.Designs.{design_sync}
-use Rattle.covd_core.proofs.finding.Source.TheSendSync as source
+use Rattle.covd_commands.proofs.finding.Source.TheSendSync as source
 use Rattle.covd_core.proofs.batches.all_counted.Goals as goal
 
 pub map_indices-requires-sync-F : goal.map_indices-requires-sync-F

@@ -1,7 +1,7 @@
 use Rattle.std.proofs.Common.{◌≡◌, ℕ, ◌+◌, List, Some, length, refl, subst}
 use Rattle.std.specs.Prelude.{slice_get}
 use Rattle.std.proofs.lemmas.Option.{slice_get_read}
-use Rattle.covd_core.specs.declared.finding.Source.{Source}
+use Rattle.covd_commands.specs.declared.finding.Source.{Source}
 use Rattle.covd_core.specs.Batches.{IsCountedIn}
 use Rattle.covd_core.proofs.batches.count_at.Goals as goal
 

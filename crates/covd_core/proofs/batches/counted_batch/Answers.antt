@@ -1,11 +1,14 @@
 use Rattle.std.proofs.Common.{List, ◌∷◌, Result, sym, subst, arith}
 use Rattle.covd_core.specs.declared.batches.Counted.{Counted}
-use Rattle.covd_core.specs.declared.finding.Source.{Source}
-use Rattle.covd_core.specs.declared.stop.Stop.{Stop}
-use Rattle.covd_core.specs.Command.{Files, Origin}
-use Rattle.covd_core.specs.Origins.{origin_of, origins_of}
-use Rattle.covd_core.specs.Batches.{AreReady, AreRead, AreFound}
-use Rattle.covd_core.proofs.Ahead.{read_few, read_short, found_all}
+use Rattle.covd_commands.specs.declared.finding.Source.{Source}
+use Rattle.covd_commands.specs.declared.stop.Stop.{Stop}
+use Rattle.covd_commands.specs.FromFiles.{Files}
+use Rattle.covd_commands.specs.Finding.{Origin}
+use Rattle.covd_commands.specs.Origins.{origin_of, origins_of}
+use Rattle.covd_core.specs.Batches.{AreReady, AreFound}
+use Rattle.covd_commands.specs.Ahead.{AreRead}
+use Rattle.covd_commands.proofs.ReadOn.{read_few, read_short}
+use Rattle.covd_core.proofs.Ahead.{found_all}
 use Rattle.covd_core.proofs.batches.counted_batch.Goals as goal
 
 pub all_counted-requires-clause-ready : goal.all_counted-requires-clause-ready

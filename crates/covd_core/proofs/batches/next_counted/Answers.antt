@@ -1,6 +1,6 @@
 use Rattle.std.proofs.lemmas.Result.{err_from_is_err_and}
 use Rattle.std.specs.Arc.{arc_value}
-use Rattle.covd_core.specs.Origins.{origin_of, origins_of}
+use Rattle.covd_commands.specs.Origins.{origin_of, origins_of}
 use Rattle.covd_core.proofs.Ahead.{next_one}
 use Rattle.covd_core.proofs.batches.next_counted.Goals as goal
 

@@ -2,9 +2,10 @@ use Rattle.std.proofs.Common.{◌≡◌, List, ◌∷◌, Ok, Err, suc, ◌+◌,
 use Rattle.std.proofs.lemmas.Result.{err_from_is_err_and}
 use Rattle.std.specs.Arc.{arc_value}
 use Rattle.merge_store.specs.Stores.{entries_of}
-use Rattle.covd_core.specs.Command.{Files, Origin}
+use Rattle.covd_commands.specs.FromFiles.{Files}
+use Rattle.covd_commands.specs.Finding.{Origin}
 use Rattle.covd_core.specs.Filling.{Takes}
-use Rattle.covd_core.specs.Origins.{origin_of, origins_of}
+use Rattle.covd_commands.specs.Origins.{origin_of, origins_of}
 use Rattle.covd_core.specs.Batches.{AreFound}
 use Rattle.covd_core.proofs.Admissions.{plain_more}
 use Rattle.covd_core.proofs.Fillings.{goes_on, stops}

@@ -2,7 +2,7 @@ use Rattle.std.proofs.Common.{◌≡◌, ◌≤◌, ◌<◌, ◌+◌, ◌^◌, l
 use Rattle.std.specs.Arc.{arc_value}
 use Rattle.merge_store.specs.Stores.{entries_of}
 use Rattle.covd_core.specs.Filling.{IsPlain}
-use Rattle.covd_core.specs.Origins.{origins_of}
+use Rattle.covd_commands.specs.Origins.{origins_of}
 use Rattle.covd_core.specs.Batches.{AreFound}
 use Rattle.covd_core.proofs.Fillings.{SoFar}
 use Rattle.covd_core.proofs.filling.fill.Given as goal

@@ -1,8 +1,9 @@
 use Rattle.std.proofs.lemmas.Result.{err_from_is_err_and}
 use Rattle.std.specs.Arc.{arc_value}
 use Rattle.merge_store.specs.Stores.{entries_of}
-use Rattle.covd_core.specs.Origins.{origin_of}
-use Rattle.covd_core.proofs.Fillings.{found_fits, unfound, unadmitted, taken}
+use Rattle.covd_commands.specs.Origins.{origin_of}
+use Rattle.covd_commands.proofs.Found.{found_fits}
+use Rattle.covd_core.proofs.Fillings.{unfound, unadmitted, taken}
 use Rattle.covd_core.proofs.filling.take_counted.Goals as goal
 
 pub admit_counted-requires-clause-fits : goal.admit_counted-requires-clause-fits

@@ -1,6 +1,6 @@
 use Rattle.std.proofs.Common.{inl, inr, subst}
 use Rattle.std.proofs.lemmas.Result.{IfOk-weaker}
-use Rattle.covd_core.specs.Command.{Checks, Counts, Records}
+use Rattle.covd_commands.specs.Commands.{Checks, Counts, Records}
 use Rattle.covd_core.proofs.printing.answer.Goals as goal
 
 pub returns-in-Some-clause-answer : goal.returns-in-Some-clause-answer

@@ -4,7 +4,7 @@ use Rattle.record_codec.proofs.RecordLaws.{one_record, no_fault, one_fault}
 use Rattle.cov_spec.specs.Told.{Grows}
 use Rattle.covd_core.specs.Command.{ends_of}
 use Rattle.covd_core.proofs.Leaving.{leaves_whole}
-use Rattle.covd_core.proofs.Refusals.{IsReading}
+use Rattle.covd_commands.proofs.Refusals.{IsReading}
 use Rattle.covd_core.proofs.OneAnswer.{has_one_answer}
 use Rattle.covd_core.proofs.printing.print.Goals as goal
 

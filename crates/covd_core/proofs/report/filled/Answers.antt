@@ -1,8 +1,9 @@
 use Rattle.std.proofs.Common.{[], subst, ◌∙◌}
 use Rattle.std.proofs.lemmas.Result.{IfOk-weaker}
 use Rattle.design_data.specs.declared.design.Design.{Design}
-use Rattle.covd_core.specs.Command.{Files, Fills}
-use Rattle.covd_core.specs.Origins.{origins_of}
+use Rattle.covd_commands.specs.FromFiles.{Files}
+use Rattle.covd_core.specs.Command.{Fills}
+use Rattle.covd_commands.specs.Origins.{origins_of}
 use Rattle.covd_core.proofs.report.filled.Goals as goal
 
 pub returns-clause-answer : goal.returns-clause-answer

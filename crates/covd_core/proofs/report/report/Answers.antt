@@ -1,7 +1,8 @@
 use Rattle.std.proofs.Common.{[], inr, subst}
 use Rattle.std.proofs.lemmas.Result.{IfOk-weaker}
-use Rattle.covd_core.specs.Command.{Files, Fills}
-use Rattle.covd_core.specs.Origins.{origins_of}
+use Rattle.covd_commands.specs.FromFiles.{Files}
+use Rattle.covd_core.specs.Command.{Fills}
+use Rattle.covd_commands.specs.Origins.{origins_of}
 use Rattle.covd_core.proofs.Fillings.{fills_from}
 use Rattle.covd_core.proofs.report.report.Goals as goal
 

@@ -1,7 +1,7 @@
 use Rattle.std.proofs.Common.{◌≡◌, [], ◌∷◌, map, sym, ap, ◌∙◌}
 use Rattle.std.specs.Prelude.{codes, string_bytes}
 use Rattle.std.proofs.lemmas.Slice.Eq.{bytes_eq-Decides}
-use Rattle.covd_core.proofs.Items.{two_items}
+use Rattle.covd_commands.proofs.Items.{two_items}
 use Rattle.covd_core.proofs.session.session_words.Goals as goal
 
 pub returns-then-eq : goal.returns-then-eq

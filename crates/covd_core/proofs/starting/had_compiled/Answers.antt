@@ -1,7 +1,7 @@
 use Rattle.std.proofs.Common.{ℕ, List, subst}
 use Rattle.std.specs.Prelude.{Err}
-use Rattle.cov_compile.specs.Compiling.{Compiles}
-use Rattle.covd_core.proofs.Had.{no_design}
+use Rattle.covd_commands.specs.Compiling.{Compiles}
+use Rattle.covd_commands.proofs.Had.{no_design}
 use Rattle.covd_core.proofs.starting.had_compiled.Goals as goal
 
 pub returns-clause-had : goal.returns-clause-had

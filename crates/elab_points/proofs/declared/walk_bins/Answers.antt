@@ -1,5 +1,5 @@
 use Rattle.std.proofs.lemmas.Result.{err_from_is_err_and}
-use Rattle.elab_points.specs.Declarations.{bins_walked}
+use Rattle.elab_bins.specs.Declarations.{bins_walked}
 use Rattle.elab_base.proofs.Folds.{left_more, left_stops, left_done}
 use Rattle.elab_points.proofs.declared.walk_bins.Goals as goal
 

@@ -1,5 +1,5 @@
 use Rattle.elab_base.specs.Gives.{each}
-use Rattle.elab_points.specs.Declarations.{bins_declared, no_bins}
+use Rattle.elab_bins.specs.Declarations.{bins_declared, no_bins}
 use Rattle.elab_base.proofs.Folds.{Left}
 use Rattle.elab_points.proofs.declared.walk_bins.Given as goal
 

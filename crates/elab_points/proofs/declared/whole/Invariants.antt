@@ -1,5 +1,5 @@
 use Rattle.std.proofs.Common.{◌≡◌, take}
-use Rattle.elab_points.specs.Declarations.{whole_elements}
+use Rattle.elab_bins.specs.Declarations.{whole_elements}
 use Rattle.elab_points.proofs.declared.whole.Given as goal
 
 abbrev pub invariant-loop-range : goal.invariant-loop-range

@@ -1,6 +1,6 @@
 use Rattle.std.proofs.Common.{ap, sym, ◌∙◌, List, ◌++◌}
 use Rattle.elab_values.specs.declared.made.Made.{Made}
-use Rattle.elab_points.specs.Left.{bins_left, left_of}
+use Rattle.elab_bins.specs.Left.{bins_left, left_of}
 use Rattle.elab_points.proofs.Removal.{left_more}
 use Rattle.elab_points.proofs.left.bins_left.Goals as goal
 

@@ -1,5 +1,5 @@
 use Rattle.cov_base.specs.Sets.{written}
-use Rattle.bin_spec.specs.Parts.{parts}
+use Rattle.elab_bins.specs.Parts.{parts}
 use Rattle.elab_points.proofs.Filters.{parts_passing}
 use Rattle.elab_points.proofs.made.distributed_sets.Goals as goal
 

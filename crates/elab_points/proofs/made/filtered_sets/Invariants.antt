@@ -1,5 +1,5 @@
 use Rattle.std.proofs.Common.{◌≡◌, map}
-use Rattle.elab_points.specs.Made.{set_filtered}
+use Rattle.elab_bins.specs.Made.{set_filtered}
 use Rattle.elab_points.proofs.made.filtered_sets.Given as goal
 
 abbrev pub invariant-loop-set : goal.invariant-loop-set

@@ -1,5 +1,5 @@
 use Rattle.std.proofs.Common.{◌≡◌, ◌++◌, length}
-use Rattle.elab_points.specs.Made.{part_bins}
+use Rattle.elab_bins.specs.Made.{part_bins}
 use Rattle.elab_points.proofs.made.parts.Given as goal
 
 abbrev pub invariant-loop-set : goal.invariant-loop-set

@@ -1,5 +1,5 @@
 use Rattle.std.proofs.Common.{◌≡◌, map, take}
-use Rattle.elab_points.specs.Made.{single}
+use Rattle.elab_bins.specs.Made.{single}
 use Rattle.elab_points.proofs.made.single_bins.Given as goal
 
 abbrev pub invariant-loop-value : goal.invariant-loop-value

@@ -1,7 +1,7 @@
 use Rattle.std.proofs.Common.{◌≡◌, ap, sym, subst, ◌∙◌, List, ℕ, set, ◌+◌}
 use Rattle.std.specs.Prelude.{slice_get, Some, IfSome}
 use Rattle.design_data.specs.declared.infos.BinInfo.{BinInfo}
-use Rattle.point_sampler.specs.Plans.{IsEntry}
+use Rattle.point_tables.specs.Tables.{IsEntry}
 use Rattle.point_sampler.specs.Met.{IsAnswered}
 use Rattle.point_sampler.proofs.Taking.{some_at, off_taken, on_taken}
 use Rattle.point_sampler.proofs.counting.count_one.Goals as goal

@@ -1,7 +1,7 @@
 use Rattle.std.proofs.Common.{ap, sym, subst, ◌∙◌, List, ℕ, cond, ◌++◌, ◌∷◌, []}
-use Rattle.point_sampler.specs.declared.plan.Machine.{Machine}
-use Rattle.point_sampler.specs.declared.plan.Entrance.{Entrance}
-use Rattle.point_sampler.specs.Plans.{AreEntrances}
+use Rattle.point_tables.specs.declared.tables.Machine.{Machine}
+use Rattle.point_tables.specs.declared.tables.Entrance.{Entrance}
+use Rattle.point_tables.specs.Tables.{AreEntrances}
 use Rattle.point_sampler.specs.Points.{RunsStand}
 use Rattle.point_sampler.specs.Met.{IsPlaceOf, Answered}
 use Rattle.point_sampler.proofs.Answering.{trans_met, trans_among, trans_once, found_ends, found_placed}

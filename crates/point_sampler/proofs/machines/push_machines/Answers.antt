@@ -2,12 +2,12 @@ use Rattle.std.proofs.Common.{◌≡◌, ◌<◌, ◌≤◌, ◌+◌, false, ap,
 use Rattle.std.specs.Prelude.{Contains, slice_set}
 use Rattle.std.proofs.lemmas.List.{take_more, take_all, length-set}
 use Rattle.design_data.specs.Laws.{Value}
-use Rattle.point_sampler.specs.declared.plan.Machine.{Machine}
+use Rattle.point_tables.specs.declared.tables.Machine.{Machine}
 use Rattle.trans_auto.specs.State.{Stands}
-use Rattle.point_sampler.specs.Plans.{removed_by}
+use Rattle.point_tables.specs.Tables.{removed_by}
 use Rattle.point_sampler.specs.Points.{RunsStand}
 use Rattle.point_sampler.specs.Met.{IsPlaceOf, Answered, SomeTaken}
-use Rattle.point_sampler.proofs.Places.{in_none}
+use Rattle.point_tables.proofs.Places.{in_none}
 use Rattle.point_sampler.proofs.Answering.{answered_none, answered_more, taken_first, taken_more, taken_last, among_more, once_more}
 use Rattle.point_sampler.proofs.Passing.{taken_over, answered_over, among_over}
 use Rattle.point_sampler.proofs.machines.push_machines.Goals as goal

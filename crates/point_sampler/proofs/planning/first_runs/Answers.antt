@@ -1,7 +1,7 @@
 use Rattle.std.proofs.Common.{◌≡◌, ◌<◌, ap, sym, subst, ◌∙◌, List, ◌∷◌, [], ℕ, length, get_or, arith, length-append}
 use Rattle.trans_auto.specs.State.{Stands}
-use Rattle.point_sampler.specs.declared.plan.Machine.{Machine}
-use Rattle.point_sampler.specs.Plans.{removed_by}
+use Rattle.point_tables.specs.declared.tables.Machine.{Machine}
+use Rattle.point_tables.specs.Tables.{removed_by}
 use Rattle.point_sampler.proofs.Answering.{first_more}
 use Rattle.point_sampler.proofs.planning.first_runs.Goals as goal
 

@@ -1,7 +1,7 @@
 use Rattle.std.proofs.Common.{◌≡◌, ◌<◌, ℕ, List, [], length, get_or}
 use Rattle.trans_auto.specs.State.{Stands}
-use Rattle.point_sampler.specs.declared.plan.Machine.{Machine}
-use Rattle.point_sampler.specs.Plans.{removed_by}
+use Rattle.point_tables.specs.declared.tables.Machine.{Machine}
+use Rattle.point_tables.specs.Tables.{removed_by}
 use Rattle.point_sampler.proofs.planning.first_runs.Given as goal
 
 abbrev pub invariant-loop-machine : goal.invariant-loop-machine

@@ -1,7 +1,8 @@
 use Rattle.std.proofs.Common.{ap, sym, ◌∙◌, ◌++◌, ◌∷◌, [], Bool, cond, take}
 use Rattle.design_data.specs.declared.infos.BinInfo.{BinInfo}
-use Rattle.point_sampler.specs.Plans.{places_from, is_default_sequence}
-use Rattle.point_sampler.proofs.Places.{places_more, noted_more}
+use Rattle.point_tables.specs.Tables.{places_from}
+use Rattle.point_sampler.specs.Plans.{is_default_sequence}
+use Rattle.point_tables.proofs.Places.{places_more, noted_more}
 use Rattle.point_sampler.proofs.planning.sequences_of.Goals as goal
 
 pub loop-place-preserved : goal.loop-place-preserved

@@ -2,7 +2,7 @@ use Rattle.std.proofs.Common.{◌<◌, ◌∙◌, ap, sym, [], length, refl, ari
 use Rattle.std.proofs.lemmas.Option.{slice_get_within}
 use Rattle.design_data.specs.declared.infos.BinInfo.{BinInfo}
 use Rattle.design_data.specs.Laws.{Value}
-use Rattle.point_sampler.specs.Plans.{places_from, has_value}
+use Rattle.point_tables.specs.Tables.{places_from, has_value}
 use Rattle.point_sampler.proofs.Meeting.{are_met, met_within, met_once}
 use Rattle.point_sampler.proofs.Still.{still_met, none_among, none_once}
 use Rattle.point_sampler.proofs.point.sample_key.Goals as goal

@@ -1,5 +1,5 @@
 use Rattle.std.proofs.Common.{◌≡◌, ℤ, pos, ◌+ℤ◌, ◌≤ℤ◌, ◌-◌, ◌^◌, subst}
-use Rattle.bin_spec.specs.Types.{lowest, highest}
+use Rattle.cov_base.specs.Types.{lowest, highest}
 use Rattle.point_sampler.proofs.quick.has_keys.Goals as goal
 
 pub returns : goal.returns

@@ -1,6 +1,6 @@
 use Rattle.std.proofs.Common.{refl}
 use Rattle.std.specs.Prelude.{Ok, Some, None}
-use Rattle.cov_proto.specs.declared.requests.Request.TheVariants as request
+use Rattle.cov_proto.specs.Request.TheVariants as request
 use Rattle.cov_history.specs.declared.asks.Ask.TheVariants as ask
 use Rattle.upload_stage.specs.Uploads.{begin_fault, piece_fault}
 use Rattle.session_table.specs.Table.{begin_row, piece_row}

@@ -1,6 +1,6 @@
 use Rattle.std.proofs.Common.{◌∙◌}
 use Rattle.std.specs.Prelude.{Err}
-use Rattle.cov_proto.specs.declared.requests.Request.TheVariants as request
+use Rattle.cov_proto.specs.Request.TheVariants as request
 use Rattle.session_table.specs.Contents.{IsContent, Fitting}
 use Rattle.session_table.specs.Says.{FindsRecord}
 use Rattle.session_table.proofs.Uploading.{commit_refused, commit_instead, commit_done, moved}

@@ -1,6 +1,6 @@
 use Rattle.std.proofs.Common.{◌∙◌}
 use Rattle.std.specs.Prelude.{Ok, Err}
-use Rattle.cov_proto.specs.declared.requests.Request.TheVariants as request
+use Rattle.cov_proto.specs.Request.TheVariants as request
 use Rattle.session_table.specs.Says.{FindsText}
 use Rattle.session_table.proofs.Uploading.{revise_refused, revise_instead, revise_done, moved}
 use Rattle.session_table.proofs.turning.revise.Goals as goal

@@ -2,7 +2,7 @@ use Rattle.std.proofs.Common.{subst, sym, true}
 use Rattle.trans_seq.specs.declared.seq.Repeat.TheVariants.{NonConsec}
 use Rattle.trans_seq.specs.Windows.{is_known_in, AllOutside, InItem, InRepeat}
 use Rattle.trans_seq.specs.Reach.{Leads, IsRepeated}
-use Rattle.trans_seq.proofs.ListingLemmas.{if_ok}
+use Rattle.trans_seq.proofs.Results.{if_ok}
 use Rattle.trans_seq.proofs.ReachLemmas.{leads-then}
 use Rattle.trans_seq.proofs.reach.after_item.Goals as goal
 

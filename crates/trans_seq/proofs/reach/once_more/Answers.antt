@@ -1,7 +1,7 @@
 use Rattle.std.proofs.Common.{sym, subst}
 use Rattle.trans_seq.specs.Windows.{is_known_in, AllOutside, IsOne}
 use Rattle.trans_seq.specs.Reach.{Leads, IsPart}
-use Rattle.trans_seq.proofs.ListingLemmas.{if_ok}
+use Rattle.trans_seq.proofs.Results.{if_ok}
 use Rattle.trans_seq.proofs.ReachLemmas.{leads-then}
 use Rattle.trans_seq.proofs.reach.once_more.Goals as goal
 

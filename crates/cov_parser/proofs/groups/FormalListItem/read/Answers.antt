@@ -1,6 +1,6 @@
 use Rattle.std.proofs.Common.{◌∙◌, ap, sym}
 use Rattle.cov_grammar.specs.Designs.{last_is_ref, with_formal}
-use Rattle.expr_parser.proofs.Chains.{unput}
+use Rattle.token_reader.proofs.Chains.{unput}
 use Rattle.cov_parser.proofs.groups.FormalListItem.read.Goals as goal
 
 pub returns-in_err-formal : goal.returns-in_err-formal

@@ -1,9 +1,9 @@
 use Rattle.std.proofs.Common.{subst, length, None}
 use Rattle.std.specs.Prelude.{Option, IfSome}
 use Rattle.const_eval.specs.Terms.{typ_of}
-use Rattle.point_sampler.specs.declared.plan.Lookup.{Lookup}
+use Rattle.point_tables.specs.declared.tables.Lookup.{Lookup}
 use Rattle.point_sampler.specs.Quick.{HasKeys}
-use Rattle.point_sampler.specs.Plans.{IsLookupOf}
+use Rattle.point_tables.specs.Tables.{IsLookupOf}
 use Rattle.point_sampler.proofs.Raising.{same_lookup, keyed, quick_room, quick_once, quick_stands, quick_others}
 use Rattle.point_sampler.proofs.plan.PointPlan.count.Goals as goal
 

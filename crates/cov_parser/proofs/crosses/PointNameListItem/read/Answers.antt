@@ -1,9 +1,0 @@
-use Rattle.cov_grammar.specs.Expressions.{snoc}
-use Rattle.expr_parser.proofs.Chains.{unput}
-use Rattle.cov_parser.proofs.crosses.PointNameListItem.read.Goals as goal
-
-pub returns-in_err-name : goal.returns-in_err-name
-returns-in_err-name c = unput snoc c.args.list.now c.args.list.now _ c.from_residual.ensures.1 (c.in_err-name.ensures _)
-
-pub returns : goal.returns
-returns c = (_, c.in_ok-name.ensures _, c.in_ok-push.ensures)

@@ -1,5 +1,0 @@
-use Rattle.cov_proto.proofs.RequestLaws.{is_decided}
-use Rattle.cov_proto.proofs.laws.faults_of_requests_are_decided_early.Goals as goal
-
-pub returns : goal.returns
-returns c = is_decided

@@ -1,5 +1,0 @@
-use Rattle.cov_proto.proofs.RequestLaws.{more_fails}
-use Rattle.cov_proto.proofs.laws.more_bytes_than_requests_have.Goals as goal
-
-pub returns : goal.returns
-returns c = more_fails

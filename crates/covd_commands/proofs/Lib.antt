@@ -1,0 +1,16 @@
+pub mod Designs
+pub mod Digits
+pub mod Dumping
+pub mod Found
+pub mod Had
+pub mod Items
+pub mod NoForm
+pub mod OneEach
+pub mod Parsing
+pub mod Printed
+pub mod ReadOn
+pub mod Records
+pub mod Refusals
+pub mod Standing
+pub mod Trees
+pub mod Unread

@@ -1,0 +1,86 @@
+//! The words of the commands that fill a store.
+ghost use Rattle.std.specs.Prelude.{◌≡◌, ◌∷◌, [], ℕ, Some, List, map, string_bytes, codes, IfSome, MatchOption};
+ghost use Rattle.cov_ground.specs.Limits.{most_tests};
+ghost use Rattle.covd_commands.specs.Digits.{written as written_meant, bounded as bounded_meant};
+ghost use Rattle.covd_commands.specs.Forms.{most_rounds, IsReportCommand, IsNoReport, IsMakeCommand, IsNoMake};
+
+use crate::numbers::{rounds_of, seed_of, tests_of};
+
+/// The words behind a command's own and the design's; None where this is another command, or too short.
+fn behind<'w>(command: &str, words: &'w [String]) -> Option<(&'w str, &'w [String])>
+    ensures { MatchOption result
+        ((design : List ℕ) (rest : List (List ℕ)) → map string_bytes words.now ≡ command.now ∷ design ∷ rest → ⊥)
+        (λ parts. map string_bytes words.now ≡ command.now ∷ parts.0.now ∷ map string_bytes parts.1.now) }
+{
+    let (first, rest) = words.split_first()?;
+    let (design, rest) = rest.split_first()?;
+    if first.as_str() != command {
+        return None;
+    }
+    Some((design.as_str(), rest))
+}
+
+/// The design's name and the records' of `report`.
+pub fn report_words(words: &[String]) -> Option<(&str, &[String])>
+    ensures { MatchOption result (IsNoReport (map string_bytes words.now)) (λ parts. IsReportCommand (map string_bytes words.now) parts.0.now (map string_bytes parts.1.now)) }
+{
+    let (design, names) = behind("report", words)?;
+    if names.is_empty() {
+        return None;
+    }
+    Some((design, names))
+}
+
+/// What `make` is to make.
+#[derive(Clone, Copy)]
+pub struct Numbers {
+    /// The seed of the generator.
+    pub seed: u64,
+    /// Rounds of each test, at most 1,048,576.
+    pub rounds: u32,
+    /// How many tests, from 1 to 4,096.
+    pub tests: u32,
+}
+
+/// The three words that are all that there is.
+fn three(words: &[String]) -> Option<(&str, &str, &str)>
+    ensures { MatchOption result
+        ((a b c : List ℕ) → map string_bytes words.now ≡ a ∷ b ∷ c ∷ [] → ⊥)
+        (λ parts. map string_bytes words.now ≡ parts.0.now ∷ parts.1.now ∷ parts.2.now ∷ []) }
+{
+    let (first, rest) = words.split_first()?;
+    let (second, rest) = rest.split_first()?;
+    let (third, rest) = rest.split_first()?;
+    if !rest.is_empty() {
+        return None;
+    }
+    Some((first.as_str(), second.as_str(), third.as_str()))
+}
+
+/// The numbers of `make`.
+fn numbers_of(seed: &str, rounds: &str, tests: &str) -> Option<Numbers>
+    ensures { MatchOption result
+        ((s r t : ℕ) → written_meant 20 seed.now ≡ Some s → bounded_meant 0 most_rounds (written_meant 7 rounds.now) ≡ Some r → bounded_meant 1 most_tests (written_meant 4 tests.now) ≡ Some t → ⊥)
+        (λ n. (written_meant 20 seed.now ≡ Some n.seed) × (bounded_meant 0 most_rounds (written_meant 7 rounds.now) ≡ Some n.rounds) × (bounded_meant 1 most_tests (written_meant 4 tests.now) ≡ Some n.tests)) }
+{
+    let seed = seed_of(seed)?;
+    let rounds = rounds_of(rounds)?;
+    let tests = tests_of(tests)?;
+    Some(Numbers {
+        seed,
+        rounds: rounds as u32,
+        tests: tests as u32,
+    })
+}
+
+/// The design's name and the numbers of `make`.
+pub fn make_words(words: &[String]) -> Option<(&str, Numbers)>
+    ensures { MatchOption result (IsNoMake (map string_bytes words.now)) (λ parts. IsMakeCommand (map string_bytes words.now) parts.0.now parts.1.seed parts.1.rounds parts.1.tests) }
+{
+    let (design, rest) = behind("make", words)?;
+    let (seed, rounds, tests) = three(rest)?;
+    match numbers_of(seed, rounds, tests) {
+        Some(numbers) => Some((design, numbers)),
+        None => None,
+    }
+}

@@ -1,4 +1,0 @@
-use Rattle.covd_core.proofs.check.check.Goals as goal
-
-pub returns-in_ok-text-in-Compiled-clause-answer : goal.returns-in_ok-text-in-Compiled-clause-answer
-returns-in_ok-text-in-Compiled-clause-answer g c = (c.in-Compiled.design, rw c.in-Compiled.is at c.in_ok-design.ensures.had, c.in_ok-text-in-Compiled.ensures)

@@ -1,0 +1,12 @@
+pub mod Literals
+pub mod Filters
+pub mod Removal
+pub mod Rooms
+pub mod Sequences
+pub mod Kept
+pub mod Tracked
+pub mod Distinct
+pub mod Named
+pub mod Cuts
+pub mod Clean
+pub mod Exact

@@ -1,0 +1,11 @@
+pub mod Automatic
+pub mod Declarations
+pub mod Filter
+pub mod Laws
+pub mod Left
+pub mod Made
+pub mod Rest
+pub mod Transitions
+pub mod Wildcards
+pub use Rattle.elab_transitions.specs.Removal
+pub use Rattle.bin_spec.specs.Parts

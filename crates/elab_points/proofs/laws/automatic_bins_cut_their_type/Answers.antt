@@ -1,5 +1,0 @@
-use Rattle.elab_points.proofs.Cuts.{automatic_cut}
-use Rattle.elab_points.proofs.laws.automatic_bins_cut_their_type.Goals as goal
-
-pub returns : goal.returns
-returns c = automatic_cut

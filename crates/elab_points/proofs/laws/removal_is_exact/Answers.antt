@@ -1,5 +1,0 @@
-use Rattle.elab_points.proofs.Exact.{removal_exact}
-use Rattle.elab_points.proofs.laws.removal_is_exact.Goals as goal
-
-pub returns : goal.returns
-returns c = removal_exact

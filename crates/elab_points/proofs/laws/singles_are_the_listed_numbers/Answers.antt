@@ -1,5 +1,0 @@
-use Rattle.elab_points.proofs.Distinct.{singles_listed}
-use Rattle.elab_points.proofs.laws.singles_are_the_listed_numbers.Goals as goal
-
-pub returns : goal.returns
-returns c = singles_listed

@@ -1,6 +1,0 @@
-use Rattle.std.proofs.Common.{◌≡◌}
-use Rattle.elab_points.specs.Rest.{all_bins}
-use Rattle.elab_points.proofs.rest.all_bins.Given as goal
-
-abbrev pub invariant-loop-entry : goal.invariant-loop-entry
-invariant-loop-entry l = l.bins ≡ all_bins l.rest l.yielded

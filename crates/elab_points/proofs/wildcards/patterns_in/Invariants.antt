@@ -1,6 +1,0 @@
-use Rattle.std.proofs.Common.{◌≡◌, take}
-use Rattle.elab_points.specs.Wildcards.{patterns_in}
-use Rattle.elab_points.proofs.wildcards.patterns_in.Given as goal
-
-abbrev pub invariant-loop-listed : goal.invariant-loop-listed
-invariant-loop-listed l = l.patterns ≡ patterns_in (take l.listed-index l.elements)

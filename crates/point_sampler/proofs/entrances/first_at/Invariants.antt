@@ -1,7 +1,0 @@
-use Rattle.std.proofs.Common.{◌≡◌, ℤ, Some}
-use Rattle.point_sampler.specs.Plans.{key}
-use Rattle.point_sampler.specs.Met.{AreResting}
-use Rattle.point_sampler.proofs.entrances.first_at.Given as goal
-
-abbrev pub invariant-loop-k : goal.invariant-loop-k
-invariant-loop-k l = (number : ℤ) → l.key ≡ key number → AreResting l.entrances l.runs (Some number) l.from l.k

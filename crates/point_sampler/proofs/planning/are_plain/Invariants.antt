@@ -1,6 +1,0 @@
-use Rattle.std.proofs.Common.{take, All}
-use Rattle.point_sampler.specs.Plans.{IsPlain}
-use Rattle.point_sampler.proofs.planning.are_plain.Given as goal
-
-abbrev pub invariant-loop-bin : goal.invariant-loop-bin
-invariant-loop-bin l = All IsPlain (take l.bin-index l.bins)

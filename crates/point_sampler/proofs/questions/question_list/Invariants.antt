@@ -1,9 +1,0 @@
-use Rattle.std.proofs.Common.{◌≡◌, length}
-use Rattle.point_sampler.specs.Plans.{AreQuestions}
-use Rattle.point_sampler.proofs.questions.question_list.Given as goal
-
-abbrev pub invariant-loop-bin : goal.invariant-loop-bin
-invariant-loop-bin l = record {
-  same : length l.list.items ≡ l.bin-index;
-  each : AreQuestions l.typ l.bins l.list.items;
-}

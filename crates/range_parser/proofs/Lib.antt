@@ -1,0 +1,2 @@
+pub mod ValueWalks
+pub mod SelWalks

@@ -1,0 +1,1 @@
+pub use Rattle.trans_found.specs.Lists

@@ -1,6 +1,0 @@
-use Rattle.std.proofs.Common.{◌≡◌, [], ◌∷◌, take}
-use Rattle.trans_seq.specs.Held.{words}
-use Rattle.trans_seq.proofs.alone.only_list.Given as goal
-
-abbrev pub invariant-loop-item : goal.invariant-loop-item
-invariant-loop-item l = words (take l.item-index l.items) ≡ l.list.items ∷ []

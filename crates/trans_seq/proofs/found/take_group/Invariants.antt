@@ -1,6 +1,0 @@
-use Rattle.std.proofs.Common.{◌++◌, take, map}
-use Rattle.trans_seq.specs.Found.{Takes}
-use Rattle.trans_seq.proofs.found.take_group.Given as goal
-
-abbrev pub invariant-loop-rest : goal.invariant-loop-rest
-invariant-loop-rest l = Takes l.initial.found l.found (map (λ rest. l.first ++ rest) (take l.rest-index l.group))

@@ -1,7 +1,0 @@
-use Rattle.std.proofs.Common.{◌≡◌, ◌++◌}
-use Rattle.std.specs.Prelude.{replicate}
-use Rattle.trans_seq.specs.Held.{once}
-use Rattle.trans_seq.proofs.spread.add_once.Given as goal
-
-abbrev pub invariant-loop : goal.invariant-loop
-invariant-loop l = l.items.items ≡ l.initial.items.items ++ replicate l.counter (once l.item)
