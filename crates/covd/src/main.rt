@@ -3,16 +3,14 @@
 //! The program `covd`: its words, files and standard streams.
 #![tactic(auto)]
 
-mod dump_hints;
 mod ending;
-mod hints;
 mod serving;
 
 use cov_base::Pair;
 use cov_net::{FileShelf, StdSink, StdSource};
 use covd_core::{Status, run};
+use covd_hints::print_hint;
 use ending::{ended, given};
-use hints::print_hint;
 use serving::{is_serve, serve};
 use std::process::ExitCode;
 use std::rt::Files;

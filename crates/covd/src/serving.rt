@@ -7,11 +7,11 @@ ghost use Rattle.cov_workers.specs.Shares.{HasSeat};
 ghost use Rattle.covd_core.specs.Starts.{IsServable};
 ghost use Rattle.covd.specs.Serving.{is_serve, built};
 
-use crate::hints::{print_address_hint, print_hint};
 use cov_base::Pair;
 use cov_net::{FileShelf, StdSink, StdSource};
 use cov_workers::{Shared, Store, open, serve_store};
 use covd_core::{Compiled, ServeWords, Status, serve_start, serve_words};
+use covd_hints::{print_address_hint, print_hint};
 use std::alloc::Global;
 use std::io;
 use std::net::{Net, TcpListener, TcpStream};

@@ -8,81 +8,22 @@
 //! of numbers of calls, counted from 0 and separated by commas, or `-`. What a command behind `keep` or `digest` writes is
 //! the file `r` from then on, and is shown in hexadecimal, or by its length and SHA-256. A line `run WORDS` runs the words
 //! over the files of the folder, and the program ends with the last of their statuses. A line `session ROW` is a row of
-//! sessions (`sessions`). Every other line is the words of a `covd` over the files of the lines before. Each line is written
-//! again, a row of sessions without its first word; behind a command follow its text and its status. The file `stdout` has
-//! the replies of sessions written from the form and not by the program.
+//! sessions, whose forms `command_rows` tells in its `sessions`. Every other line is the words of a `covd` over the files of
+//! the lines before. Each line is written again, a row of sessions without its first word; behind a command follow its text
+//! and its status. The file `stdout` has the replies of sessions written from the form and not by the program.
 #![tactic(auto)]
 
-mod digits;
-mod failing;
-mod files;
-mod keeping;
-mod sessions;
-mod words;
-
-use cov_base::{Pair, SureShelf, SureSource};
-use cov_net::{FileShelf, StdSink, StdSource};
-use covd_core::{Status, run};
-use digits::bytes_of;
-use failing::failing;
-use files::{Files, all_files, changed, keep_blanks, keep_record, lines_of, take_files};
-use keeping::{keep_bytes, keep_digest};
-use sessions::{Table, session};
+use command_rows::{
+    Files, Status, Table, change_record, command, failing_command, keep_blanks, keep_bytes,
+    keep_digest, keep_record, real_command, say, session, split, take_design, take_dump,
+    take_files, take_record,
+};
 use std::alloc::Global;
-use std::io;
 use std::io::{Input, Print};
 use std::process::ExitCode;
 use std::rt::Files as System;
 use std::sync::Wait;
 use std::thread::Threads;
-use words::{copy_of, say, show, show_status, split, words_of};
-
-/// Runs the words over the files of the lines before.
-fn status_of<R: Threads + Sync + Print>(
-    rt: &R,
-    alloc: Global,
-    files: &Files,
-    words: &[String],
-) -> Status {
-    let mut shelf = SureShelf::new(all_files(alloc, files));
-    let mut source = SureSource::new(Vec::new(alloc), 1);
-    let mut sink = StdSink::new(io::writer(rt));
-    let mut link = Pair {
-        source: &mut source,
-        sink: &mut sink,
-    };
-    run(rt, alloc, words, &mut shelf, &mut link)
-}
-
-/// Runs the words over the files of the folder.
-fn real_status_of<R: Threads + Sync + System + Print + AllocGlobal>(
-    rt: &R,
-    words: &[String],
-) -> Status {
-    let mut shelf = FileShelf::new(rt);
-    let mut source = StdSource::new(io::empty());
-    let mut sink = StdSink::new(io::writer(rt));
-    let mut link = Pair {
-        source: &mut source,
-        sink: &mut sink,
-    };
-    run(rt, rt.alloc(), words, &mut shelf, &mut link)
-}
-
-/// Writes the row of a command with its answer.
-fn command<R: Threads + Sync + Print>(rt: &R, alloc: Global, files: &Files, row: &str) {
-    show(rt, "$", row);
-    let status = status_of(rt, alloc, files, &words_of(alloc, row));
-    show_status(rt, status);
-}
-
-/// Writes the row of a command over the files of the folder with its answer.
-fn real_command<R: Threads + Sync + System + Print + AllocGlobal>(rt: &R, row: &str) -> Status {
-    show(rt, "$ covd", row);
-    let status = real_status_of(rt, &words_of(rt.alloc(), row));
-    show_status(rt, status);
-    status
-}
 
 /// Takes a row of a command, whose answer is written.
 fn command_row<R: Threads + Sync + Print>(
@@ -98,16 +39,10 @@ fn command_row<R: Threads + Sync + Print>(
         "digest" => keep_digest(rt, alloc, files, rest),
         "failing" => {
             say(rt, line);
-            failing(rt, alloc, files, rest);
+            failing_command(rt, alloc, files, rest);
         }
         _ => command(rt, alloc, files, line),
     }
-}
-
-/// Takes a record that is made of these bytes.
-fn take_record(alloc: Global, files: &mut Files, digits: &str) {
-    files.whole = bytes_of(alloc, digits);
-    files.record = copy_of(alloc, &files.whole);
 }
 
 /// Takes a row of files: whether it is one.
@@ -119,11 +54,11 @@ fn is_file_row<R: System + AllocGlobal>(
     rest: &str,
 ) -> bool {
     match call {
-        "design" => files.design = lines_of(alloc, rest),
-        "dump" => files.dump = lines_of(alloc, rest),
+        "design" => take_design(alloc, files, rest),
+        "dump" => take_dump(alloc, files, rest),
         "files" => take_files(rt, files, rest),
         "bytes" => take_record(alloc, files, rest),
-        "with" => files.record = changed(alloc, &files.whole, rest),
+        "with" => change_record(alloc, files, rest),
         "as" => keep_record(alloc, files, rest),
         "blanks" => keep_blanks(alloc, files, rest),
         _ => return false,

@@ -1,4 +1,4 @@
-//! Hints for a person, on standard error. What a command prints, and its status, stand without them.
+//! Hints on how a command ended.
 ghost use Rattle.std.specs.Prelude.{◌≤◌, length};
 ghost use Rattle.cov_ground.specs.Limits.{longest_design};
 
@@ -10,7 +10,7 @@ use cov_net::FileShelf;
 use cov_parser::ParseFault;
 use covd_core::{CompileFault, LONGEST_DUMP, Status, compile, refusal_of};
 use elab_base::{ElabFault, ElabKind};
-use std::alloc::{AllocError, Global};
+use std::alloc::Global;
 use std::io;
 use std::rt::Files;
 use text_place::{Fault, place_hint};
@@ -84,163 +84,163 @@ fn meaning(fault: &CompileFault) -> &'static str {
     }
 }
 
-/// The hint on a design text that is refused.
-fn design_hint(alloc: Global, name: &str, text: &[u8]) -> Result<Option<String>, AllocError>
+/// The hint on a fault of a design text.
+fn compile_hint(alloc: Global, name: &str, text: &[u8], fault: CompileFault) -> Option<String>
     requires { length text.now ≤ longest_design }
 {
-    if text.starts_with(b"CVRC") {
-        return Ok(Some(format!(in alloc;
-            "{name} is a test record: the design comes first, as in covd count DESIGN RECORD\n"
-        )?));
-    }
-    let Err(fault) = compile(alloc, text) else {
-        return Ok(None);
-    };
-    let Some(refusal) = refusal_of(fault) else {
-        return Ok(None);
-    };
+    let refusal = refusal_of(fault)?;
     let told = Fault {
         kind: refusal.kind,
         at: refusal.at,
         meaning: meaning(&fault),
     };
-    let hint = place_hint(alloc, name, text, told)?;
-    Ok(Some(hint))
+    place_hint(alloc, name, text, told).ok()
+}
+
+/// The hint on a design text that is refused.
+fn design_hint(alloc: Global, name: &str, text: &[u8]) -> Option<String>
+    requires { length text.now ≤ longest_design }
+{
+    if text.starts_with(b"CVRC") {
+        return format!(in alloc;
+            "{name} is a test record: the design comes first, as in covd count DESIGN RECORD\n"
+        ).ok();
+    }
+    match compile(alloc, text) {
+        Ok(_) => None,
+        Err(fault) => compile_hint(alloc, name, text, fault),
+    }
 }
 
 /// The hint on a file that can't be read.
-fn file_hint(alloc: Global, name: &str, cause: ShelfRefusal) -> Result<Option<String>, AllocError> {
+fn file_hint(alloc: Global, name: &str, cause: ShelfRefusal) -> Option<String> {
     let why = match cause {
         ShelfRefusal::Missing => "there is no such file",
         ShelfRefusal::Failed =>
             "it is no file that can be read: is it there, is it a folder, may you read it?",
         ShelfRefusal::TooLong { .. } =>
             "a design text has at most 1048576 bytes, a record at most 8388608, a dump at most 33554432",
-        ShelfRefusal::Memory => return Ok(None),
+        ShelfRefusal::Memory => return None,
     };
-    Ok(Some(format!(in alloc; "{name}: {why}\n")?))
+    format!(in alloc; "{name}: {why}\n").ok()
+}
+
+/// The first word; none where there is none.
+fn command_of(words: &[String]) -> &str {
+    match words.first() {
+        Some(word) => word.as_str(),
+        None => "",
+    }
+}
+
+/// The words that a command takes.
+fn form_of(command: &str) -> &'static str {
+    match command {
+        "check" => "covd check DESIGN",
+        "count" => "covd count DESIGN RECORD",
+        "report" => "covd report DESIGN RECORD .., with one record or more",
+        "make" =>
+            "covd make DESIGN SEED EVENTS TESTS, three numbers in digits: up to 18446744073709551615, 1048576 and 4096",
+        "record" => "covd record DESIGN DUMP SCOPE ID, where ID has 1 to 255 signs from ! to ~",
+        "session" => "covd session DESIGN",
+        "serve" => "covd serve DESIGN --listen ADDR, or with --seats N behind it, N from 1 to 256",
+        _ =>
+            "covd check, count, report, make, record, session or serve, and what each of them takes, all in UTF-8",
+    }
 }
 
 /// The hint on words that are no command.
-fn words_hint(alloc: Global, words: &[String]) -> Result<String, AllocError> {
-    let form = match words.first().map(|word| word.as_str()) {
-        Some("check") => "covd check DESIGN",
-        Some("count") => "covd count DESIGN RECORD",
-        Some("report") => "covd report DESIGN RECORD .., with one record or more",
-        Some("make") =>
-            "covd make DESIGN SEED EVENTS TESTS, three numbers in digits: up to 18446744073709551615, 1048576 and 4096",
-        Some("record") =>
-            "covd record DESIGN DUMP SCOPE ID, where ID has 1 to 255 signs from ! to ~",
-        Some("session") => "covd session DESIGN",
-        Some("serve") =>
-            "covd serve DESIGN --listen ADDR, or with --seats N behind it, N from 1 to 256",
-        _ =>
-            "covd check, count, report, make, record, session or serve, and what each of them takes, all in UTF-8",
-    };
-    format!(in alloc; "the words are: {form}; covd --help says more\n")
+fn words_hint(alloc: Global, words: &[String]) -> Option<String> {
+    let form = form_of(command_of(words));
+    format!(in alloc; "the words are: {form}; covd --help says more\n").ok()
 }
 
 /// The hint on a record that is refused.
-fn record_hint(alloc: Global, name: &str, bytes: &[u8]) -> Result<Option<String>, AllocError> {
+fn record_hint(alloc: Global, name: &str, bytes: &[u8]) -> Option<String> {
     if bytes.starts_with(b"CVRC") {
-        return Ok(None);
+        return None;
     }
-    Ok(Some(format!(in alloc; "{name} is no test record: it doesn't begin with CVRC\n")?))
+    format!(in alloc; "{name} is no test record: it doesn't begin with CVRC\n").ok()
 }
 
 /// The hint on the design text of a file.
-fn on_design<R: Files + AllocGlobal>(rt: &R, name: &str) -> Result<Option<String>, AllocError> {
+fn on_design<R: Files + AllocGlobal>(rt: &R, name: &str) -> Option<String> {
     match FileShelf::new(rt).load(rt.alloc(), name, LONGEST_DESIGN) {
         Ok(text) => design_hint(rt.alloc(), name, &text),
-        Err(_) => Ok(None),
+        Err(_) => None,
     }
 }
 
 /// The hint on the record of a file.
-fn on_record<R: Files + AllocGlobal>(rt: &R, name: &str) -> Result<Option<String>, AllocError> {
+fn on_record<R: Files + AllocGlobal>(rt: &R, name: &str) -> Option<String> {
     match FileShelf::new(rt).load(rt.alloc(), name, LONGEST_RECORD) {
         Ok(bytes) => record_hint(rt.alloc(), name, &bytes),
-        Err(_) => Ok(None),
+        Err(_) => None,
     }
 }
 
 /// The hint on a file of at most so many bytes, where it can't be read.
-fn on_file<R: Files + AllocGlobal>(
-    rt: &R,
-    name: &str,
-    most: u64,
-) -> Result<Option<String>, AllocError> {
+fn on_file<R: Files + AllocGlobal>(rt: &R, name: &str, most: u64) -> Option<String> {
     match FileShelf::new(rt).load(rt.alloc(), name, most) {
-        Ok(_) => Ok(None),
+        Ok(_) => None,
         Err(cause) => file_hint(rt.alloc(), name, cause),
     }
 }
 
 /// The hint on the first of these files that can't be read, each of at most so many bytes.
-fn on_any_file<R: Files + AllocGlobal>(
-    rt: &R,
-    names: &[String],
-    most: u64,
-) -> Result<Option<String>, AllocError> {
+fn on_any_file<R: Files + AllocGlobal>(rt: &R, names: &[String], most: u64) -> Option<String> {
     for name in names {
-        if let Some(hint) = on_file(rt, name.as_str(), most)? {
-            return Ok(Some(hint));
+        let hint = on_file(rt, name.as_str(), most);
+        if hint.is_some() {
+            return hint;
         }
     }
-    Ok(None)
+    None
 }
 
 /// The hint on the first file that can't be read: a design text, and records or a dump.
-fn on_files<R: Files + AllocGlobal>(
-    rt: &R,
-    words: &[String],
-) -> Result<Option<String>, AllocError> {
+fn on_files<R: Files + AllocGlobal>(rt: &R, words: &[String]) -> Option<String> {
     let [command, design, rest @ ..] = words else {
-        return Ok(None);
+        return None;
     };
-    if let Some(hint) = on_file(rt, design.as_str(), LONGEST_DESIGN)? {
-        return Ok(Some(hint));
+    let hint = on_file(rt, design.as_str(), LONGEST_DESIGN);
+    if hint.is_some() {
+        return hint;
     }
     match (command.as_str(), rest) {
         ("record", [dump, ..]) => on_file(rt, dump.as_str(), LONGEST_DUMP),
         ("count" | "report", records) => on_any_file(rt, records, LONGEST_RECORD),
-        _ => Ok(None),
+        _ => None,
     }
 }
 
 /// The hint on the first of these records that is none.
-fn on_records<R: Files + AllocGlobal>(
-    rt: &R,
-    names: &[String],
-) -> Result<Option<String>, AllocError> {
+fn on_records<R: Files + AllocGlobal>(rt: &R, names: &[String]) -> Option<String> {
     for name in names {
-        if let Some(hint) = on_record(rt, name.as_str())? {
-            return Ok(Some(hint));
+        let hint = on_record(rt, name.as_str());
+        if hint.is_some() {
+            return hint;
         }
     }
-    Ok(None)
+    None
 }
 
 /// The hint on a record that isn't admitted.
-fn admit_hint(alloc: Global, words: &[String]) -> Result<String, AllocError> {
-    let why = match words.first().map(|word| word.as_str()) {
-        Some("make") => "a made test has at most 1048576 events and 8388608 bytes: fewer EVENTS",
+fn admit_hint(alloc: Global, words: &[String]) -> Option<String> {
+    let why = match command_of(words) {
+        "make" => "a made test has at most 1048576 events and 8388608 bytes: fewer EVENTS",
         _ => "a test's ID stands for one record, and a report has room for 4096 tests",
     };
-    format!(in alloc; "{why} (see docs/FORMATS.md)\n")
+    format!(in alloc; "{why} (see docs/FORMATS.md)\n").ok()
 }
 
 /// The hint on how a command with these words ended.
-fn hint_on<R: Files + AllocGlobal>(
-    rt: &R,
-    words: &[String],
-    status: Status,
-) -> Result<Option<String>, AllocError> {
+fn hint_on<R: Files + AllocGlobal>(rt: &R, words: &[String], status: Status) -> Option<String> {
     match (status, words) {
-        (Status::BadWords, _) => Ok(Some(words_hint(rt.alloc(), words)?)),
+        (Status::BadWords, _) => words_hint(rt.alloc(), words),
         (Status::DesignRefused, [_, design, ..]) => on_design(rt, design.as_str()),
         (Status::RecordRefused, [_, _, records @ ..]) => on_records(rt, records),
-        (Status::AdmitRefused, _) => Ok(Some(admit_hint(rt.alloc(), words)?)),
+        (Status::AdmitRefused, _) => admit_hint(rt.alloc(), words),
         (Status::DumpRefused, [_, design, dump, scope, id]) => on_dump(
             rt,
             design.as_str(),
@@ -249,13 +249,13 @@ fn hint_on<R: Files + AllocGlobal>(
             id.as_str(),
         ),
         (Status::ShelfFault | Status::FileTooLong, _) => on_files(rt, words),
-        _ => Ok(None),
+        _ => None,
     }
 }
 
 /// Prints why a command with these words ended so, where there is more to say than its line and status do.
 pub fn print_hint<R: Files + Eprint + AllocGlobal>(rt: &R, words: &[String], status: Status) {
-    if let Ok(Some(hint)) = hint_on(rt, words, status) {
+    if let Some(hint) = hint_on(rt, words, status) {
         // a hint that can't be printed is no failure of the command
         let _ = eprint!(rt; "{hint}");
     }

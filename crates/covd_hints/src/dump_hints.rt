@@ -11,7 +11,7 @@ use design_data::Signal;
 use std::alloc::{AllocError, Global};
 use std::rt::Files;
 use text_place::{Fault, place_hint};
-use vcd_reader::{Dump, DumpFault, DumpVar, read_dump};
+use vcd_reader::{DumpFault, DumpVar, read_dump};
 
 /// The most scopes that are shown.
 const SHOWN: usize = 8;
@@ -33,16 +33,15 @@ fn word_hint(
     kind: &'static str,
     at: u32,
     meaning: &str,
-) -> Result<Option<String>, AllocError>
+) -> Option<String>
     requires { length given.now.bytes.now ≤ longest_dump }
 {
     let fault = Fault { kind, at, meaning };
-    let hint = place_hint(alloc, given.dump, given.bytes, fault)?;
-    Ok(Some(hint))
+    place_hint(alloc, given.dump, given.bytes, fault).ok()
 }
 
 /// The hint on the event of a group.
-fn event_hint(alloc: Global, given: &Given<'_>, at: u32) -> Result<Option<String>, AllocError>
+fn event_hint(alloc: Global, given: &Given<'_>, at: u32) -> Option<String>
     requires { length given.now.text.now ≤ longest_design }
 {
     let fault = Fault {
@@ -50,8 +49,7 @@ fn event_hint(alloc: Global, given: &Given<'_>, at: u32) -> Result<Option<String
         at,
         meaning: "the event of this group names what is no variable and no ref formal, or its iff does",
     };
-    let hint = place_hint(alloc, given.design, given.text, fault)?;
-    Ok(Some(hint))
+    place_hint(alloc, given.design, given.text, fault).ok()
 }
 
 /// Whether a variable stands for signals of this name.
@@ -59,7 +57,14 @@ fn is_named(var: &DumpVar, name: &[u8]) -> bool {
     !var.selected && var.name.as_slice() == name
 }
 
-/// Adds the scopes that have such a variable.
+/// Adds a scope behind those before it.
+fn add_scope(alloc: Global, hint: &mut String, var: &DumpVar) -> Result<(), AllocError> {
+    let scope = String::from_utf8_lossy(alloc, var.scope.as_slice())?;
+    hint.push_str(" ")?;
+    hint.push_str(scope.as_str())
+}
+
+/// Adds the scopes that have such a variable, and a newline.
 fn add_scopes(
     alloc: Global,
     hint: &mut String,
@@ -70,17 +75,22 @@ fn add_scopes(
     for var in vars {
         if is_named(var, name) {
             if shown >= SHOWN {
-                return hint.push_str(" ..");
+                return hint.push_str(" ..\n");
             }
             shown += 1;
-            hint.push_str(" ")?;
-            hint.push_str(String::from_utf8_lossy(alloc, var.scope.as_slice())?.as_str())?;
+            add_scope(alloc, hint, var)?;
         }
     }
-    if shown == 0 {
-        hint.push_str(" none")?;
-    }
-    Ok(())
+    hint.push_str(if shown == 0 { " none\n" } else { "\n" })
+}
+
+/// How the hint on a signal begins that the scope has no variable of.
+fn missing_head(alloc: Global, given: &Given<'_>, signal: &Signal) -> Result<String, AllocError> {
+    let name = String::from_utf8_lossy(alloc, signal.name.as_slice())?;
+    format!(in alloc;
+        "{}: the scope {} has no variable {name}; scopes of the dump that have one:",
+        given.dump, given.scope
+    )
 }
 
 /// The hint on a signal that the scope has no variable of.
@@ -88,21 +98,22 @@ fn missing_hint(
     alloc: Global,
     given: &Given<'_>,
     signal: &Signal,
-    dump: &Dump,
+    vars: &[DumpVar],
 ) -> Result<String, AllocError> {
-    let name = String::from_utf8_lossy(alloc, signal.name.as_slice())?;
-    let mut hint = format!(in alloc;
-        "{}: the scope {} has no variable {name}; scopes of the dump that have one:",
-        given.dump, given.scope
-    )?;
-    add_scopes(
-        alloc,
-        &mut hint,
-        dump.vars.as_slice(),
-        signal.name.as_slice(),
-    )?;
-    hint.push('\n')?;
+    let mut hint = missing_head(alloc, given, signal)?;
+    add_scopes(alloc, &mut hint, vars, signal.name.as_slice())?;
     Ok(hint)
+}
+
+/// The width of the first variable of a name in a scope that has one; 0 where there is none.
+fn width_in(vars: &[DumpVar], scope: &[u8], name: &[u8]) -> u32 {
+    let mut width = 0;
+    for var in vars {
+        if width == 0 && is_named(var, name) && var.scope.as_slice() == scope {
+            width = var.width;
+        }
+    }
+    width
 }
 
 /// The hint on a signal whose variable has another width.
@@ -110,63 +121,66 @@ fn width_hint(
     alloc: Global,
     given: &Given<'_>,
     signal: &Signal,
-    dump: &Dump,
+    vars: &[DumpVar],
 ) -> Result<String, AllocError> {
+    let width = width_in(vars, given.scope.as_bytes(), signal.name.as_slice());
     let name = String::from_utf8_lossy(alloc, signal.name.as_slice())?;
-    let mut width = 0;
-    for var in dump.vars.as_slice() {
-        if width == 0
-            && is_named(var, signal.name.as_slice())
-            && var.scope.as_slice() == given.scope.as_bytes()
-        {
-            width = var.width;
-        }
-    }
     format!(in alloc;
         "{}: {name} has {width} bits in the scope {}, and {} in the design\n",
         given.dump, given.scope, signal.width
     )
 }
 
-/// The hint on the signal of a number.
-fn signal_hint(
+/// The hint on a signal that the dump has no variable of, or one of another width.
+fn signal_text(
     alloc: Global,
     given: &Given<'_>,
-    number: u64,
+    signal: &Signal,
+    vars: &[DumpVar],
     missing: bool,
-) -> Result<Option<String>, AllocError>
+) -> Result<String, AllocError> {
+    if missing {
+        missing_hint(alloc, given, signal, vars)
+    } else {
+        width_hint(alloc, given, signal, vars)
+    }
+}
+
+/// The hint on a signal, by the variables of the dump.
+fn hint_beside(alloc: Global, given: &Given<'_>, signal: &Signal, missing: bool) -> Option<String>
+    requires { length given.now.bytes.now ≤ longest_dump }
+{
+    match read_dump(alloc, given.bytes) {
+        Ok(dump) => signal_text(alloc, given, signal, dump.vars.as_slice(), missing).ok(),
+        Err(_) => None,
+    }
+}
+
+/// The hint on the signal of a number.
+fn signal_hint(alloc: Global, given: &Given<'_>, number: u64, missing: bool) -> Option<String>
     requires text { length given.now.text.now ≤ longest_design }
     requires dump { length given.now.bytes.now ≤ longest_dump }
 {
     let Ok(design) = compile(alloc, given.text) else {
-        return Ok(None);
+        return None;
     };
-    let Ok(dump) = read_dump(alloc, given.bytes) else {
-        return Ok(None);
-    };
-    let Some(signal) = design.signals().get(number as usize) else {
-        return Ok(None);
-    };
-    if missing {
-        return Ok(Some(missing_hint(alloc, given, signal, &dump)?));
+    match design.signals().get(number as usize) {
+        Some(signal) => hint_beside(alloc, given, signal, missing),
+        None => None,
     }
-    Ok(Some(width_hint(alloc, given, signal, &dump)?))
 }
 
 /// The hint on a record that is too large.
-fn large_hint(alloc: Global, given: &Given<'_>) -> Result<Option<String>, AllocError> {
-    Ok(Some(format!(in alloc;
+fn large_hint(alloc: Global, given: &Given<'_>) -> Option<String> {
+    format!(in alloc;
         "{}: a record has at most 1048576 events and 8388608 bytes; cut the dump into pieces, as hooks/vcdprep.py does\n",
         given.dump
-    )?))
+    )
+    .ok()
 }
 
 /// The hint on a dump that is refused so.
-fn fault_hint(
-    alloc: Global,
-    given: &Given<'_>,
-    fault: DumpFault,
-) -> Result<Option<String>, AllocError>
+fn fault_hint(alloc: Global, given: &Given<'_>, fault: DumpFault) -> Option<String>
     requires text { length given.now.text.now ≤ longest_design }
     requires dump { length given.now.bytes.now ≤ longest_dump }
 {
@@ -198,7 +212,7 @@ fn fault_hint(
         DumpFault::NoSignal { n } => signal_hint(alloc, given, n, true),
         DumpFault::WidthDiffers { n } => signal_hint(alloc, given, n, false),
         DumpFault::TooManyEvents { .. } | DumpFault::TooLong { .. } => large_hint(alloc, given),
-        DumpFault::Memory => Ok(None),
+        DumpFault::Memory => None,
     }
 }
 
@@ -209,13 +223,13 @@ pub(crate) fn on_dump<R: Files + AllocGlobal>(
     dump: &str,
     scope: &str,
     id: &str,
-) -> Result<Option<String>, AllocError> {
+) -> Option<String> {
     let alloc = rt.alloc();
     let Ok(text) = FileShelf::new(rt).load(alloc, design, LONGEST_DESIGN) else {
-        return Ok(None);
+        return None;
     };
     let Ok(bytes) = FileShelf::new(rt).load(alloc, dump, LONGEST_DUMP) else {
-        return Ok(None);
+        return None;
     };
     let given = Given {
         design,
@@ -226,6 +240,6 @@ pub(crate) fn on_dump<R: Files + AllocGlobal>(
     };
     match dump_fault(alloc, &text, &bytes, scope.as_bytes(), id.as_bytes()) {
         Some(fault) => fault_hint(alloc, &given, fault),
-        None => Ok(None),
+        None => None,
     }
 }

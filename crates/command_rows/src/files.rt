@@ -9,16 +9,17 @@ use std::rt::Files as System;
 
 /// A design text, a dump, a record, the record before other bytes were put in, and the files that are kept.
 #[derive(Drop)]
-pub(crate) struct Files {
-    pub design: Vec<u8>,
-    pub dump: Vec<u8>,
-    pub record: Vec<u8>,
-    pub whole: Vec<u8>,
-    pub kept: Vec<(String, Vec<u8>)>,
+pub struct Files {
+    design: Vec<u8>,
+    dump: Vec<u8>,
+    pub(crate) record: Vec<u8>,
+    whole: Vec<u8>,
+    kept: Vec<(String, Vec<u8>)>,
 }
 
 impl Files {
-    pub(crate) fn new(alloc: Global) -> Files {
+    /// Files of nothing.
+    pub fn new(alloc: Global) -> Files {
         Files {
             design: Vec::new(alloc),
             dump: Vec::new(alloc),
@@ -30,7 +31,7 @@ impl Files {
 }
 
 /// A text with its newlines.
-pub(crate) fn lines_of(alloc: Global, row: &str) -> Vec<u8> {
+fn lines_of(alloc: Global, row: &str) -> Vec<u8> {
     let mut text = Vec::new(alloc);
     for (place, part) in row.split("\\n").enumerate() {
         if place > 0 {
@@ -39,6 +40,22 @@ pub(crate) fn lines_of(alloc: Global, row: &str) -> Vec<u8> {
         let _ = text.extend_from_slice(part.as_bytes());
     }
     text
+}
+
+/// TEXT: takes a design text.
+pub fn take_design(alloc: Global, files: &mut Files, row: &str) {
+    files.design = lines_of(alloc, row);
+}
+
+/// TEXT: takes a dump.
+pub fn take_dump(alloc: Global, files: &mut Files, row: &str) {
+    files.dump = lines_of(alloc, row);
+}
+
+/// HEX: takes the record that is made of these bytes.
+pub fn take_record(alloc: Global, files: &mut Files, digits: &str) {
+    files.whole = bytes_of(alloc, digits);
+    files.record = copy_of(alloc, &files.whole);
 }
 
 /// Adds a file of these bytes.
@@ -59,12 +76,12 @@ pub(crate) fn all_files(alloc: Global, files: &Files) -> Vec<(String, Vec<u8>)> 
 }
 
 /// NAME: keeps the record as a file too.
-pub(crate) fn keep_record(alloc: Global, files: &mut Files, name: &str) {
+pub fn keep_record(alloc: Global, files: &mut Files, name: &str) {
     add_file(alloc, &mut files.kept, name, &files.record);
 }
 
 /// NAME COUNT: keeps a file of so many blanks.
-pub(crate) fn keep_blanks(alloc: Global, files: &mut Files, row: &str) {
+pub fn keep_blanks(alloc: Global, files: &mut Files, row: &str) {
     let (name, count) = split(row);
     if let Ok(blanks) = vec![in alloc; b' '; count_of(count) as usize] {
         add_file(alloc, &mut files.kept, name, &blanks);
@@ -77,8 +94,8 @@ fn place_of(word: &str, length: usize) -> usize {
     place.min(length)
 }
 
-/// FROM TO HEX: the record with other bytes in place of those from FROM up to TO.
-pub(crate) fn changed(alloc: Global, whole: &[u8], row: &str) -> Vec<u8> {
+/// FROM TO HEX: the bytes with others in place of those from FROM up to TO.
+fn changed(alloc: Global, whole: &[u8], row: &str) -> Vec<u8> {
     let (from, rest) = split(row);
     let (to, digits) = split(rest);
     let from = place_of(from, whole.len());
@@ -87,6 +104,11 @@ pub(crate) fn changed(alloc: Global, whole: &[u8], row: &str) -> Vec<u8> {
     let _ = bytes.append(&mut bytes_of(alloc, digits));
     let _ = bytes.extend_from_slice(whole.get(to..).unwrap_or(b""));
     bytes
+}
+
+/// FROM TO HEX: makes the record the one that was taken, with other bytes in place of those from FROM up to TO.
+pub fn change_record(alloc: Global, files: &mut Files, row: &str) {
+    files.record = changed(alloc, &files.whole, row);
 }
 
 /// The path of the file NAME.KIND.
@@ -102,8 +124,8 @@ fn real_file<R: System + AllocGlobal>(rt: &R, path: &str) -> Vec<u8> {
     }
 }
 
-/// Takes a design text and a dump of a simulator.
-pub(crate) fn take_files<R: System + AllocGlobal>(rt: &R, files: &mut Files, name: &str) {
+/// NAME: takes a design text and the dump of a simulator, from NAME.cov and NAME.vcd.
+pub fn take_files<R: System + AllocGlobal>(rt: &R, files: &mut Files, name: &str) {
     files.design = real_file(rt, path_of(rt.alloc(), name, "cov").as_str());
     files.dump = real_file(rt, path_of(rt.alloc(), name, "vcd").as_str());
 }

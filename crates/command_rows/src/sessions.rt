@@ -32,7 +32,7 @@ use std::thread::Threads;
 
 /// The file of the design, and the bytes to read.
 #[derive(Drop)]
-pub(crate) struct Table {
+pub struct Table {
     design: Vec<u8>,
     before: Vec<u8>,
     first: Vec<u8>,
@@ -88,7 +88,7 @@ fn byte_row(alloc: Global, table: &mut Table, call: &str, rest: &str) -> bool {
 }
 
 /// Takes a row of sessions: a file, bytes, or a session.
-pub(crate) fn session<R: Threads + Wait + Sync + Print>(
+pub fn session<R: Threads + Wait + Sync + Print>(
     rt: &R,
     alloc: Global,
     table: &mut Table,
@@ -103,7 +103,7 @@ pub(crate) fn session<R: Threads + Wait + Sync + Print>(
 
 impl Table {
     /// A table of nothing.
-    pub(crate) fn new(alloc: Global) -> Table {
+    pub fn new(alloc: Global) -> Table {
         Table {
             design: Vec::new(alloc),
             before: Vec::new(alloc),

@@ -29,8 +29,9 @@ fn status_of<R: Threads + Sync>(
     run(rt, alloc, words, &mut shelf, link)
 }
 
-/// Writes the answer of a command of which some calls fail: what it wrote, in a line of its own, and its status.
-pub(crate) fn failing<R: Threads + Sync + Print>(rt: &R, alloc: Global, files: &Files, row: &str) {
+/// READS WRITES WORDS: writes the answer of a command of which these calls fail: what it wrote, in a line of its own, and its
+/// status.
+pub fn failing_command<R: Threads + Sync + Print>(rt: &R, alloc: Global, files: &Files, row: &str) {
     let (reads, rest) = split(row);
     let (writes, words) = split(rest);
     let mut link = link_of(alloc, writes);

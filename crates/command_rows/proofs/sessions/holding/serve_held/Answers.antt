@@ -2,9 +2,9 @@ use denote.Builtin.{u32}
 use denote.Param.{param}
 use denote.Param.Send.{IsSync, sendable}
 use Rattle.std.proofs.Crossing.{crosses, sync}
-use Rattle.covd_rows.specs.contracts.sessions.holding.Signs as signs
+use Rattle.command_rows.specs.contracts.sessions.holding.Signs as signs
 use Rattle.cov_workers.proofs.Sharing.{shared_sync}
-use Rattle.covd_rows.proofs.sessions.holding.serve_held.Goals as goal
+use Rattle.command_rows.proofs.sessions.holding.serve_held.Goals as goal
 
 number_sync : IsSync u32
 number_sync = search sendable

@@ -8,7 +8,7 @@ use std::io::Print;
 use std::mem;
 
 /// The words before and behind the first blank.
-pub(crate) fn split(row: &str) -> (&str, &str) {
+pub fn split(row: &str) -> (&str, &str) {
     row.split_once(' ').unwrap_or((row, ""))
 }
 
@@ -75,7 +75,7 @@ pub(crate) fn words_of(alloc: Global, row: &str) -> Vec<String> {
 }
 
 /// Writes a line.
-pub(crate) fn say<R: Print>(rt: &R, line: &str) {
+pub fn say<R: Print>(rt: &R, line: &str) {
     let _ = println!(rt; "{line}");
 }
 

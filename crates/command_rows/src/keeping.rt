@@ -42,25 +42,15 @@ fn keep<R: Threads + Sync + Print>(rt: &R, alloc: Global, files: &mut Files, row
     status_kept(rt, alloc, files, &words_of(alloc, row))
 }
 
-/// Does such a row, and shows the text in hexadecimal.
-pub(crate) fn keep_bytes<R: Threads + Sync + Print>(
-    rt: &R,
-    alloc: Global,
-    files: &mut Files,
-    row: &str,
-) {
+/// Runs a command, keeps what it writes as the record, and shows that in hexadecimal.
+pub fn keep_bytes<R: Threads + Sync + Print>(rt: &R, alloc: Global, files: &mut Files, row: &str) {
     let status = keep(rt, alloc, files, row);
     show_bytes(rt, alloc, &files.record);
     show_status(rt, status);
 }
 
-/// Does such a row, and shows the length and digest of the text.
-pub(crate) fn keep_digest<R: Threads + Sync + Print>(
-    rt: &R,
-    alloc: Global,
-    files: &mut Files,
-    row: &str,
-) {
+/// Runs a command, keeps what it writes as the record, and shows its length and its SHA-256.
+pub fn keep_digest<R: Threads + Sync + Print>(rt: &R, alloc: Global, files: &mut Files, row: &str) {
     let status = keep(rt, alloc, files, row);
     show_digest(rt, alloc, &files.record);
     show_status(rt, status);
