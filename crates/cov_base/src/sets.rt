@@ -18,9 +18,14 @@ use std::sync::Arc;
 
 /// A set of numbers: the list of its intervals, ascending, each with its low and its high end, no two of which
 /// overlap or touch. Two sets of the same numbers are the same list. A set and its copies stand once in memory.
-#[derive(Drop)]
 pub struct ValueSet {
     kept: Option<Arc<Kept>>,
+}
+
+impl Drop for ValueSet {
+    fn drop(self) {
+        let ValueSet { kept: _ } = self;
+    }
 }
 
 impl Model for ValueSet {

@@ -13,10 +13,15 @@ use std::marker::Model;
 use std::sync::Arc;
 
 /// A design text of at most 1,048,576 bytes, and the design that it declares.
-#[derive(Drop)]
 pub struct Compiled {
     text: Vec<u8>,
     design: Arc<Design>,
+}
+
+impl Drop for Compiled {
+    fn drop(self) {
+        let Compiled { text: _, design: _ } = self;
+    }
 }
 
 impl Model for Compiled {

@@ -43,7 +43,6 @@ pub enum Times {
 }
 
 /// A step of a transition, at its first token.
-#[derive(Drop)]
 pub struct Step {
     /// Its values, one or more.
     pub elems: List<Elem>,
@@ -51,6 +50,16 @@ pub struct Step {
     pub times: Times,
     /// Where it begins.
     pub at: u32,
+}
+
+impl Drop for Step {
+    fn drop(self) {
+        let Step {
+            elems: _,
+            times: _,
+            at: _,
+        } = self;
+    }
 }
 
 /// How many bins a declaration of bins has.
@@ -97,7 +106,6 @@ pub enum Word {
 }
 
 /// A declaration of bins of a coverpoint, at its first token.
-#[derive(Drop)]
 pub struct BinsDecl {
     /// Whether `wildcard` stands.
     pub wildcard: bool,
@@ -115,6 +123,20 @@ pub struct BinsDecl {
     pub at: u32,
 }
 
+impl Drop for BinsDecl {
+    fn drop(self) {
+        let BinsDecl {
+            wildcard: _,
+            word: _,
+            name: _,
+            size: _,
+            right: _,
+            guard: _,
+            at: _,
+        } = self;
+    }
+}
+
 /// The value of an option.
 #[derive(Drop)]
 pub enum OptText {
@@ -125,7 +147,6 @@ pub enum OptText {
 }
 
 /// An option of a group, a point or a cross (IEEE 1800-2017, 19.7), at its first token.
-#[derive(Drop)]
 pub struct OptDecl {
     /// Whether its word is `type_option`, and not `option`.
     pub on_type: bool,
@@ -135,4 +156,15 @@ pub struct OptDecl {
     pub value: OptText,
     /// Where it begins.
     pub at: u32,
+}
+
+impl Drop for OptDecl {
+    fn drop(self) {
+        let OptDecl {
+            on_type: _,
+            name: _,
+            value: _,
+            at: _,
+        } = self;
+    }
 }

@@ -88,8 +88,13 @@ pub enum Decl {
 }
 
 /// The syntax tree of a design text: its declarations in order.
-#[derive(Drop)]
 pub struct DesignText {
     /// The declarations.
     pub decls: List<Decl>,
+}
+
+impl Drop for DesignText {
+    fn drop(self) {
+        let DesignText { decls: _ } = self;
+    }
 }

@@ -2,7 +2,6 @@
 use crate::{BinsDecl, Boxed, Elem, Expr, List, Name, OptDecl, TypeText, Word};
 
 /// A coverpoint (IEEE 1800-2017, 19.5), at its label where it has one, else at its word.
-#[derive(Drop)]
 pub struct PointDecl {
     /// Its label.
     pub label: Option<Name>,
@@ -16,6 +15,19 @@ pub struct PointDecl {
     pub bins: List<BinsDecl>,
     /// Where it begins.
     pub at: u32,
+}
+
+impl Drop for PointDecl {
+    fn drop(self) {
+        let PointDecl {
+            label: _,
+            expr: _,
+            guard: _,
+            options: _,
+            bins: _,
+            at: _,
+        } = self;
+    }
 }
 
 /// A selection of products of a cross (IEEE 1800-2017, 19.6.1).
@@ -37,7 +49,6 @@ pub enum Sel {
 }
 
 /// A declaration of a bin of a cross, at its word.
-#[derive(Drop)]
 pub struct CrossBins {
     /// The word.
     pub word: Word,
@@ -51,8 +62,19 @@ pub struct CrossBins {
     pub at: u32,
 }
 
+impl Drop for CrossBins {
+    fn drop(self) {
+        let CrossBins {
+            word: _,
+            name: _,
+            sel: _,
+            guard: _,
+            at: _,
+        } = self;
+    }
+}
+
 /// A cross of coverpoints (IEEE 1800-2017, 19.6), at its label where it has one, else at its word.
-#[derive(Drop)]
 pub struct CrossDecl {
     /// Its label.
     pub label: Option<Name>,
@@ -68,6 +90,19 @@ pub struct CrossDecl {
     pub at: u32,
 }
 
+impl Drop for CrossDecl {
+    fn drop(self) {
+        let CrossDecl {
+            label: _,
+            points: _,
+            guard: _,
+            options: _,
+            bins: _,
+            at: _,
+        } = self;
+    }
+}
+
 /// A member of a covergroup.
 #[derive(Drop)]
 pub enum Member {
@@ -80,7 +115,6 @@ pub enum Member {
 }
 
 /// A formal of a covergroup (IEEE 1800-2017, 19.3), at its direction where it has one, else at its type.
-#[derive(Drop)]
 pub struct Formal {
     /// Whether it stands for a variable. A formal without a direction has that of the formal before it, the first one `input` (13.3).
     pub by_ref: bool,
@@ -92,6 +126,18 @@ pub struct Formal {
     pub default: Option<Expr>,
     /// Where it begins.
     pub at: u32,
+}
+
+impl Drop for Formal {
+    fn drop(self) {
+        let Formal {
+            by_ref: _,
+            typ: _,
+            name: _,
+            default: _,
+            at: _,
+        } = self;
+    }
 }
 
 /// Which changes of a signal are a coverage event.
@@ -108,7 +154,6 @@ pub enum EdgeKind {
 }
 
 /// A part of a coverage event (IEEE 1800-2017, 19.3).
-#[derive(Drop)]
 pub struct EdgeText {
     /// Which changes.
     pub kind: EdgeKind,
@@ -116,4 +161,14 @@ pub struct EdgeText {
     pub name: Name,
     /// The condition behind `iff`.
     pub guard: Option<Expr>,
+}
+
+impl Drop for EdgeText {
+    fn drop(self) {
+        let EdgeText {
+            kind: _,
+            name: _,
+            guard: _,
+        } = self;
+    }
 }

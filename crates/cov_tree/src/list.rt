@@ -6,9 +6,14 @@ use std::alloc::Global;
 use std::marker::Model;
 
 /// Elements in order.
-#[derive(Drop)]
 pub struct List<T> {
     items: Vec<T>,
+}
+
+impl<T: Drop> Drop for List<T> {
+    fn drop(self) {
+        let List { items: _ } = self;
+    }
 }
 
 impl<T> Model for List<T> {
@@ -50,7 +55,8 @@ impl<T> List<T> {
     pub fn into_vec(self) -> Vec<T>
         ensures { result.items ≡ self }
     {
-        self.items
+        let List { items } = self;
+        items
     }
 }
 
@@ -67,7 +73,7 @@ impl<T: Drop> List<T> {
     pub fn append(&mut self, other: List<T>) -> Result<(), Memory>
         ensures { OnOk result (self.new ≡ self.old ++ other) }
     {
-        let mut items = other.items;
+        let mut items = other.into_vec();
         self.items.append(&mut items)?;
         Ok(())
     }

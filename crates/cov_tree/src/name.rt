@@ -25,9 +25,15 @@ enum Bytes {
 
 /// A name or another text, of any bytes and of any length. At most 22 bytes are kept in the name itself; more of them
 /// stand once in memory, in however many places the name is shared.
-#[derive(Drop, Debug)]
+#[derive(Debug)]
 pub struct Name {
     bytes: Bytes,
+}
+
+impl Drop for Name {
+    fn drop(self) {
+        let Name { bytes: _ } = self;
+    }
 }
 
 impl Model for Name {

@@ -7,9 +7,14 @@ use std::marker::Model;
 use std::sync::Arc;
 
 /// A value that stands once in memory and several times in a tree. Contracts see it as the value itself.
-#[derive(Drop)]
 pub struct Shared<T> {
     inner: Arc<T>,
+}
+
+impl<T: Drop> Drop for Shared<T> {
+    fn drop(self) {
+        let Shared { inner: _ } = self;
+    }
 }
 
 impl<T> Model for Shared<T> {

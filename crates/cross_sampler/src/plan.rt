@@ -4,7 +4,6 @@ use cov_tree::List;
 use value_index::Rows;
 
 /// What is worked out of a cross once for a design. It serves any number of records.
-#[derive(Drop)]
 pub struct CrossPlan {
     /// How many coverage bins each of its points has.
     pub sizes: List<u32>,
@@ -15,6 +14,18 @@ pub struct CrossPlan {
     /// From this index on no bin has a guard.
     pub guards: u32,
     pub table: Table,
+}
+
+impl Drop for CrossPlan {
+    fn drop(self) {
+        let CrossPlan {
+            sizes: _,
+            weights: _,
+            declared: _,
+            guards: _,
+            table: _,
+        } = self;
+    }
 }
 
 /// The bins of a cross's products.

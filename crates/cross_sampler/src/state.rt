@@ -9,7 +9,6 @@ use cov_base::Memory;
 use std::alloc::Global;
 
 /// What a cross keeps along the samples of its instance.
-#[derive(Drop)]
 pub struct CrossState {
     /// How many samples there were.
     pub samples: u32,
@@ -23,6 +22,20 @@ pub struct CrossState {
     pub bins: Vec<u32>,
     /// The bins of products that were hit before, where no table has them.
     pub known: Known,
+}
+
+impl Drop for CrossState {
+    fn drop(self) {
+        let CrossState {
+            samples: _,
+            stamps: _,
+            numbers: _,
+            spare: _,
+            product: _,
+            bins: _,
+            known: _,
+        } = self;
+    }
 }
 
 impl CrossState {

@@ -9,13 +9,23 @@ use cov_tree::List;
 use std::alloc::Global;
 
 /// A design. It is always within its limits: whoever makes one shows them.
-#[derive(Drop)]
 pub struct Design {
     pub signals: List<Signal>,
     pub groups: List<GroupInfo>,
     pub instances: List<InstInfo>,
     pub bin_count: u32,
     pub ghost within: { IsDesign signals groups instances bin_count } by { IsDesign-prop signals groups instances bin_count },
+}
+
+impl Drop for Design {
+    fn drop(self) {
+        let Design {
+            signals: _,
+            groups: _,
+            instances: _,
+            bin_count: _,
+        } = self;
+    }
 }
 
 impl Design {

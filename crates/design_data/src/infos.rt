@@ -8,7 +8,6 @@ use trans_seq::Seq;
 use wildcard_bins::Pattern;
 
 /// A signal, or an argument of a group's sample function (IEEE 1800-2017, 19.8.1).
-#[derive(Drop)]
 pub struct Signal {
     pub name: Name,
     /// Its bits, 1 to 64.
@@ -17,8 +16,17 @@ pub struct Signal {
     pub signed: bool,
 }
 
+impl Drop for Signal {
+    fn drop(self) {
+        let Signal {
+            name: _,
+            width: _,
+            signed: _,
+        } = self;
+    }
+}
+
 /// A covergroup, with what its type options say (19.7.1).
-#[derive(Drop)]
 pub struct GroupInfo {
     pub name: Name,
     /// `type_option.weight`
@@ -29,8 +37,18 @@ pub struct GroupInfo {
     pub merge: bool,
 }
 
+impl Drop for GroupInfo {
+    fn drop(self) {
+        let GroupInfo {
+            name: _,
+            weight: _,
+            goal: _,
+            merge: _,
+        } = self;
+    }
+}
+
 /// An instance of a covergroup, with what its options say (19.7).
-#[derive(Drop)]
 pub struct InstInfo {
     pub name: Name,
     /// The index of its group in the design.
@@ -47,8 +65,21 @@ pub struct InstInfo {
     pub items: List<ItemInfo>,
 }
 
+impl Drop for InstInfo {
+    fn drop(self) {
+        let InstInfo {
+            name: _,
+            group: _,
+            weight: _,
+            goal: _,
+            print: _,
+            args: _,
+            items: _,
+        } = self;
+    }
+}
+
 /// A coverpoint (19.5) or a cross (19.6) of an instance.
-#[derive(Drop)]
 pub struct ItemInfo {
     pub name: Name,
     /// `option.weight`
@@ -70,6 +101,24 @@ pub struct ItemInfo {
     pub ignored: List<Seq>,
     /// The same of its illegal bins (19.5.6).
     pub illegal: List<Seq>,
+}
+
+impl Drop for ItemInfo {
+    fn drop(self) {
+        let ItemInfo {
+            name: _,
+            weight: _,
+            type_weight: _,
+            goal: _,
+            at_least: _,
+            guard: _,
+            shape: _,
+            first_bin: _,
+            bins: _,
+            ignored: _,
+            illegal: _,
+        } = self;
+    }
 }
 
 /// What an item counts.

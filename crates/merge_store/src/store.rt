@@ -16,7 +16,6 @@ use std::sync::Arc;
 use store_sums::Sums;
 
 /// A design and the history over it. Contracts see the design that it was made with and the list of entries.
-#[derive(Drop)]
 pub struct Store {
     pub(crate) alloc: Global,
     pub(crate) opening: Arc<Design>,
@@ -37,4 +36,20 @@ pub struct Store {
         (map (λ e. arc_value e.1.tally) tests.entries) sums.counts.items
         (map (λ p. option_map arc_value p) sums.out.items) outs bytes rows revised } by { Prim.hlevel (props, IsWithinLimits-prop, IsDesign-prop) },
     ghost room: { vec_len entries + outs ≤ vec_capacity entries },
+}
+
+impl Drop for Store {
+    fn drop(self) {
+        let Store {
+            alloc: _,
+            opening: _,
+            sums: _,
+            entries: _,
+            tests: _,
+            outs: _,
+            bytes: _,
+            rows: _,
+            revised: _,
+        } = self;
+    }
 }

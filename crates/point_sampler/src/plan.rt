@@ -5,7 +5,6 @@ use trans_auto::Watcher;
 use word_table::PlacedWords;
 
 /// What is prepared of a point: its tables are linear in its bins and their intervals.
-#[derive(Drop)]
 pub struct PointPlan {
     /// One for each bin; none at all where each bin counts for coverage and has no guard.
     pub(crate) entries: Vec<Entry>,
@@ -25,4 +24,20 @@ pub struct PointPlan {
     pub(crate) questions: Questions,
     /// The places of the default sequences.
     pub(crate) sequences: Vec<u32>,
+}
+
+impl Drop for PointPlan {
+    fn drop(self) {
+        let PointPlan {
+            entries: _,
+            machines: _,
+            entrances: _,
+            words: _,
+            removers: _,
+            others: _,
+            lookup: _,
+            questions: _,
+            sequences: _,
+        } = self;
+    }
 }

@@ -4,7 +4,6 @@ use trans_auto::{Step, TransState};
 use word_table::Recent;
 
 /// What a point remembers from one sample to the next, and room for what a sample meets. Each record has its own.
-#[derive(Drop)]
 pub struct PointState {
     /// Whether a value came before.
     pub(crate) begun: bool,
@@ -18,6 +17,19 @@ pub struct PointState {
     pub(crate) steps: Steps,
     /// The places of the bins whose rule the latest sample meets.
     pub(crate) met: Vec<u32>,
+}
+
+impl Drop for PointState {
+    fn drop(self) {
+        let PointState {
+            begun: _,
+            runs: _,
+            others: _,
+            ending: _,
+            steps: _,
+            met: _,
+        } = self;
+    }
 }
 
 /// The last values of a trace, and room for the words that it ends with.

@@ -7,7 +7,6 @@ use trans_auto::{Removing, Watcher};
 use value_index::Index;
 
 /// An index of the bins of values, by keys: how far a value stands above the least one.
-#[derive(Drop)]
 pub struct Lookup {
     /// The value whose key is 0.
     pub least: Int,
@@ -17,13 +16,28 @@ pub struct Lookup {
     pub unknown: Vec<u32>,
 }
 
+impl Drop for Lookup {
+    fn drop(self) {
+        let Lookup {
+            least: _,
+            index: _,
+            unknown: _,
+        } = self;
+    }
+}
+
 /// How the bins of values are asked, one by one.
-#[derive(Drop)]
 pub struct Questions {
     /// The type whose bits the patterns speak of.
     pub typ: Typ,
     /// One for each bin, or for the first ones; the others are asked by their rule.
     pub list: Vec<Question>,
+}
+
+impl Drop for Questions {
+    fn drop(self) {
+        let Questions { typ: _, list: _ } = self;
+    }
 }
 
 /// How a bin of values is asked whether it has a value.
@@ -49,13 +63,22 @@ pub struct Entry {
 }
 
 /// The automaton of a transition bin.
-#[derive(Drop)]
 pub struct Machine {
     /// The bin's place among those of its point.
     pub place: u32,
     /// The bin's kind.
     pub kind: BinKind,
     pub watcher: Watcher,
+}
+
+impl Drop for Machine {
+    fn drop(self) {
+        let Machine {
+            place: _,
+            kind: _,
+            watcher: _,
+        } = self;
+    }
 }
 
 /// The values with which windows of a bin may begin: no number whose key is beyond the bounds, and where it is bounded not
@@ -69,9 +92,18 @@ pub struct Entrance {
 }
 
 /// The sequences that take windows away from coverage bins, from ignore bins, and from no bin.
-#[derive(Drop)]
 pub struct Removers {
     pub covering: Removing,
     pub ignoring: Removing,
     pub none: Removing,
+}
+
+impl Drop for Removers {
+    fn drop(self) {
+        let Removers {
+            covering: _,
+            ignoring: _,
+            none: _,
+        } = self;
+    }
 }

@@ -76,11 +76,20 @@ pub struct Start {
 }
 
 /// A signal: its name of 1 to 1,024 printable bytes without spaces, its width of 1 to 64 bits, and whether it is signed.
-#[derive(Drop)]
 pub struct SignalRow {
     pub name: Name,
     pub width: u8,
     pub signed: bool,
+}
+
+impl Drop for SignalRow {
+    fn drop(self) {
+        let SignalRow {
+            name: _,
+            width: _,
+            signed: _,
+        } = self;
+    }
 }
 
 /// An argument of a group's sample function: its width of 1 to 64 bits, and whether it is signed.
@@ -92,11 +101,20 @@ pub struct ArgRow {
 
 /// An instance of a covergroup: its name and its group's, each of 1 to 1,024 printable bytes without spaces, and the
 /// arguments of its sample function, at most 16; none in version 1.
-#[derive(Drop)]
 pub struct InstRow {
     pub name: Name,
     pub group: Name,
     pub args: List<ArgRow>,
+}
+
+impl Drop for InstRow {
+    fn drop(self) {
+        let InstRow {
+            name: _,
+            group: _,
+            args: _,
+        } = self;
+    }
 }
 
 /// One step of a record.

@@ -13,7 +13,6 @@ use std::marker::Model;
 
 /// A record as its bytes, with their digest and with what a test is listed by. Its events stand in the bytes alone.
 /// Contracts see it as the record that the bytes spell.
-#[derive(Drop)]
 pub struct EncodedRecord {
     bytes: Vec<u8>,
     digest: [u8; 32],
@@ -23,6 +22,20 @@ pub struct EncodedRecord {
     time: u64,
     user: Name,
     ghost are: { AreRecord bytes.items } by { AreRecord-prop bytes.items },
+}
+
+impl Drop for EncodedRecord {
+    fn drop(self) {
+        let EncodedRecord {
+            bytes: _,
+            digest: _,
+            id: _,
+            status: _,
+            seed: _,
+            time: _,
+            user: _,
+        } = self;
+    }
 }
 
 impl Model for EncodedRecord {

@@ -7,17 +7,27 @@ use cross_sampler::CrossPlan;
 use point_sampler::PointPlan;
 
 /// What is worked out of a design once. It serves any number of records, and threads share it.
-#[derive(Drop)]
 pub struct Plan {
     /// One for each instance.
     pub instances: List<InstPlan>,
 }
 
+impl Drop for Plan {
+    fn drop(self) {
+        let Plan { instances: _ } = self;
+    }
+}
+
 /// What is worked out of an instance. It stands once in memory for instances of a group whose items are alike.
-#[derive(Drop)]
 pub struct InstPlan {
     /// One for each item.
     pub items: Shared<List<ItemPlan>>,
+}
+
+impl Drop for InstPlan {
+    fn drop(self) {
+        let InstPlan { items: _ } = self;
+    }
 }
 
 /// What is worked out of an item. It stands once in memory for items that are alike in several instances of a group.

@@ -14,10 +14,15 @@ use std::sync::Arc;
 
 /// A design with what is worked out of it once. It stands where the design is kept, and serves all records that are
 /// prepared under the design, in any threads. Contracts see the design.
-#[derive(Drop)]
 pub struct Planned {
     design: Arc<Design>,
     plan: Arc<Plan>,
+}
+
+impl Drop for Planned {
+    fn drop(self) {
+        let Planned { design: _, plan: _ } = self;
+    }
 }
 
 impl Model for Planned {

@@ -7,9 +7,14 @@ use std::alloc::Global;
 use std::marker::Model;
 
 /// How often each bin was hit in a test. Bins are numbered from 0; those that were never hit have no row.
-#[derive(Drop)]
 pub struct Tally {
     rows: Vec<(u32, u64)>,
+}
+
+impl Drop for Tally {
+    fn drop(self) {
+        let Tally { rows: _ } = self;
+    }
 }
 
 impl Model for Tally {

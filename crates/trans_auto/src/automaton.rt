@@ -16,10 +16,15 @@ use std::marker::Model;
 use trans_seq::{Seq, cells_of_seqs};
 
 /// The automaton of a bin's own sequences, and of those that remove windows from it.
-#[derive(Drop)]
 pub struct Automaton {
     own: Side,
     removed: Side,
+}
+
+impl Drop for Automaton {
+    fn drop(self) {
+        let Automaton { own: _, removed: _ } = self;
+    }
 }
 
 impl Model for Automaton {

@@ -18,9 +18,14 @@ use trans_seq::{Seq, cells_of_seqs};
 
 /// The sequences that take windows away, of the ignored and the illegal transitions of a point (IEEE 1800-2017, 19.5.5,
 /// 19.5.6). All bins of the point share them.
-#[derive(Drop)]
 pub struct Removing {
     pub(crate) side: Side,
+}
+
+impl Drop for Removing {
+    fn drop(self) {
+        let Removing { side: _ } = self;
+    }
 }
 
 impl Model for Removing {

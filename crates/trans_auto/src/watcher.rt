@@ -18,9 +18,14 @@ use std::marker::Model;
 use trans_seq::{Seq, cells_of_seqs};
 
 /// The automaton of a bin's own sequences.
-#[derive(Drop)]
 pub struct Watcher {
     own: Side,
+}
+
+impl Drop for Watcher {
+    fn drop(self) {
+        let Watcher { own: _ } = self;
+    }
 }
 
 impl Model for Watcher {

@@ -22,7 +22,7 @@ pub enum Repeat {
 }
 
 /// One item of a sequence: the values, and how often they stand.
-#[derive(Drop, PartialEq, Eq)]
+#[derive(PartialEq, Eq)]
 pub struct Item {
     /// The values that are inside. An unknown sample never is.
     pub set: ValueSet,
@@ -30,11 +30,22 @@ pub struct Item {
     pub repeat: Repeat,
 }
 
+impl Drop for Item {
+    fn drop(self) {
+        let Item { set: _, repeat: _ } = self;
+    }
+}
+
 /// A transition sequence: its items one after another.
-#[derive(Drop)]
 pub struct Seq {
     /// The items in order.
     pub items: List<Item>,
+}
+
+impl Drop for Seq {
+    fn drop(self) {
+        let Seq { items: _ } = self;
+    }
 }
 
 impl Repeat {

@@ -13,11 +13,19 @@ use std::alloc::Global;
 use std::marker::Model;
 
 /// The nodes of a design in depth-first order. Contracts see the list of them.
-#[derive(Drop)]
 pub struct Tree {
     nodes: Vec<Node>,
     /// The least node of each path.
     places: NameMap<u32>,
+}
+
+impl Drop for Tree {
+    fn drop(self) {
+        let Tree {
+            nodes: _,
+            places: _,
+        } = self;
+    }
 }
 
 impl Model for Tree {

@@ -20,7 +20,6 @@ pub enum NodeKind {
 }
 
 /// A node of a design.
-#[derive(Drop)]
 pub struct Node {
     pub kind: NodeKind,
     /// Its own name, without those above it.
@@ -43,4 +42,21 @@ pub struct Node {
     pub at_least: u32,
     /// `type_option.merge_instances` of a group; false for all others.
     pub merge: bool,
+}
+
+impl Drop for Node {
+    fn drop(self) {
+        let Node {
+            kind: _,
+            name: _,
+            parent: _,
+            first_bin: _,
+            bins: _,
+            weight: _,
+            type_weight: _,
+            goal: _,
+            at_least: _,
+            merge: _,
+        } = self;
+    }
 }

@@ -11,9 +11,14 @@ use std::alloc::Global;
 use std::marker::Model;
 
 /// Where at most one upload is gathered. Contracts see none, or for each place the byte received there, if any was.
-#[derive(Drop)]
 pub struct Stage {
     open: Option<Held>,
+}
+
+impl Drop for Stage {
+    fn drop(self) {
+        let Stage { open: _ } = self;
+    }
 }
 
 impl Model for Stage {

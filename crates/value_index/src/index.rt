@@ -13,7 +13,6 @@ use cov_ground::Memory;
 use std::alloc::Global;
 
 /// For each value the bins whose set has it.
-#[derive(Drop)]
 pub struct Index {
     cuts: Vec<u64>,
     shift: u32,
@@ -27,6 +26,17 @@ pub struct Index {
     ghost inside: { (b : ℕ) → b < length starts.items → slice_index starts.items b < length cuts.items },
     ghost below: { (b : ℕ) → b < length starts.items → slice_index cuts.items (slice_index starts.items b) ≤ b * 2 ^ shift },
     ghost above: { (b t : ℕ) → b < length starts.items → slice_index starts.items b < t → t < length cuts.items → b * 2 ^ shift < slice_index cuts.items t },
+}
+
+impl Drop for Index {
+    fn drop(self) {
+        let Index {
+            cuts: _,
+            shift: _,
+            starts: _,
+            rows: _,
+        } = self;
+    }
 }
 
 // The segments of the values at which buckets of 2 ^ shift values begin.

@@ -16,10 +16,15 @@ pub struct Place {
 }
 
 /// Rows of bins, one after the other in one flat list.
-#[derive(Drop)]
 pub struct Rows {
     places: Vec<Place>,
     flat: Vec<u32>,
+}
+
+impl Drop for Rows {
+    fn drop(self) {
+        let Rows { places: _, flat: _ } = self;
+    }
 }
 
 impl Model for Rows {

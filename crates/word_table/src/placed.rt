@@ -12,11 +12,19 @@ use std::alloc::Global;
 use std::marker::Model;
 
 /// Words with the places of what they stand for. It takes 16 bytes a value, and 8 a word.
-#[derive(Drop)]
 pub struct PlacedWords {
     words: WordTable,
     /// The place of each word.
     places: Vec<u32>,
+}
+
+impl Drop for PlacedWords {
+    fn drop(self) {
+        let PlacedWords {
+            words: _,
+            places: _,
+        } = self;
+    }
 }
 
 impl Model for PlacedWords {

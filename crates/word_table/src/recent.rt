@@ -13,9 +13,14 @@ const LONGEST: usize = 120;
 const ROOM: usize = 240;
 
 /// The last values of a trace: at least as many as a word may have, or all of them.
-#[derive(Drop)]
 pub struct Recent {
     values: Vec<Option<Int>>,
+}
+
+impl Drop for Recent {
+    fn drop(self) {
+        let Recent { values: _ } = self;
+    }
 }
 
 impl Model for Recent {

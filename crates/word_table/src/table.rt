@@ -11,12 +11,20 @@ use std::alloc::Global;
 use std::marker::Model;
 
 /// Words in order, each with its last value first. It takes 16 bytes a value, and 4 a word.
-#[derive(Drop)]
 pub struct WordTable {
     /// The values of the words, one word behind the other.
     values: Vec<Int>,
     /// Where each word begins, and where the last one ends.
     starts: Vec<u32>,
+}
+
+impl Drop for WordTable {
+    fn drop(self) {
+        let WordTable {
+            values: _,
+            starts: _,
+        } = self;
+    }
 }
 
 impl Model for WordTable {
