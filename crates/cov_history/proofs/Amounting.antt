@@ -6,10 +6,9 @@ use Rattle.record_codec.specs.Spelling.{spelling}
 use Rattle.ucis_model.specs.declared.answers.Which.{Which}
 use Rattle.ucis_model.specs.declared.answers.Which.TheVariants.{Tests, Bytes, Entries, History}
 use Rattle.ucis_model.specs.declared.answers.Answer.TheVariants as answer
-use Rattle.cov_history.specs.declared.amounts.Amounts.{Amounts}
 use Rattle.cov_history.specs.declared.entry.Event.TheVariants.{Admit}
 use Rattle.cov_history.specs.declared.entry.Entry.{Entry}
-use Rattle.cov_history.specs.Amounts.{AreAmounts, amount_in, first_passed}
+use Rattle.cov_history.specs.Amounts.{Amounts, AreAmounts, amount_in, first_passed}
 use Rattle.cov_history.specs.Answers.{by}
 use Rattle.cov_history.specs.History.{design_of, bins_hit, amount, is_over, passed}
 use Rattle.cov_history.proofs.Snoc.{test_count_snoc, bytes_snoc, entries_snoc, history_snoc}

@@ -1,7 +1,6 @@
 -- Histories: what the entries so far make of design, tests and exclusions, and which entry may come next.
 use Rattle.std.specs.Prelude.{ℕ, ◌+◌, List, [], ◌∷◌, ◌++◌, length, map, filter, find, sum_by, count_by, slice_index, Option, Bool, true, false, not, ◌&&◌, nat_lt, is_some, is_none, bytes_eq}
 use Rattle.std.specs.List.{list_any}
-use Rattle.cov_ground.specs.Limits.{most_tests, most_bytes, most_entries, most_history}
 use Rattle.design_data.specs.declared.design.Design.{Design}
 use Rattle.record_codec.specs.declared.record.Record.{Record}
 use Rattle.record_codec.specs.Spelling.{spelling}
@@ -14,6 +13,7 @@ use Rattle.cov_history.specs.declared.entry.Event.TheVariants.{Admit, Exclude, I
 use Rattle.cov_history.specs.declared.entry.Entry.{Entry}
 use Rattle.cov_history.specs.Tallies.{tally}
 use Rattle.cov_history.specs.Tables.{fits, same_tables}
+pub use Rattle.history_limits.specs.Amounts.{most}
 
 -- ---- kinds of changes
 
@@ -126,12 +126,6 @@ amount opening h Tests = length (tests_of h)
 amount opening h Bytes = sum_by (λ e. bytes_in e.event) h
 amount opening h Entries = sum_by (bins_hit (design_of opening h)) (contents h)
 amount opening h History = count_by (λ e. not (is_stop e.event)) h + length (out_of h)
-
-abbrev pub most : Which → ℕ
-most Tests = most_tests
-most Bytes = most_bytes
-most Entries = most_entries
-most History = most_history
 
 abbrev pub is_over : (opening : Design) → List Entry → Which → Bool
 is_over opening h which = nat_lt (most which) (amount opening h which)

@@ -4,7 +4,6 @@
 //! with their laws.
 #![tactic(auto)]
 
-mod amounts;
 mod asking;
 mod asks;
 mod covering;
@@ -17,7 +16,6 @@ mod merging;
 mod together;
 mod whole;
 
-pub use amounts::{Amounts, amount, passed};
 pub use asking::coverage_answer;
 pub use asks::Ask;
 pub use covering::{bin_nodes, bins_under, push_if};
@@ -25,5 +23,6 @@ pub use entry::{Entry, Event, Revision};
 pub use facts::{Facts, count, said};
 pub use flags::is_excluded;
 pub use gone::{design_at, found, out_at};
+pub use history_limits::{Amounts, amount, passed};
 pub use together::counts_of;
 pub use whole::coverage_by_definition;

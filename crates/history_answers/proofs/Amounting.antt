@@ -16,8 +16,7 @@ use Rattle.cov_history.proofs.Bools.{and_left}
 use Rattle.cov_history.proofs.Snoc.{test_count_snoc, bytes_snoc, entries_snoc, history_snoc, stop_snoc}
 use Rattle.cov_history.proofs.Legal.{kept_along, legal_within, within_of}
 use Rattle.cov_history.proofs.Amounting.{passed_is, full_is}
-use Rattle.cov_history.specs.declared.amounts.Amounts.{Amounts}
-use Rattle.cov_history.specs.Amounts.{AreAmounts, amount_in, first_passed}
+use Rattle.cov_history.specs.Amounts.{Amounts, AreAmounts, amount_in, first_passed}
 use Rattle.history_answers.specs.Amounts.{told_by}
 
 -- ---- legal histories are short

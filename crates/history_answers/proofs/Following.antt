@@ -11,8 +11,7 @@ use Rattle.cov_history.specs.declared.entry.Entry.{Entry}
 use Rattle.cov_history.specs.History.{Test, tests_in, tests_from, kept, has_stop, suits, passed, may_follow}
 use Rattle.cov_history.specs.Answers.{by}
 use Rattle.cov_history.proofs.Amounting.{passed_is}
-use Rattle.cov_history.specs.declared.amounts.Amounts.{Amounts}
-use Rattle.cov_history.specs.Amounts.{AreAmounts, first_passed}
+use Rattle.cov_history.specs.Amounts.{Amounts, AreAmounts, first_passed}
 use Rattle.history_answers.specs.Kept.{admits}
 
 -- a test of the id is kept where an entry admits a record of it

@@ -3,8 +3,7 @@ use Rattle.std.specs.Prelude.{Option, Some, None}
 use Rattle.ucis_model.specs.declared.answers.Answer.{Answer}
 use Rattle.ucis_model.specs.declared.answers.Answer.TheVariants as answers
 use Rattle.ucis_model.specs.declared.answers.Which.{Which}
-use Rattle.cov_history.specs.declared.amounts.Amounts.{Amounts}
-use Rattle.cov_history.specs.Amounts.{amount_in}
+use Rattle.cov_history.specs.Amounts.{Amounts, amount_in}
 
 -- what a change is answered whose amounts before and after are these
 abbrev pub told_by : (before after : Amounts) → Option Which → Answer → Answer

@@ -21,8 +21,7 @@ use Rattle.cov_history.proofs.Snoc.{design_snoc, tests_snoc, out_snoc, counts_sn
 use Rattle.cov_history.proofs.Legal.{within_of}
 use Rattle.cov_history.proofs.Made.{design_since}
 use Rattle.cov_history.proofs.Amounting.{passed_is, full_is}
-use Rattle.cov_history.specs.declared.amounts.Amounts.{Amounts}
-use Rattle.cov_history.specs.Amounts.{AreAmounts, amount_in, first_passed}
+use Rattle.cov_history.specs.Amounts.{Amounts, AreAmounts, amount_in, first_passed}
 use Rattle.merge_store.specs.Keeps.{HasOut, Keeps, rows_of}
 use Rattle.merge_store.specs.May.{MayAdmit}
 use Rattle.merge_store.proofs.Steps.{legal_more, going_more, last_same}

@@ -8,7 +8,7 @@ use Rattle.cov_history.specs.declared.entry.Entry.{Entry}
 use Rattle.cov_history.specs.Answers.{revise_at, by}
 use Rattle.store_core.specs.Rebins.{Redone}
 use Rattle.store_core.specs.Asks.{revision_of}
-use Rattle.cov_history.specs.declared.amounts.Amounts.{Amounts}
+use Rattle.cov_history.specs.Amounts.{Amounts}
 use Rattle.merge_store.specs.declared.faults.ReviseFault.{ReviseFault}
 use Rattle.merge_store.specs.declared.faults.ReviseFault.TheVariants as revises
 use Rattle.merge_store.specs.Remakes.{MayRevise, IsRefused}

@@ -26,8 +26,7 @@ use Rattle.cov_history.proofs.Legal.{within_of}
 use Rattle.cov_history.proofs.Summing.{all_hits_at, all_hits_length}
 use Rattle.store_core.specs.Rebins.{Redone, tallies_of}
 use Rattle.store_core.specs.Asks.{IsReadied, revision_of}
-use Rattle.cov_history.specs.declared.amounts.Amounts.{Amounts}
-use Rattle.cov_history.specs.Amounts.{AreAmounts, amount_in, first_passed}
+use Rattle.cov_history.specs.Amounts.{Amounts, AreAmounts, amount_in, first_passed}
 use Rattle.merge_store.specs.Keeps.{Keeps, HasOut, IsLast, rows_of}
 use Rattle.merge_store.specs.Remakes.{IsRemade, MayRevise}
 use Rattle.cov_history.proofs.Amounting.{passed_is, full_is}

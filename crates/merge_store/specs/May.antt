@@ -13,8 +13,7 @@ use Rattle.ucis_model.specs.declared.answers.Answer.TheVariants as answer
 use Rattle.merge_store.specs.declared.admit.Judged.{Judged}
 use Rattle.merge_store.specs.declared.admit.Judged.TheVariants as judged
 use Rattle.merge_store.specs.Told.{refused}
-use Rattle.cov_history.specs.declared.amounts.Amounts.{Amounts}
-use Rattle.cov_history.specs.Amounts.{AreAmounts, first_passed}
+use Rattle.cov_history.specs.Amounts.{Amounts, AreAmounts, first_passed}
 
 -- the path finds this node, isn't out, and there is room for it
 pub record MayExclude (opening : Design) (h : List Entry) (path : List ℕ) (n : ℕ) : Type 0 where

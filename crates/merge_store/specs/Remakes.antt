@@ -9,10 +9,9 @@ use Rattle.cov_history.specs.History.{out_of, is_found, is_test_or_revise}
 use Rattle.cov_history.specs.Answers.{by, stands_since, revise_at}
 use Rattle.store_core.specs.Rebins.{Redone}
 use Rattle.store_core.specs.Asks.{revision_of}
-use Rattle.cov_history.specs.declared.amounts.Amounts.{Amounts}
 use Rattle.merge_store.specs.declared.faults.ReviseFault.{ReviseFault}
 use Rattle.merge_store.specs.declared.faults.ReviseFault.TheVariants as revises
-use Rattle.cov_history.specs.Amounts.{AreAmounts, first_passed}
+use Rattle.cov_history.specs.Amounts.{Amounts, AreAmounts, first_passed}
 use Rattle.merge_store.specs.Keeps.{HasOut}
 use Rattle.merge_store.specs.Told.{not_revised}
 

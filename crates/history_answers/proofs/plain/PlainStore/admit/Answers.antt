@@ -4,8 +4,7 @@ use Rattle.cov_history.specs.declared.entry.Event.TheVariants as event
 use Rattle.cov_history.specs.Answers.{by}
 use Rattle.cov_history.specs.History.{is_legal, may_follow}
 use Rattle.cov_history.proofs.Snoc.{legal_snoc}
-use Rattle.cov_history.specs.declared.amounts.Amounts.{Amounts}
-use Rattle.cov_history.specs.Amounts.{AreAmounts}
+use Rattle.cov_history.specs.Amounts.{Amounts, AreAmounts}
 use Rattle.history_answers.proofs.plain.PlainStore.admit.Goals as goal
 
 pub invariant_of-self-2 : goal.invariant_of-self-2

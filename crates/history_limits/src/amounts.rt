@@ -1,6 +1,6 @@
 //! Amounts that have limits.
 ghost use Rattle.std.specs.Prelude.{◌≡◌};
-ghost use Rattle.cov_history.specs.Amounts.{amount_in, first_passed};
+ghost use Rattle.history_limits.specs.Amounts.{amount_in, first_passed};
 
 use cov_ground::limits::{MOST_BYTES, MOST_ENTRIES, MOST_HISTORY, MOST_TESTS};
 use ucis_model::Which;
