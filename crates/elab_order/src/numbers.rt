@@ -33,9 +33,10 @@ fn number_items(alloc: Global, items: List<ItemInfo>, first: u32) -> Result<List
     let mut done = Vec::new(alloc);
     let mut next = first;
     for item in items.into_vec() {
-        let first_bin = next;
-        next = behind(first_bin, &item);
-        done.push(ItemInfo { first_bin, ..item })?;
+        let mut item = item;
+        item.first_bin = next;
+        next = behind(next, &item);
+        done.push(item)?;
     }
     Ok(List::of(done))
 }
@@ -172,22 +173,8 @@ fn with_numbers(alloc: Global, inst: InstInfo, first: u32) -> Result<InstInfo, M
     requires { first + bins_in inst.items ≤ most_design_bins }
     ensures { IfOk result (λ done. done ≡ record inst { items = items_numbered first inst.items }) }
 {
-    let InstInfo {
-        name,
-        group,
-        weight,
-        goal,
-        print,
-        args,
-        items,
-    } = inst;
-    Ok(InstInfo {
-        name,
-        group,
-        weight,
-        goal,
-        print,
-        args,
-        items: number_items(alloc, items, first)?,
-    })
+    let mut inst = inst;
+    let items = std::mem::replace(&mut inst.items, List::new(alloc));
+    inst.items = number_items(alloc, items, first)?;
+    Ok(inst)
 }
