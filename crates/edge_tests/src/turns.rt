@@ -153,10 +153,11 @@ fn seats_meet_and_end(rt: HostRuntime) -> Result<(), Fail> {
     assert!(rt; has_seen(&first, 0, 4) && has_seen(&second, 1, 4));
     lock.end(second, &mut first);
     assert!(rt; has_seen(&first, 0, 4) && has_room(&first, 1, 4_294_967_294));
-    let third = lock.split(&mut first);
+    let mut third = lock.split(&mut first);
     assert!(rt; has_seen(&third, 2, 4));
+    lock.end(first, &mut third);
+    assert!(rt; has_seen(&third, 2, 4) && has_room(&third, 1, 4_294_967_293));
     lock.leave(third);
-    lock.leave(first);
     Ok(())
 }
 

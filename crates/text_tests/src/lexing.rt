@@ -176,8 +176,9 @@ fn reads_literals(rt: HostRuntime) -> Result<(), Fail> {
 
 #[test]
 fn refuses_what_is_no_literal(rt: HostRuntime) {
-    let rows: [&[u8]; 9] = [
+    let rows: [&[u8]; 10] = [
         b"abc",
+        b"4'b12",
         b"3'hx",
         b"3'h?",
         b"4'd16",
