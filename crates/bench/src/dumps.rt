@@ -4,8 +4,7 @@ ghost use Rattle.std.specs.Prelude.{◌≡◌, ◌≤◌, length, Ok};
 ghost use Rattle.cov_design.specs.Elaboration.{Elaborates, parts_of};
 ghost use Rattle.vcd_reader.specs.Reading.{longest_dump};
 
-use crate::answers::Found;
-use crate::words::{bytes_at, number_at, text_at};
+use bench_values::{Found, bytes_at, number_at, text_at};
 use cov_design::elaborate;
 use cov_lexer::lex;
 use cov_parser::parse;

@@ -1,7 +1,6 @@
 //! Tokens of a file: `lexing FILE ROUNDS` lexes the file that many times, and prints how many tokens it has.
 
-use crate::answers::Found;
-use crate::words::{bytes_at, number_at};
+use bench_values::{Found, bytes_at, number_at};
 use cov_lexer::lex;
 use std::alloc::Global;
 use std::rt::Files;

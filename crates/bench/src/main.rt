@@ -5,21 +5,15 @@
 //! `,` between. Each prints a line, which says so where its words aren't right, something is refused or memory ran out.
 #![tactic(auto)]
 
-mod answers;
 mod dumps;
-mod expressions;
 mod lexing;
 mod messages;
 mod parsing;
-mod random;
-mod ranking;
 mod records;
 mod sampling;
-mod transitions;
 mod turns;
-mod words;
 
-use answers::{Found, show};
+use bench_values::{Found, expressions, ranking, show, transitions};
 use std::env;
 use std::env::Env;
 use std::io::Print;

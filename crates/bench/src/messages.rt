@@ -5,9 +5,7 @@ ghost use Rattle.cov_proto.specs.Frames.{frame, longest_body};
 ghost use Rattle.cov_proto.specs.Limits.{IsReply};
 ghost use Rattle.cov_proto.specs.Spelled.{reply_spelled};
 
-use crate::answers::Found;
-use crate::random::after;
-use crate::words::number_at;
+use bench_values::{Found, after, number_at};
 use cov_proto::{Body, LONGEST_BODY, Reply, read_reply, write_reply};
 use cov_tree::List;
 use design_data::BinKind;

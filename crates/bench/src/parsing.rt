@@ -1,8 +1,7 @@
 //! A design text of a file: `parsing FILE LEXES PARSES` lexes the file and parses its tokens that many times, and prints
 //! how many tokens and how many declarations it has.
 
-use crate::answers::Found;
-use crate::words::{bytes_at, number_at};
+use bench_values::{Found, bytes_at, number_at};
 use cov_lexer::lex;
 use cov_parser::{ParseFault, parse};
 use cov_tree::DesignText;

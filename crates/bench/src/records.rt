@@ -1,8 +1,7 @@
 //! Records of a file: `records FILE READS WRITES` decodes the file and encodes its record that many times, and prints how
 //! many events it has.
 
-use crate::answers::Found;
-use crate::words::{bytes_at, number_at};
+use bench_values::{Found, bytes_at, number_at};
 use record_codec::{Record, decode, encode};
 use std::alloc::Global;
 use std::rt::Files;

@@ -5,8 +5,7 @@
 //! The words: `plan` works the tables out of the design, `decode` decodes the record, `count` counts by ready tables,
 //! `threads` does so in threads, and `whole` does all of it once more, the design text aside.
 
-use crate::answers::Found;
-use crate::words::{bytes_at, number_at, text_at};
+use bench_values::{Found, bytes_at, number_at, text_at};
 use cov_base::Memory;
 use cov_compile::compile;
 use design_data::Design;

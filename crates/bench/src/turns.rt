@@ -3,8 +3,7 @@
 ghost use Rattle.std.specs.Prelude.{◌≤◌, IfSome};
 ghost use Rattle.turn_lock.specs.Seats.{IsSeatOf};
 
-use crate::answers::Found;
-use crate::words::number_at;
+use bench_values::{Found, number_at};
 use cov_base::Book;
 use std::sync::Wait;
 use std::thread::{Threads, for_each_mut};

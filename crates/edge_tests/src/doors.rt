@@ -1,7 +1,9 @@
 //! Connections of this machine to itself.
 use cov_base::{Door, Failed, Link};
 use cov_net::{TcpDoor, TcpLink};
-use std::net::{TcpListener, TcpStream};
+use std::io;
+use std::io::{Error, ErrorKind};
+use std::net::{OpenListener, SocketAddr, TcpListener, TcpStream};
 use std::process::Abort;
 use std::test::Fail;
 
@@ -29,6 +31,43 @@ fn doors_hand_out_connections(rt: HostRuntime) -> Result<(), Fail> {
     let listener = TcpListener::bind(&rt, "127.0.0.1:0")?;
     let mut door = TcpDoor::new(&listener);
     let mut far = TcpLink::new(TcpStream::connect(&rt, listener.local_addr()?)?);
+    let mut near = enter(&mut door)?;
+    assert!(rt; say(&mut far) == Ok(4));
+    drop(far);
+    expect_text(&rt, &mut near);
+    Ok(())
+}
+
+/// A listener of which the connection from one port was given up before it was taken.
+#[derive(Drop)]
+struct GivenUp<'a, L> {
+    listener: &'a L,
+    port: u16,
+}
+
+impl<L: OpenListener> OpenListener for GivenUp<'_, L> {
+    type Stream = L::Stream;
+
+    fn accept(&self) -> io::Result<(L::Stream, SocketAddr)> {
+        let (stream, from) = self.listener.accept()?;
+        if from.port() == self.port {
+            return Err(Error::from(ErrorKind::ConnectionAborted));
+        }
+        Ok((stream, from))
+    }
+}
+
+#[test]
+fn doors_pass_over_what_was_given_up(rt: HostRuntime) -> Result<(), Fail> {
+    let listener = TcpListener::bind(&rt, "127.0.0.1:0")?;
+    let gone = TcpStream::connect(&rt, listener.local_addr()?)?;
+    let mut far = TcpLink::new(TcpStream::connect(&rt, listener.local_addr()?)?);
+    let port = gone.local_addr()?.port();
+    let given_up = GivenUp {
+        listener: &listener,
+        port,
+    };
+    let mut door = TcpDoor::new(&given_up);
     let mut near = enter(&mut door)?;
     assert!(rt; say(&mut far) == Ok(4));
     drop(far);

@@ -10,17 +10,13 @@
 //! again, and behind it what the store answers; where the plain store answers otherwise, a line says so.
 #![tactic(auto)]
 
-mod asks;
-mod dice;
 mod many;
 mod random;
-mod records;
 mod serving;
 mod stores;
 mod twins;
-mod words;
-mod writing;
 
+use ask_rows::{say, say_count, say_number, split};
 use many::{again, many};
 use random::random;
 use serving::{Told, late, served};
@@ -30,7 +26,6 @@ use std::io::{Input, Print};
 use std::process::ExitCode;
 use std::thread::Threads;
 use stores::Stores;
-use words::{say, say_count, say_number, split};
 
 /// Writes what a line is told.
 fn write_told<R: Print>(rt: &R, told: &Told) {

@@ -1,7 +1,7 @@
 //! Long histories, and questions that are asked often.
 use crate::serving::{Told, admitted, served};
 use crate::stores::Stores;
-use crate::words::{small_of, split};
+use ask_rows::{small_of, split};
 use merge_store::Store;
 use std::alloc::Global;
 use std::thread::Threads;

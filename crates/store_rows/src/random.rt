@@ -1,8 +1,7 @@
 //! Random asks, put alike to a store and to a plain one.
-use crate::dice::Dice;
 use crate::serving::{Told, late, served};
 use crate::stores::Stores;
-use crate::words::{number_of, put, small_of, split};
+use ask_rows::{Dice, number_of, put, small_of, split};
 use merge_store::Store;
 use std::alloc::Global;
 use std::thread::Threads;

@@ -4,10 +4,9 @@ ghost use Rattle.store_core.specs.declared.asks.Ask.{Ask as TwinAsk};
 ghost use Rattle.store_core.specs.Asks.{Meets};
 ghost use Rattle.merge_store.specs.Stores.{opening_of, entries_of};
 
-use crate::asks::ask_of;
 use crate::stores::Stores;
 use crate::twins::twin_of;
-use crate::writing::text_of;
+use ask_rows::text_of;
 use cov_history::Ask;
 use history_answers::PlainStore;
 use merge_store::Store;
@@ -16,6 +15,11 @@ use std::alloc::Global;
 use std::thread::Threads;
 use store_core::Ask as Twin;
 use ucis_model::Answer;
+
+/// The ask that a line names, made for the history of now.
+fn ask_of(alloc: Global, store: &Store, line: &str) -> Option<Ask> {
+    ask_rows::ask_of(alloc, store.design(), store.point(), line)
+}
 
 /// What the store answered, as text, and whether the plain store, if there is one, answered the same.
 #[derive(Drop)]

@@ -4,7 +4,7 @@ ghost use Rattle.cov_history.specs.Tables.{same_tables as same_tables_meant};
 ghost use Rattle.store_core.specs.Asks.{Meets, IsReadied};
 ghost use Rattle.merge_store.specs.Stores.{opening_of, entries_of};
 
-use crate::stores::compiled_of;
+use ask_rows::compiled_of;
 use cov_base::OpenGate;
 use cov_compile::Compiled;
 use cov_history::Ask;

@@ -3,7 +3,7 @@ use std::io::Print;
 
 /// What a measurement finds.
 #[derive(Clone, Copy)]
-pub(crate) enum Found {
+pub enum Found {
     One(u64),
     Two(u64, u64),
     /// How many tokens and how many declarations a text has.
@@ -19,7 +19,7 @@ fn show_found<R: Print>(rt: &R, found: Found) {
 }
 
 /// Writes what a measurement found, or that it can't be done.
-pub(crate) fn show<R: Print>(rt: &R, call: &str, found: Option<Found>) {
+pub fn show<R: Print>(rt: &R, call: &str, found: Option<Found>) {
     match found {
         Some(found) => show_found(rt, found),
         None => {

@@ -369,7 +369,8 @@ fn evaluated(alloc: Global, rows: u32) -> Option<Found> {
     }
 }
 
-pub(crate) fn measured(alloc: Global, words: &[String]) -> Option<Found> {
+/// Does the measurement of these words; None where they aren't right, something is refused, or memory ran out.
+pub fn measured(alloc: Global, words: &[String]) -> Option<Found> {
     match number_at(words, 0) {
         Some(rows) => evaluated(alloc, rows),
         None => None,

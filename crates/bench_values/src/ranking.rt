@@ -144,7 +144,8 @@ fn plan_of(words: &[String]) -> Option<Plan> {
     })
 }
 
-pub(crate) fn measured<R: Threads + Sync + AllocGlobal>(rt: &R, words: &[String]) -> Option<Found> {
+/// Does the measurement of these words; None where they aren't right, something is refused, or memory ran out.
+pub fn measured<R: Threads + Sync + AllocGlobal>(rt: &R, words: &[String]) -> Option<Found> {
     match (plan_of(words), number_at(words, 4)) {
         (Some(plan), Some(rounds)) => ranked_by(rt, rt.alloc(), plan, rounds),
         _ => None,

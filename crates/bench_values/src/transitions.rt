@@ -143,7 +143,8 @@ fn counted_by(
     }
 }
 
-pub(crate) fn measured(alloc: Global, words: &[String]) -> Option<Found> {
+/// Does the measurement of these words; None where they aren't right, something is refused, or memory ran out.
+pub fn measured(alloc: Global, words: &[String]) -> Option<Found> {
     match (text_at(words, 0), number_at(words, 1)) {
         ("steady", Some(samples)) => counted_by(alloc, &steady(alloc), 1, samples, true),
         (_, Some(samples)) => counted_by(alloc, &hostile(alloc), BITS as usize, samples, false),

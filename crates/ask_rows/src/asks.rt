@@ -1,33 +1,33 @@
 //! The asks that lines name.
+use crate::designs::design_of;
 use crate::records::{name_of, record_of};
-use crate::stores::design_of;
 use crate::words::{number_of, small_of, split};
 use cov_history::{Ask, Revision};
 use cov_tree::Name;
-use merge_store::Store;
+use design_data::Design;
 use std::alloc::Global;
 
 fn name(alloc: Global, text: &str) -> Name {
     name_of(alloc, text.as_bytes())
 }
 
-/// To admit a record, which is made for the point now.
-fn admit(alloc: Global, store: &Store, words: &str) -> Option<Ask> {
+/// To admit a record of a design, which is made for a point.
+fn admit(alloc: Global, design: &Design, point: u64, words: &str) -> Option<Ask> {
     let (id, steps) = split(words);
-    match record_of(alloc, store.design(), id, steps) {
+    match record_of(alloc, design, id, steps) {
         Some(content) => Some(Ask::Admit {
-            since: store.point(),
+            since: point,
             content,
         }),
         None => None,
     }
 }
 
-/// To take the design of a text, which is compiled for the point now.
-fn revise(alloc: Global, store: &Store, text: &str) -> Option<Ask> {
+/// To take the design of a text, which is compiled for a point.
+fn revise(alloc: Global, point: u64, text: &str) -> Option<Ask> {
     match design_of(alloc, text) {
         Some(design) => Some(Ask::Revise {
-            since: store.point(),
+            since: point,
             revision: Revision {
                 text: name(alloc, text),
                 design,
@@ -88,7 +88,7 @@ fn by_path(alloc: Global, verb: &str, words: &str) -> Option<Ask> {
 }
 
 /// The ask of a verb with the words behind it.
-fn ask_by(alloc: Global, store: &Store, verb: &str, words: &str) -> Option<Ask> {
+fn ask_by(alloc: Global, design: &Design, point: u64, verb: &str, words: &str) -> Option<Ask> {
     match verb {
         "hello" => Some(Ask::Hello {
             point: number_of(words),
@@ -97,14 +97,14 @@ fn ask_by(alloc: Global, store: &Store, verb: &str, words: &str) -> Option<Ask> 
         "of" => Some(test_counts(alloc, words)),
         "rank" => Some(Ask::Rank),
         "fetch" => Some(fetch(words)),
-        "admit" => admit(alloc, store, words),
-        "revise" => revise(alloc, store, words),
+        "admit" => admit(alloc, design, point, words),
+        "revise" => revise(alloc, point, words),
         _ => by_path(alloc, verb, words),
     }
 }
 
-/// The ask that a line names, made for the history now.
-pub fn ask_of(alloc: Global, store: &Store, line: &str) -> Option<Ask> {
+/// The ask that a line names, made for a history that stands at this point, under this design.
+pub fn ask_of(alloc: Global, design: &Design, point: u64, line: &str) -> Option<Ask> {
     let (verb, words) = split(line);
-    ask_by(alloc, store, verb, words)
+    ask_by(alloc, design, point, verb, words)
 }
