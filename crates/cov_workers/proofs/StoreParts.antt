@@ -10,9 +10,9 @@ use Rattle.sampler.specs.contracts.planned.Planned as planned
 use Rattle.store_sums.proofs.branches.Branches.TheSendSync as branches
 use Rattle.store_sums.proofs.runs.Runs.TheSendSync as runs
 use Rattle.store_sums.specs.contracts.sums.Sums as sums
-use Rattle.merge_store.specs.contracts.held.HeldEvent as event
-use Rattle.merge_store.specs.contracts.held.Held as held
-use Rattle.merge_store.specs.contracts.held.Kept as kept
+use Rattle.store_parts.specs.contracts.held.HeldEvent as event
+use Rattle.store_parts.specs.contracts.held.Held as held
+use Rattle.store_parts.specs.contracts.held.Kept as kept
 use Rattle.merge_store.specs.contracts.store.Store as store
 use Rattle.sampler.proofs.Designs.{design_send, design_sync}
 

@@ -7,9 +7,9 @@ use Rattle.design_data.specs.declared.design.Design.{Design}
 use Rattle.record_codec.specs.declared.record.Fields.{Fields}
 use Rattle.record_codec.specs.declared.record.Record.{Record}
 use Rattle.record_codec.specs.Spelling.{fields_of, spelling}
-use Rattle.vcd_reader.specs.declared.dump.Dump.{Dump}
-use Rattle.vcd_reader.specs.declared.fault.DumpFault.{DumpFault}
-use Rattle.vcd_reader.specs.declared.fault.DumpFault.TheVariants.{Syntax, TimeBack, UnknownCode, BadEvent, NoSignal, WidthDiffers, TooManyEvents, TooLong, Memory}
+use Rattle.vcd_reader.specs.Dump.{Dump}
+use Rattle.vcd_reader.specs.DumpFault.{DumpFault}
+use Rattle.vcd_reader.specs.DumpFault.TheVariants.{Syntax, TimeBack, UnknownCode, BadEvent, NoSignal, WidthDiffers, TooManyEvents, TooLong, Memory}
 use Rattle.vcd_reader.specs.Reading.{HasRead, longest_dump}
 use Rattle.vcd_reader.specs.Refusals.{◌>>=◌, Fails, Gives}
 use Rattle.covd_commands.specs.declared.status.Status.{Status}

@@ -17,7 +17,7 @@ use Rattle.cov_compile.specs.declared.fault.CompileFault.{CompileFault}
 use Rattle.cov_compile.specs.Compiling.{IsDesign, IsDesignFault}
 use Rattle.cov_ground.specs.Limits.{longest_design, longest_record, most_events}
 use Rattle.cov_tree.specs.declared.declarations.DesignText.{DesignText}
-use Rattle.vcd_reader.specs.declared.fault.DumpFault.{DumpFault}
+use Rattle.vcd_reader.specs.DumpFault.{DumpFault}
 use Rattle.vcd_reader.specs.Reading.{longest_dump}
 use Rattle.covd_commands.specs.Lines.{count_text, check_text, IsDesignFaultText, IsDumpFaultText, cannot_read_text, too_long_text}
 use Rattle.covd_commands.specs.Dumps.{HasText, HasMade, IsTextOf, made_of}

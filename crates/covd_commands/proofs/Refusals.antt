@@ -9,8 +9,8 @@ use Rattle.cov_compile.specs.declared.fault.CompileFault.{CompileFault}
 use Rattle.design_data.specs.declared.design.Design.{Design}
 use Rattle.sampler.specs.Shape.{IsWrongAt}
 use Rattle.sampler.proofs.Tables.{place_one}
-use Rattle.vcd_reader.specs.declared.fault.DumpFault.{DumpFault}
-use Rattle.vcd_reader.specs.declared.fault.DumpFault.TheVariants as dumping
+use Rattle.vcd_reader.specs.DumpFault.{DumpFault}
+use Rattle.vcd_reader.specs.DumpFault.TheVariants as dumping
 use Rattle.covd_commands.specs.Lines.{IsDesignFaultText, IsFaultText, IsDumpFaultText, wrong_shape_text}
 use Rattle.covd_commands.specs.FromFiles.{IsRefusedText}
 

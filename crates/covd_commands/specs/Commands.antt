@@ -10,7 +10,7 @@ use Rattle.cov_tree.specs.declared.declarations.DesignText.{DesignText}
 use Rattle.design_data.specs.declared.design.Design.{Design}
 use Rattle.covd_commands.specs.declared.status.Status.{Status}
 use Rattle.covd_commands.specs.declared.status.Status.TheVariants as status
-use Rattle.vcd_reader.specs.declared.fault.DumpFault.{DumpFault}
+use Rattle.vcd_reader.specs.DumpFault.{DumpFault}
 use Rattle.vcd_reader.specs.Reading.{longest_dump}
 use Rattle.covd_commands.specs.Lines.{count_text, check_text, IsDumpFaultText}
 use Rattle.covd_commands.specs.Dumps.{IsTestId, HasText, HasMade}

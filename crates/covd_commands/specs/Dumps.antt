@@ -10,7 +10,7 @@ use Rattle.cov_compile.specs.Elaboration.{Elaborates, parts_of}
 use Rattle.design_data.specs.declared.design.Design.{Design}
 use Rattle.record_codec.specs.Limits.{longest_id}
 use Rattle.record_codec.specs.declared.record.Fields.{Fields}
-use Rattle.vcd_reader.specs.declared.fault.DumpFault.{DumpFault}
+use Rattle.vcd_reader.specs.DumpFault.{DumpFault}
 use Rattle.vcd_reader.specs.Reading.{reading, longest_dump}
 use Rattle.vcd_reader.specs.Records.{recorded}
 use Rattle.vcd_reader.specs.Refusals.{◌>>=◌, Fails}

@@ -14,8 +14,8 @@ use Rattle.ucis_model.specs.declared.node.NodeKind.{NodeKind}
 use Rattle.ucis_model.specs.declared.node.NodeKind.TheVariants as node_kinds
 use Rattle.ucis_model.specs.Nodes.{nodes_of}
 use Rattle.ucis_model.specs.Paths.{node_at, path_of}
-use Rattle.vcd_reader.specs.declared.fault.DumpFault.{DumpFault}
-use Rattle.vcd_reader.specs.declared.fault.DumpFault.TheVariants as dumping
+use Rattle.vcd_reader.specs.DumpFault.{DumpFault}
+use Rattle.vcd_reader.specs.DumpFault.TheVariants as dumping
 
 abbrev pub newline : List ℕ
 newline = 10 ∷ []

@@ -11,7 +11,7 @@ use Rattle.covd_commands.specs.declared.record.HadText.{HadText}
 use Rattle.covd_commands.specs.declared.record.HadText.TheVariants as texts
 use Rattle.cov_tree.specs.declared.declarations.DesignText.{DesignText}
 use Rattle.design_data.specs.declared.design.Design.{Design}
-use Rattle.vcd_reader.specs.declared.fault.DumpFault.{DumpFault}
+use Rattle.vcd_reader.specs.DumpFault.{DumpFault}
 use Rattle.covd_commands.specs.declared.status.Status.{Status}
 use Rattle.covd_commands.specs.declared.status.Status.TheVariants as status
 use Rattle.sampler.specs.Shape.{Fits}

@@ -5,7 +5,7 @@ ghost use Rattle.cov_compile.specs.Compiling.{Declares, Compiles};
 ghost use Rattle.cov_compile.specs.Elaboration.{Elaborates, parts_of};
 ghost use Rattle.cov_ground.specs.Limits.{longest_design};
 ghost use Rattle.record_codec.specs.Spelling.{fields_of, spelling};
-ghost use Rattle.vcd_reader.specs.declared.fault.DumpFault.TheVariants as dumping;
+ghost use Rattle.vcd_reader.specs.DumpFault.TheVariants as dumping;
 ghost use Rattle.vcd_reader.specs.Reading.{longest_dump};
 ghost use Rattle.vcd_reader.specs.Refusals.{Gives};
 ghost use Rattle.covd_commands.specs.declared.status.Status.TheVariants.{Done, DumpRefused};

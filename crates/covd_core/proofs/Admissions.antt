@@ -12,9 +12,9 @@ use Rattle.cov_history.specs.Tables.{fits}
 use Rattle.cov_history.specs.History.{design_of, design_after}
 use Rattle.cov_history.specs.Answers.{admit_at, is_made, Suits}
 use Rattle.merge_store.specs.declared.store.Store.{Store}
-use Rattle.merge_store.specs.declared.faults.Admitted.{Admitted}
-use Rattle.merge_store.specs.declared.faults.Admitted.TheVariants as admits
-use Rattle.merge_store.specs.declared.faults.AdmitFault.{AdmitFault}
+use Rattle.merge_store.specs.Admitted.{Admitted}
+use Rattle.merge_store.specs.Admitted.TheVariants as admits
+use Rattle.merge_store.specs.AdmitFault.{AdmitFault}
 use Rattle.merge_store.specs.Stores.{opening_of, entries_of}
 use Rattle.merge_store.specs.Told.{Makes, refused, taken_in}
 use Rattle.covd_commands.specs.declared.stop.Stop.{Stop}

@@ -5,7 +5,7 @@ use Rattle.record_codec.specs.declared.record.Record.{Record}
 use Rattle.cov_history.specs.declared.entry.Entry.{Entry}
 use Rattle.cov_history.specs.History.{design_of}
 use Rattle.merge_store.specs.declared.store.Store.{Store}
-use Rattle.merge_store.specs.declared.faults.AdmitFault.{AdmitFault}
+use Rattle.merge_store.specs.AdmitFault.{AdmitFault}
 use Rattle.merge_store.specs.Stores.{opening_of, entries_of}
 use Rattle.merge_store.specs.Told.{refused}
 use Rattle.covd_commands.specs.declared.stop.Stop.{Stop}

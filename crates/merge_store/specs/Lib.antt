@@ -1,10 +1,8 @@
-pub mod Keeps
-pub mod Words
 pub mod Stores
-pub mod Told
-pub mod May
 pub mod Now
-pub mod Sound
-pub mod Putting
-pub mod Lasts
-pub mod Remakes
+pub use Rattle.store_parts.specs.Keeps
+pub use Rattle.store_parts.specs.Sound
+pub use Rattle.store_parts.specs.Told
+pub use Rattle.store_parts.specs.Words
+pub use Rattle.store_parts.specs.declared.faults.AdmitFault
+pub use Rattle.store_parts.specs.declared.faults.Admitted

@@ -4,7 +4,7 @@ use Rattle.std.specs.Arc.{arc_value}
 use Rattle.design_data.specs.declared.design.Design.{Design}
 use Rattle.cov_history.specs.declared.entry.Entry.{Entry}
 use Rattle.merge_store.specs.declared.store.Store.{Store}
-use Rattle.merge_store.specs.Words.{entry_of}
+use Rattle.store_parts.specs.Words.{entry_of}
 
 -- the design that it was made with
 abbrev pub opening_of : Store → Design

@@ -5,23 +5,14 @@ ghost use Rattle.cov_history.specs.declared.asks.Ask.TheVariants as ask;
 ghost use Rattle.cov_history.specs.History.{design_of};
 ghost use Rattle.cov_history.specs.Answers.{admit_at, by, Suits};
 ghost use Rattle.cov_history.specs.Amounts.{AreAmounts};
-ghost use Rattle.merge_store.specs.May.{MayAdmit, IsJudged};
-ghost use Rattle.merge_store.specs.Told.{Makes, IsPoint, admitted};
+ghost use Rattle.store_parts.specs.May.{MayAdmit, IsJudged};
+ghost use Rattle.store_parts.specs.Told.{Makes, IsPoint, admitted};
 ghost use Rattle.merge_store.specs.Stores.{opening_of, entries_of};
 
-use crate::held::{Held, HeldEvent, Kept};
-use crate::kept::add_test;
-use crate::room::put;
 use crate::{AdmitFault, Admitted, Store};
 use cov_history::{Amounts, amount, passed};
 use sampler::Prepared;
-
-/// What becomes of a record, apart from want of memory.
-pub(crate) enum Judged {
-    Here { point: u64 },
-    Refused(AdmitFault),
-    May(Amounts),
-}
+use store_parts::{Held, HeldEvent, Judged, Kept, add_test, put};
 
 impl Store {
     /// What its history amounts to.

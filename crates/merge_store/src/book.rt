@@ -9,8 +9,8 @@ use design_data::Design;
 impl Book for Store {
     ghost use Rattle.std.specs.Prelude.{map};
     ghost use Rattle.std.specs.Arc.{arc_value};
-    ghost use Rattle.merge_store.specs.Words.{entry_of};
-    ghost use Rattle.merge_store.specs.Sound.{IsSound};
+    ghost use Rattle.store_parts.specs.Words.{entry_of};
+    ghost use Rattle.store_parts.specs.Sound.{IsSound};
 
     type Base = Design;
 

@@ -4,19 +4,18 @@ ghost use Rattle.std.specs.Arc.{arc_value};
 ghost use Rattle.cov_history.specs.declared.entry.Event.TheVariants as event;
 ghost use Rattle.cov_history.specs.Coverage.{is_out as is_out_meant};
 ghost use Rattle.cov_history.specs.Answers.{exclude_at, include_at, by};
-ghost use Rattle.merge_store.specs.May.{MayExclude};
+ghost use Rattle.store_parts.specs.May.{MayExclude};
 ghost use Rattle.merge_store.specs.Now.{nodes_now, outs_now};
-ghost use Rattle.merge_store.specs.Told.{Gives, Makes, excluded, not_excluded, included};
+ghost use Rattle.store_parts.specs.Told.{Gives, Makes, excluded, not_excluded, included};
 ghost use Rattle.merge_store.specs.Stores.{opening_of, entries_of};
 
-use crate::held::{Held, HeldEvent};
-use crate::room::put;
 use crate::{ExcludeFault, IncludeFault, Store};
 use cov_base::Memory;
 use cov_ground::limits::MOST_HISTORY;
 use cov_tree::Name;
 use std::alloc::Global;
 use std::sync::Arc;
+use store_parts::{Held, HeldEvent, put};
 use ucis_model::Which;
 
 /// The path twice, shared.

@@ -6,7 +6,7 @@ ghost use Rattle.cov_history.specs.Nodes.{children as children_meant, bins_under
 ghost use Rattle.cov_history.specs.Coverage as cover;
 ghost use Rattle.cov_history.specs.Answers.{cover_row, coverage_at};
 ghost use Rattle.cov_history.specs.History.{design_of};
-ghost use Rattle.merge_store.specs.Told.{Reads, cover_read};
+ghost use Rattle.store_parts.specs.Told.{Reads, cover_read};
 ghost use Rattle.merge_store.specs.Stores.{opening_of, entries_of};
 ghost use Rattle.merge_store.specs.Now.{nodes_now, count_now, excluded_now};
 

@@ -2,13 +2,12 @@
 ghost use Rattle.std.specs.Prelude.{◌≡◌, ◌-◌, ◌≤◌, take, drop, slice_get, option_map, option_to_list, ◌++◌, map, IfOk, OnOk};
 ghost use Rattle.std.specs.Arc.{arc_value};
 ghost use Rattle.cov_history.specs.History.{design_of, tests_of};
-ghost use Rattle.merge_store.specs.Keeps.{rows_of};
-ghost use Rattle.merge_store.specs.Words.{test_of};
+ghost use Rattle.store_parts.specs.Keeps.{rows_of};
+ghost use Rattle.store_parts.specs.Words.{test_of};
 ghost use Rattle.cov_history.specs.Answers.{hello_at, counts_at, test_counts_at, illegal_at, name_at, fetch_at, test_row, tests_at, rank_at};
-ghost use Rattle.merge_store.specs.Told.{Reads, rows_read, name_read, chunk_read, tests_read, rank_read};
+ghost use Rattle.store_parts.specs.Told.{Reads, rows_read, name_read, chunk_read, tests_read, rank_read};
 ghost use Rattle.merge_store.specs.Stores.{opening_of, entries_of};
 
-use crate::held::Kept;
 use crate::{QueryFault, Store};
 use cov_base::Memory;
 use cov_ground::limits::{LONGEST_CHUNK, MOST_TEST_ROWS};
@@ -17,6 +16,7 @@ use rank_report::rank;
 use sampler::EncodedRecord;
 use std::sync::Arc;
 use std::thread::Threads;
+use store_parts::Kept;
 use store_sums::part_of;
 use tally::{Ranked, Tally};
 use ucis_model::{Answer, CountRow, HistoryKind, HistoryNode};

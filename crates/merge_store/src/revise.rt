@@ -7,27 +7,18 @@ ghost use Rattle.cov_history.specs.Answers.{revise_at, by, stands_since};
 ghost use Rattle.cov_history.specs.Sums.{all_hits};
 ghost use Rattle.store_core.specs.Asks.{IsReadied, revision_of};
 ghost use Rattle.cov_history.specs.Amounts.{AreAmounts};
-ghost use Rattle.merge_store.specs.Keeps.{IsLast};
-ghost use Rattle.merge_store.specs.Lasts.{is_test};
-ghost use Rattle.merge_store.specs.Remakes.{IsRemade, MayRevise, IsRefused};
+ghost use Rattle.store_parts.specs.Keeps.{IsLast};
+ghost use Rattle.store_parts.specs.Lasts.{is_test};
+ghost use Rattle.store_parts.specs.Remakes.{IsRemade, MayRevise, IsRefused};
 ghost use Rattle.store_sums.specs.Runs.{HasMarks};
-ghost use Rattle.merge_store.specs.Told.{Makes, revised};
+ghost use Rattle.store_parts.specs.Told.{Makes, revised};
 ghost use Rattle.merge_store.specs.Stores.{opening_of, entries_of};
 
-use crate::held::{Held, HeldEvent};
-use crate::remaking::{Remade, set_tallies};
-use crate::room::put;
 use crate::{ReviseFault, Store};
 use cov_history::{Amounts, amount, passed};
 use store_core::Rebinned;
+use store_parts::{Held, HeldEvent, Ready, put, set_tallies};
 use store_sums::Sums;
-
-/// A revision that nothing stands against but want of memory.
-#[derive(Drop)]
-pub(crate) struct Ready {
-    pub(crate) remade: Remade,
-    pub(crate) after: Amounts,
-}
 
 fn later(a: u64, b: u64) -> u64
     ensures { result ≡ max a b }

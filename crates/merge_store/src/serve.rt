@@ -5,15 +5,15 @@ ghost use Rattle.store_core.specs.Asks.{asked, Meets};
 ghost use Rattle.merge_store.specs.Stores.{opening_of, entries_of};
 
 use crate::Store;
-use crate::serving::{
-    of_admit, of_chunk, of_coverage, of_exclude, of_include, of_name, of_rank, of_revise, of_rows,
-    of_tests,
-};
 use cov_base::Memory;
 use design_data::Design;
 use std::sync::Arc;
 use std::thread::Threads;
 use store_core::{Ask, Basis, Core};
+use store_parts::{
+    of_admit, of_chunk, of_coverage, of_exclude, of_include, of_name, of_rank, of_revise, of_rows,
+    of_tests,
+};
 use ucis_model::{Answer, Answered};
 
 impl Store {

@@ -5,14 +5,14 @@ ghost use Rattle.std.proofs.Props.{props};
 ghost use Rattle.design_data.specs.Limits.{IsDesign-prop};
 ghost use Rattle.record_codec.specs.Limits.{IsWithinLimits-prop};
 ghost use Rattle.ucis_model.specs.Nodes.{nodes_of};
-ghost use Rattle.merge_store.specs.Keeps.{Keeps};
-ghost use Rattle.merge_store.specs.Words.{entry_of, test_of};
+ghost use Rattle.store_parts.specs.Keeps.{Keeps};
+ghost use Rattle.store_parts.specs.Words.{entry_of, test_of};
 
-use crate::held::{Held, Kept};
 use design_data::Design;
 use indexmap::IndexMap;
 use std::alloc::Global;
 use std::sync::Arc;
+use store_parts::{Held, Kept};
 use store_sums::Sums;
 
 /// A design and the history over it. Contracts see the design that it was made with and the list of entries.

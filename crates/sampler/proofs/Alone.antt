@@ -8,7 +8,7 @@ use Rattle.design_data.specs.declared.infos.ItemShape.{ItemShape}
 use Rattle.design_data.specs.declared.infos.ItemShape.TheVariants.{Point, Cross}
 use Rattle.design_data.specs.Bins.{is_point}
 use Rattle.record_codec.specs.Samples.{Env}
-use Rattle.sampler.specs.declared.plan.ItemPlan.{ItemPlan}
+use Rattle.sampler_plans.specs.declared.plan.ItemPlan.{ItemPlan}
 use Rattle.sampler.specs.declared.instance.ItemState.{ItemState}
 use Rattle.sampler.specs.Standing.{Stands, ArePoints, AllTaken, point_first}
 use Rattle.sampler.proofs.Items.{one_of, one_number}

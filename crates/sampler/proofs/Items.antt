@@ -17,8 +17,9 @@ use Rattle.cov_counting.specs.Hits.{HitAt}
 use Rattle.cov_counting.specs.Crosses.{NumberHitAt, MemberHitAt, CrossHitAt}
 use Rattle.cross_sampler.specs.Numbers.{row_at, items_of}
 use Rattle.cross_sampler.specs.Standing.{AreHit}
-use Rattle.sampler.specs.declared.plan.ItemPlan.{ItemPlan}
-use Rattle.sampler.specs.declared.plan.ItemPlan.TheVariants as plan
+pub use Rattle.sampler_plans.proofs.Places.{one_of, each_more, read_at}
+use Rattle.sampler_plans.specs.declared.plan.ItemPlan.{ItemPlan}
+use Rattle.sampler_plans.specs.declared.plan.ItemPlan.TheVariants as plan
 use Rattle.sampler.specs.declared.instance.ItemState.{ItemState}
 use Rattle.sampler.specs.declared.instance.ItemState.TheVariants as kept
 use Rattle.sampler.specs.Standing.{Stands, RowStands, RowsStand, AreNumbered, AreChosen, IsChosen, AllFit, FitsItem, AllStand, KeepsOthers, SomeTaken, AllTaken}
@@ -87,18 +88,6 @@ pub some_last : (items : List ItemInfo) (plans : List ItemPlan) (chosen : List �
     → AllTaken items plans chosen all after old states counts
 some_last items plans chosen all before after t old states counts le h = record { stand = λ i k item p s c e f. h.done i k item p s (omega (arith, le, slice_get_within chosen i k c)) c e f; outside = h.outside }
 
-pub one_of : {X : Type 0} (P : X → Type 0) (xs : List X) (k : ℕ) (x y : X) → slice_get xs k ≡ Some x → slice_get xs k ≡ Some y → P x → P y
-one_of P xs k x y e f h = let same : Some x ≡ Some y = sym e ∙ f in let equal : x ≡ y = cc in subst P equal h
-
--- what holds of the elements before a place, and of the one there
-pub each_more : {X : Type 0} (P : ℕ → X → Type 0) (xs : List X) (t : ℕ) (x : X) → slice_get xs t ≡ Some x → P t x → ((k : ℕ) (y : X) → k < t → slice_get xs k ≡ Some y → P k y) → (k : ℕ) (y : X) → k < t + 1 → slice_get xs k ≡ Some y → P k y
-each_more {X = X} P xs t x e own h k y lt at = elim (cases_lt k t) [
-  | inl lower ↦ h k y lower at
-  | inr ge ↦
-      let same : t ≡ k = omega (arith, lt, ge) in
-      one_of (λ (z : X). P k z) xs k x y (ap (λ (j : ℕ). slice_get xs j) (sym same) ∙ e) at (subst (λ (j : ℕ). P j x) same own)
-]
-
 -- the number at a place is one
 pub one_number : (xs : List ℕ) (i k l : ℕ) → slice_get xs i ≡ Some k → slice_get xs i ≡ Some l → k ≡ l
 one_number xs i k l e f = one_of (λ (n : ℕ). k ≡ n) xs i k l e f refl
@@ -153,10 +142,6 @@ module _ (items : List ItemInfo) (plans : List ItemPlan) (chosen : List ℕ) (t 
           found (λ (y : ItemInfo) (r : ItemPlan). FitsItem y r (get_or (set states t state) i s)) i k x q (sym same) ci ei fq (subst (λ (y : ItemState). FitsItem item p y) (sym read) fit)
       each i k x q s ci ei fq (inr (inl less)) = stays i k x q s ci ei fq (λ same. absurd (omega (arith, same, less)))
       each i k x q s ci ei fq (inr (inr more)) = stays i k x q s ci ei fq (λ same. absurd (omega (arith, same, more)))
-
--- the item and the plan at an index that the code reads
-pub read_at : {X : Type 0} (xs : List X) (k : ℕ) (x : X) → k < length xs → x ≡ get_or xs k x → slice_get xs k ≡ Some x
-read_at xs k x lt is = slice_get-get_or xs k x lt ∙ ap (λ (y : _). Some y) (sym is)
 
 -- it is the same with another default
 pub same_read : {X : Type 0} (xs : List X) (k : ℕ) (d x : X) → k < length xs → x ≡ get_or xs k x → get_or xs k d ≡ x

@@ -1,9 +1,8 @@
 -- The items of a part, and the numbers of their bins.
-use Rattle.std.proofs.Common.{◌≡◌, ◌⊎◌, ℕ, zero, suc, ◌+◌, ◌^◌, ◌<◌, ◌≤◌, List, [], ◌∷◌, ◌++◌, length, Bool, true, false, cond, Some, refl, ap, sym, subst, ◌∙◌, inl, inr, arith}
+use Rattle.std.proofs.Common.{◌≡◌, ◌⊎◌, ℕ, zero, suc, ◌+◌, ◌^◌, ◌<◌, ◌≤◌, List, [], ◌∷◌, length, Bool, true, false, cond, Some, refl, ap, sym, subst, ◌∙◌, inl, inr, arith}
 use Rattle.std.specs.Prelude.{slice_get, slice_index, filter, ◌==◌, ◌%◌}
 use Rattle.std.specs.List.{AllByRecursion, range_with_len}
 use Rattle.std.proofs.lemmas.Bool.{cases_lt, cases_order, eq-eqb, eqb-true, false≢true}
-use Rattle.std.proofs.lemmas.List.Elements.{filter-append}
 use Rattle.std.proofs.lemmas.Option.{slice_get_within}
 use Rattle.design_data.specs.declared.infos.ItemInfo.{ItemInfo}
 use Rattle.design_data.specs.declared.infos.InstInfo.{InstInfo}
@@ -20,12 +19,12 @@ use Rattle.cov_counting.specs.Tallies.{IsCount, IsBin, IsTally}
 use Rattle.point_sampler.specs.Points.{IsOutside}
 use Rattle.cov_counting.proofs.Bins.{each_at}
 use Rattle.cov_counting.proofs.Done.{numbered_front, numbered_back, bins_in-append, group_then, group_else}
+use Rattle.sampler_plans.specs.declared.plan.Plan.{Plan}
+use Rattle.sampler_plans.specs.Plans.{IsDesignPlan}
+use Rattle.sampler_plans.specs.Shares.{labels_at, chosen_items, part_of, IsShareOf, IsTogether, AreItemsTogether, AreTogether, IsPartTally}
 use Rattle.sampler.specs.Standing.{AreChosen, IsChosen, IsCovered, AreNumbered}
-use Rattle.sampler.specs.declared.plan.Plan.{Plan}
-use Rattle.sampler.specs.Plans.{IsDesignPlan}
 use Rattle.sampler.specs.Starting.{AreAllZero}
 use Rattle.sampler.specs.Walking.{AreApart, AreAllApart, IsWork, ShareCounted}
-use Rattle.sampler.specs.Shares.{labels_at, chosen_items, part_of, IsShareOf, IsTogether, AreItemsTogether, AreTogether, IsPartTally}
 use Rattle.sampler.proofs.Items.{ordered, one_of}
 use Rattle.sampler.proofs.Starts.{some_of}
 
@@ -83,30 +82,7 @@ module _ (test : ℕ → Bool) where
       by true is go (suc i) (suc j) e f = ap suc (go i j (ap (λ (xs : List ℕ). slice_get xs (suc i)) (sym (step_true from n is)) ∙ e) (ap (λ (xs : List ℕ). slice_get xs (suc j)) (sym (step_true from n is)) ∙ f))
       by false is go i j e f = go i j (ap (λ (xs : List ℕ). slice_get xs i) (sym (step_false from n is)) ∙ e) (ap (λ (xs : List ℕ). slice_get xs j) (sym (step_false from n is)) ∙ f)
 
--- ---- a list of them, one number more
-
-range_last : (a n : ℕ) → range_with_len a (suc n) ≡ range_with_len a n ++ (a + n) ∷ []
-range_last a zero = let e : a ≡ a + 0 = omega arith in ap (λ (k : ℕ). k ∷ []) e
-range_last a (suc n) = let e : (a + 1) + n ≡ a + suc n = omega arith in ap (λ (ks : List ℕ). a ∷ ks) (range_last (a + 1) n ∙ ap (λ (k : ℕ). range_with_len (a + 1) n ++ k ∷ []) e)
-
-filter_one : (p : ℕ → Bool) (x : ℕ) → filter p (x ∷ []) ≡ cond (p x) (x ∷ []) []
-filter_one p x = by (p x) refl
-  where
-    by : (b : Bool) → p x ≡ b → filter p (x ∷ []) ≡ cond b (x ∷ []) []
-    by b e = ap (λ (c : Bool). cond c (x ∷ []) []) e
-
-pub passing_more : (p : ℕ → Bool) (n : ℕ) (old new : List ℕ) (test : Bool) → old ≡ filter p (range_with_len 0 n) → test ≡ p n → new ≡ old ++ cond test (n ∷ []) [] → new ≡ filter p (range_with_len 0 (n + 1))
-passing_more p n old new test was is e =
-    let next : n + 1 ≡ suc n = omega arith in
-    let zero_more : 0 + n ≡ n = omega arith in
-    let one : range_with_len 0 (n + 1) ≡ range_with_len 0 n ++ n ∷ [] = ap (λ (k : ℕ). range_with_len 0 k) next ∙ range_last 0 n ∙ ap (λ (k : ℕ). range_with_len 0 n ++ k ∷ []) zero_more in
-    e ∙ (λ i. was i ++ cond (is i) (n ∷ []) []) ∙ ap (λ (ns : List ℕ). filter p (range_with_len 0 n) ++ ns) (sym (filter_one p n)) ∙ sym (filter-append p (range_with_len 0 n) (n ∷ [])) ∙ ap (filter p) (sym one)
-
 -- ---- the items of a part
-
--- the items of an instance that belong to the part
-abbrev pub ShareAt : List InstInfo → (labels : List (List ℕ)) → (parts part : ℕ) → ℕ → List ℕ → Type 0
-ShareAt instances labels parts part j own = (inst : InstInfo) → slice_get instances j ≡ Some inst → own ≡ chosen_items (labels_at labels j) parts part (length inst.items)
 
 module _ (items : List ItemInfo) (labels : List ℕ) (parts part : ℕ) where
   abbrev own : List ℕ

@@ -18,14 +18,15 @@ use Rattle.point_sampler.specs.declared.state.PointState.{PointState}
 use Rattle.point_sampler.specs.Plans as points
 use Rattle.point_sampler.specs.Points as points_stand
 use Rattle.point_sampler.proofs.Taking.{some_at}
-use Rattle.sampler.specs.declared.plan.ItemPlan.{ItemPlan}
-use Rattle.sampler.specs.declared.plan.ItemPlan.TheVariants as plan
-use Rattle.sampler.specs.declared.plan.InstPlan.{InstPlan}
+use Rattle.sampler_plans.specs.declared.plan.ItemPlan.{ItemPlan}
+use Rattle.sampler_plans.specs.declared.plan.ItemPlan.TheVariants as plan
+use Rattle.sampler_plans.specs.declared.plan.InstPlan.{InstPlan}
+use Rattle.sampler_plans.specs.ItemPlans.{IsPlanOf}
 use Rattle.sampler.specs.declared.instance.ItemState.{ItemState}
 use Rattle.sampler.specs.declared.instance.ItemState.TheVariants as kept
 use Rattle.sampler.specs.declared.instance.InstState.{InstState}
 use Rattle.sampler.specs.declared.lists.QuickItem.{QuickItem}
-use Rattle.sampler.specs.Standing.{IsSample, IsPlanOf, PointStands, Stands, AllStand, SomeTaken, AllTaken, KeepsOthers, InstAt}
+use Rattle.sampler.specs.Standing.{IsSample, PointStands, Stands, AllStand, SomeTaken, AllTaken, KeepsOthers, InstAt}
 use Rattle.sampler.specs.Walking.{IsInstWork, IsWork, AllInstFit, WalkAt}
 use Rattle.sampler.specs.Quick.{IsQuickItem, AreQuick, IsQuickInst, AreQuickUpTo, AreReady, AreKept}
 use Rattle.sampler.proofs.Items.{read_at, some_more}

@@ -4,7 +4,7 @@ use Rattle.std.specs.Prelude.{ℤ, slice_get}
 use Rattle.std.specs.List.{All}
 use Rattle.std.proofs.Math.ListN.{get_or-eq_default}
 use Rattle.std.proofs.lemmas.Bool.{cases_lt}
-use Rattle.std.proofs.lemmas.List.{get_or_append_left, get_or-replicate, length-replicate}
+use Rattle.std.proofs.lemmas.List.{get_or-replicate, length-replicate}
 use Rattle.std.proofs.lemmas.Option.{slice_get_within}
 use Rattle.cov_spec.specs.Number.{Number}
 use Rattle.cov_spec.specs.Number.Number.{none}
@@ -13,7 +13,6 @@ use Rattle.design_data.specs.declared.infos.InstInfo.{InstInfo}
 use Rattle.design_data.specs.declared.infos.BinInfo.{BinInfo}
 use Rattle.design_data.specs.declared.infos.ItemShape.{ItemShape}
 use Rattle.design_data.specs.declared.infos.ItemShape.TheVariants.{Point, Cross}
-use Rattle.design_data.specs.Limits.{IsItem, IsShape}
 use Rattle.const_eval.specs.Terms.{Term}
 use Rattle.record_codec.specs.declared.record.Record.{Record}
 use Rattle.record_codec.specs.declared.record.Event.{Event}
@@ -22,29 +21,24 @@ use Rattle.record_codec.specs.Samples.{Env, signal_value, samples_of}
 use Rattle.cov_counting.specs.Hits.{HitAt}
 use Rattle.cov_counting.specs.Crosses.{CrossHitAt}
 use Rattle.cov_counting.specs.Tallies.{IsCount, ShapeHit}
-use Rattle.point_sampler.specs.Tables.{IsPoint}
 use Rattle.point_sampler.specs.Points.{StateStands}
 use Rattle.point_sampler.specs.declared.plan.PointPlan.{PointPlan}
 use Rattle.point_sampler.specs.declared.state.PointState.{PointState}
 use Rattle.cross_sampler.specs.declared.plan.CrossPlan.{CrossPlan}
 use Rattle.cross_sampler.specs.declared.state.CrossState.{CrossState}
-use Rattle.sampler.specs.declared.plan.ItemPlan.{ItemPlan}
-use Rattle.sampler.specs.declared.plan.ItemPlan.TheVariants as plan
-use Rattle.sampler.specs.declared.plan.InstPlan.{InstPlan}
+use Rattle.sampler_plans.specs.declared.plan.ItemPlan.{ItemPlan}
+use Rattle.sampler_plans.specs.declared.plan.ItemPlan.TheVariants as plan
+use Rattle.sampler_plans.specs.declared.plan.InstPlan.{InstPlan}
+use Rattle.sampler_plans.specs.ItemPlans.{IsPlanOf}
 use Rattle.sampler.specs.declared.instance.ItemState.{ItemState}
 use Rattle.sampler.specs.declared.instance.ItemState.TheVariants as kept
 use Rattle.sampler.specs.declared.instance.InstState.{InstState}
 use Rattle.sampler.specs.Values.{places}
 use Rattle.sampler.specs.Starting.{IsZeroAt, AreAllZero, AllInstStart, AreUnknown}
-use Rattle.sampler.specs.Standing.{IsPlanOf, FitsItem, Stands, AllStand, InstAt}
+use Rattle.sampler.specs.Standing.{FitsItem, Stands, AllStand, InstAt}
 use Rattle.sampler.specs.Walking.{IsWork, InstFits, AllInstFit, WalkAt, ShareCounted}
 use Rattle.sampler.proofs.Items.{one_of, one_number}
 use Rattle.sampler.proofs.Walks.{at_end}
-
--- ---- plans
-
-pub is_point : (items : List ItemInfo) (item : ItemInfo) (expr : Term) → IsItem items item → item.shape ≡ Point expr → IsPoint item
-is_point items item expr h e = record { few = h.bins; removing = h.removing; rules = (subst (IsShape items item) e h.shape).1 }
 
 -- ---- zeros
 
@@ -124,20 +118,6 @@ module _ (instances : List InstInfo) (plans : List InstPlan) (share : List (List
 
   pub inst_starts_here : (counts : List ℕ) → AreAllZero counts → ((all : List Env) (counts : List ℕ) → AreAllZero counts → AllStand inst.items p.items chosen all (λ shape. 0) kept.states.items counts) → InstStartsAt instances plans share counts j kept
   inst_starts_here counts zeros h x q own all ex fq go = at_inst (λ (x : InstInfo) (q : InstPlan) (own : List ℕ). AllStand x.items q.items own all (λ shape. 0) kept.states.items counts) (h all counts zeros) x q own ex fq go
-
-last_of : {X : Type 0} (xs : List X) (x d : X) → get_or (xs ++ x ∷ []) (length xs) d ≡ x
-last_of [] x d = refl
-last_of (y ∷ xs) x d = last_of xs x d
-
--- one state behind those before
-pub each_push : {X : Type 0} (P : ℕ → X → Type 0) (states new : List X) (t : ℕ) (state : X) → length states ≡ t → new ≡ states ++ state ∷ [] → P t state → ((i : ℕ) (s : X) → i < t → P i (get_or states i s)) → (i : ℕ) (s : X) → i < t + 1 → P i (get_or new i s)
-each_push {X = X} P states new t state len push own h i s lt = elim (cases_lt i t) [
-  | inl lower ↦ subst (P i) (sym (ap (λ (xs : List X). get_or xs i s) push ∙ get_or_append_left states (state ∷ []) s i (omega (arith, lower, len)))) (h i s lower)
-  | inr ge ↦
-      let same : t ≡ i = omega (arith, lt, ge) in
-      let read : get_or new i s ≡ state = ap (λ (xs : List X). get_or xs i s) push ∙ ap (λ (j : ℕ). get_or (states ++ state ∷ []) j s) (sym same ∙ sym len) ∙ last_of states state s in
-      subst (P i) (sym read) (subst (λ (j : ℕ). P j state) same own)
-]
 
 unset : (found : Option SignalRow) → signal_value found None ≡ None
 unset None = refl

@@ -14,10 +14,10 @@ use Rattle.record_codec.specs.declared.record.ArgRow.{ArgRow}
 use Rattle.record_codec.specs.declared.record.Event.{Event}
 use Rattle.record_codec.specs.declared.record.Event.TheVariants.{Set, Sample}
 use Rattle.record_codec.specs.Samples.{Env, env_of, signal_at, arg_at, envs_after, args_of, samples_of}
-use Rattle.sampler.specs.declared.plan.ItemPlan.{ItemPlan}
+use Rattle.sampler_plans.specs.declared.plan.ItemPlan.{ItemPlan}
+use Rattle.sampler_plans.specs.declared.plan.InstPlan.{InstPlan}
 use Rattle.sampler.specs.declared.instance.ItemState.{ItemState}
 use Rattle.design_data.specs.declared.infos.InstInfo.{InstInfo}
-use Rattle.sampler.specs.declared.plan.InstPlan.{InstPlan}
 use Rattle.sampler.specs.declared.instance.InstState.{InstState}
 use Rattle.sampler.specs.Values.{Holds, Writes}
 use Rattle.sampler.specs.Standing.{IsSample, AllStand, AllTaken, InstAt, InstTaken}

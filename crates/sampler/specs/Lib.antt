@@ -1,11 +1,10 @@
-pub mod Shape
 pub mod Values
 pub mod Standing
 pub mod Walking
-pub mod Shares
 pub mod Plans
-pub mod Alike
 pub mod Starting
 pub mod Encoded
 pub mod Preparing
 pub mod Quick
+pub use Rattle.sampler_plans.specs.Shape
+pub use Rattle.sampler_plans.specs.Shares

@@ -8,9 +8,9 @@ use Rattle.design_data.specs.declared.infos.InstInfo.{InstInfo}
 use Rattle.record_codec.specs.Samples.{args_of}
 use Rattle.record_codec.specs.declared.record.Record.{Record}
 use Rattle.point_sampler.specs.Quick.{IsQuick, HasRoom}
-use Rattle.sampler.specs.declared.plan.ItemPlan.{ItemPlan}
-use Rattle.sampler.specs.declared.plan.ItemPlan.TheVariants as plan
-use Rattle.sampler.specs.declared.plan.InstPlan.{InstPlan}
+use Rattle.sampler_plans.specs.declared.plan.ItemPlan.{ItemPlan}
+use Rattle.sampler_plans.specs.declared.plan.ItemPlan.TheVariants as plan
+use Rattle.sampler_plans.specs.declared.plan.InstPlan.{InstPlan}
 use Rattle.sampler.specs.declared.lists.QuickItem.{QuickItem}
 use Rattle.sampler.specs.declared.lists.QuickPlace.{QuickPlace}
 

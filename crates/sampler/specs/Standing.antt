@@ -6,20 +6,16 @@ use Rattle.const_eval.specs.Terms.{Term}
 use Rattle.design_data.specs.declared.infos.ItemInfo.{ItemInfo}
 use Rattle.design_data.specs.declared.infos.ItemShape.{ItemShape}
 use Rattle.design_data.specs.declared.infos.ItemShape.TheVariants.{Point, Cross}
-use Rattle.design_data.specs.Bins.{sizes_of, is_point, IsNumberedFrom}
-use Rattle.design_data.specs.Limits.{IsPointIndex}
+use Rattle.design_data.specs.Bins.{is_point, IsNumberedFrom}
 use Rattle.record_codec.specs.Samples.{Env, envs_after, args_of, samples_of}
 use Rattle.record_codec.specs.declared.record.Record.{Record}
 use Rattle.record_codec.specs.declared.record.Event.{Event}
-use Rattle.point_sampler.specs.Plans as points
-use Rattle.point_sampler.specs.Tables.{IsPoint}
 use Rattle.point_sampler.specs.Points as points_stand
 use Rattle.cross_sampler.specs.Numbers.{row_at}
-use Rattle.cross_sampler.specs.Plans as crosses
 use Rattle.cross_sampler.specs.Known as crosses_known
 use Rattle.cross_sampler.specs.Standing as crosses_stand
-use Rattle.sampler.specs.declared.plan.ItemPlan.{ItemPlan}
-use Rattle.sampler.specs.declared.plan.ItemPlan.TheVariants as plan
+use Rattle.sampler_plans.specs.declared.plan.ItemPlan.{ItemPlan}
+use Rattle.sampler_plans.specs.declared.plan.ItemPlan.TheVariants as plan
 use Rattle.sampler.specs.declared.instance.ItemState.{ItemState}
 use Rattle.sampler.specs.declared.instance.ItemState.TheVariants as kept
 
@@ -30,21 +26,6 @@ pub record IsSample (all : List Env) (m : ℕ) (env : Env) : Type 0 where
   pub is : slice_index_or all m [] ≡ env
 
 -- ---- an item
-
--- the plan is that of a point
-abbrev pub IsPointPlan : ItemInfo → ItemPlan → Type 0
-IsPointPlan item (plan.Point p) = IsPoint item × points.IsPlanOf item p
-IsPointPlan item (plan.Cross p) = ⊥
-
--- the plan is that of a cross of the points at these indexes
-abbrev pub IsCrossPlan : List ItemInfo → ItemInfo → (axes : List ℕ) → ItemPlan → Type 0
-IsCrossPlan items item axes (plan.Point p) = ⊥
-IsCrossPlan items item axes (plan.Cross p) = crosses.IsPlan item.bins p × (p.sizes ≡ sizes_of items axes) × AllByRecursion (IsPointIndex items) axes
-
--- the plan is that of the item, by its shape
-abbrev pub IsPlanOf : List ItemInfo → ItemInfo → ItemShape → ItemPlan → Type 0
-IsPlanOf items item (Point expr) p = IsPointPlan item p
-IsPlanOf items item (Cross axes) p = IsCrossPlan items item axes p
 
 -- what the item keeps has the form that its plan asks for
 abbrev pub FitsItem : ItemInfo → ItemPlan → ItemState → Type 0
@@ -86,9 +67,6 @@ pub record AreNumbered (items : List ItemInfo) (counts : ℕ) : Type 0 where
   pub first : ℕ
   pub numbered : IsNumberedFrom first items
   pub room : (k : ℕ) (item : ItemInfo) → slice_get items k ≡ Some item → item.first_bin + length item.bins ≤ counts
-
-abbrev pub ArePlans : List ItemInfo → List ItemPlan → Type 0
-ArePlans items plans = (k : ℕ) (item : ItemInfo) (p : ItemPlan) → slice_get items k ≡ Some item → slice_get plans k ≡ Some p → IsPlanOf items item item.shape p
 
 -- ---- the items that a walk takes along, by their indexes
 

@@ -3,7 +3,7 @@ use Rattle.std.specs.Prelude.{◌≡◌, ℤ, ℕ, ◌+◌, ◌<◌, List, lengt
 use Rattle.design_data.specs.declared.infos.ItemInfo.{ItemInfo}
 use Rattle.design_data.specs.declared.infos.InstInfo.{InstInfo}
 use Rattle.record_codec.specs.Samples.{Env}
-use Rattle.sampler.specs.declared.plan.InstPlan.{InstPlan}
+use Rattle.sampler_plans.specs.declared.plan.InstPlan.{InstPlan}
 use Rattle.sampler.specs.declared.instance.InstState.{InstState}
 use Rattle.sampler.specs.Standing.{AllStand}
 

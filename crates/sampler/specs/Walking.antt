@@ -8,11 +8,12 @@ use Rattle.record_codec.specs.declared.record.Record.{Record}
 use Rattle.record_codec.specs.declared.record.Event.{Event}
 use Rattle.cov_counting.specs.Tallies.{IsCount}
 use Rattle.point_sampler.specs.Points.{IsOutside}
-use Rattle.sampler.specs.declared.plan.ItemPlan.{ItemPlan}
-use Rattle.sampler.specs.declared.plan.InstPlan.{InstPlan}
+use Rattle.sampler_plans.specs.declared.plan.ItemPlan.{ItemPlan}
+use Rattle.sampler_plans.specs.declared.plan.InstPlan.{InstPlan}
+use Rattle.sampler_plans.specs.ItemPlans.{ArePlans}
 use Rattle.sampler.specs.declared.instance.InstState.{InstState}
 use Rattle.sampler.specs.Values.{Holds}
-use Rattle.sampler.specs.Standing.{AreNumbered, ArePlans, AreChosen, IsChosen, AllFit, InstAt}
+use Rattle.sampler.specs.Standing.{AreNumbered, AreChosen, IsChosen, AllFit, InstAt}
 
 -- the bins of one item have numbers before those of the other
 abbrev pub AreApart : ItemInfo → ItemInfo → Type 0

@@ -1,20 +1,20 @@
 //! How often each bin of a design is hit in a record.
 ghost use Rattle.std.specs.Prelude.{◌≡◌, ◌<◌, IfOk, OnOk, length};
 ghost use Rattle.cov_counting.specs.Tallies.{IsTally};
+ghost use Rattle.sampler_plans.specs.Shares.{IsShareOf, AreTogether, IsPartTally};
+ghost use Rattle.sampler_plans.specs.Plans.{IsDesignPlan};
 ghost use Rattle.sampler.specs.Starting.{AreAllZero};
 ghost use Rattle.sampler.specs.Walking.{IsWork, ShareCounted};
-ghost use Rattle.sampler.specs.Shares.{IsShareOf, AreTogether, IsPartTally};
-ghost use Rattle.sampler.specs.Plans.{IsDesignPlan, IsTallyOf};
+ghost use Rattle.sampler.specs.Plans.{IsTallyOf};
 
-use crate::plan::{InstPlan, Plan};
 use crate::quick::QuickTable;
-use crate::sharing::share_of;
 use crate::starting::{inst_states, unknown_values};
 use crate::walking::walk;
 use cov_base::Memory;
 use cov_tree::{List, Shared};
 use design_data::{Design, InstInfo};
 use record_codec::Record;
+use sampler_plans::{InstPlan, Plan, share_of};
 use std::alloc::Global;
 use tally::Tally;
 

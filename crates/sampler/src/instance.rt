@@ -4,16 +4,17 @@ ghost use Rattle.cross_sampler.specs.Numbers.{row_at};
 ghost use Rattle.design_data.specs.Bins.{is_point as is_point_of};
 ghost use Rattle.record_codec.specs.Samples.{Env};
 ghost use Rattle.point_sampler.specs.Points.{RowStands as PointRowStands};
-ghost use Rattle.sampler.specs.Standing.{IsSample, IsPointPlan, IsCrossPlan, IsPlanOf, FitsItem, PointStands, CrossStands, Stands, point_first, RowStands, AreNumbered, ArePlans, AreChosen, IsChosen, IsCovered, ArePoints, AllFit, AllStand, RowsStand, KeepsOthers, CrossTaken, ItemTaken, AllTaken};
+ghost use Rattle.sampler_plans.specs.ItemPlans.{IsPointPlan, IsCrossPlan, IsPlanOf, ArePlans};
+ghost use Rattle.sampler.specs.Standing.{IsSample, FitsItem, PointStands, CrossStands, Stands, point_first, RowStands, AreNumbered, AreChosen, IsChosen, IsCovered, ArePoints, AllFit, AllStand, RowsStand, KeepsOthers, CrossTaken, ItemTaken, AllTaken};
 ghost use Rattle.std.specs.List.{AllByRecursion};
 ghost use Rattle.sampler.specs.Walking.{InstFits};
 
-use crate::plan::ItemPlan;
 use const_eval::Bound;
 use cov_base::{Int, Memory};
 use cross_sampler::CrossState;
 use design_data::{ItemInfo, ItemShape};
 use point_sampler::PointState;
+use sampler_plans::ItemPlan;
 
 /// What an item keeps along the samples of its instance.
 #[derive(Drop)]

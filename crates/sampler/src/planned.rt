@@ -1,13 +1,13 @@
 //! A design with what is worked out of it.
 ghost use Rattle.std.specs.Prelude.{◌≡◌, IfOk};
 ghost use Rattle.std.specs.Arc.{arc_value};
-ghost use Rattle.sampler.specs.Plans.{IsDesignPlan};
+ghost use Rattle.sampler_plans.specs.Plans.{IsDesignPlan};
 
-use crate::plan::Plan;
 use crate::prepared::{Prepared, prepare_under};
 use cov_base::{Gate, Memory};
 use design_data::Design;
 use record_codec::Record;
+use sampler_plans::Plan;
 use std::alloc::Global;
 use std::marker::Model;
 use std::sync::Arc;
@@ -29,7 +29,7 @@ impl Model for Planned {
     ghost use Rattle.std.specs.Arc.{arc_value};
     ghost use Rattle.design_data.specs.declared.design.Design.{Design};
     ghost use Rattle.design_data.specs.contracts.design.Design as design_type;
-    ghost use Rattle.sampler.specs.Plans.{IsDesignPlan};
+    ghost use Rattle.sampler_plans.specs.Plans.{IsDesignPlan};
 
     ghost Value = { Design };
 

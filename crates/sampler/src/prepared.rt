@@ -3,15 +3,16 @@ ghost use Rattle.std.specs.Prelude.{◌≡◌, IfOk};
 ghost use Rattle.std.specs.Arc.{arc_value};
 ghost use Rattle.sha2.specs.Sha256.{sha256};
 ghost use Rattle.record_codec.specs.Spelling.{spelling};
-ghost use Rattle.sampler.specs.Plans.{IsDesignPlan, IsTallyOf};
+ghost use Rattle.sampler_plans.specs.Plans.{IsDesignPlan};
+ghost use Rattle.sampler.specs.Plans.{IsTallyOf};
 
 use crate::EncodedRecord;
 use crate::binning::{bin_record, bin_record_under};
-use crate::plan::Plan;
 use cov_base::{Gate, Memory};
 use cov_tree::Name;
 use design_data::Design;
 use record_codec::Record;
+use sampler_plans::Plan;
 use std::alloc::Global;
 use std::marker::Model;
 use std::sync::Arc;

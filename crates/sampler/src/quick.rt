@@ -3,21 +3,21 @@ ghost use Rattle.std.specs.Prelude.{◌≡◌, ◌⊎◌, ◌+◌, ◌<◌, ℕ,
 ghost use Rattle.design_data.specs.declared.infos.ItemInfo.{ItemInfo as Item};
 ghost use Rattle.design_data.specs.declared.infos.ItemShape.TheVariants.{Point as PointOf};
 ghost use Rattle.record_codec.specs.Samples.{Env};
+ghost use Rattle.sampler_plans.specs.declared.plan.ItemPlan.{ItemPlan as AnyPlan};
 ghost use Rattle.sampler.specs.declared.instance.ItemState.{ItemState};
-ghost use Rattle.sampler.specs.declared.plan.ItemPlan.{ItemPlan as AnyPlan};
 ghost use Rattle.sampler.specs.Standing.{IsSample, AllStand, AllTaken, AreChosen};
 ghost use Rattle.sampler.specs.Walking.{IsInstWork, IsWork};
 ghost use Rattle.sampler.specs.Quick.{IsQuickItem, AreQuick, IsQuickInst, AreQuickUpTo, AreReady, AreKept};
 
 use crate::instance::chosen_at;
 use crate::lists::{QuickItem, QuickLists};
-use crate::plan::{InstPlan, ItemPlan};
 use crate::walking::arguments;
 use const_eval::Bound;
 use cov_base::{Int, Memory};
 use cov_tree::{List, Shared};
 use design_data::{InstInfo, ItemInfo, ItemShape};
 use record_codec::Record;
+use sampler_plans::{InstPlan, ItemPlan};
 use std::alloc::Global;
 
 /// The most expressions that are kept: places among them take half a word.

@@ -1,19 +1,20 @@
 //! What stands before the first sample.
 ghost use Rattle.std.specs.Prelude.{◌≡◌, ℕ, List, length, IfOk};
 ghost use Rattle.record_codec.specs.Samples.{Env};
-ghost use Rattle.sampler.specs.Standing.{IsPlanOf, FitsItem, Stands, ArePlans, AreChosen, AllFit, AllStand};
+ghost use Rattle.sampler_plans.specs.ItemPlans.{IsPlanOf, ArePlans};
+ghost use Rattle.sampler.specs.Standing.{FitsItem, Stands, AreChosen, AllFit, AllStand};
 ghost use Rattle.sampler.specs.Walking.{IsWork, InstFits, AllInstFit};
 ghost use Rattle.sampler.specs.Values.{places};
 ghost use Rattle.sampler.specs.Starting.{IsZeroAt, AreAllZero, AllInstStart, AreUnknown};
 
 use crate::instance::{InstState, ItemState, chosen_at};
-use crate::plan::{InstPlan, ItemPlan};
 use cov_base::{Int, Memory};
 use cov_ground::limits::{MOST_ARGUMENTS, MOST_SIGNALS};
 use cov_tree::{List, Shared};
 use cross_sampler::CrossState;
 use design_data::{InstInfo, ItemInfo};
 use point_sampler::PointState;
+use sampler_plans::{InstPlan, ItemPlan};
 use std::alloc::Global;
 
 /// A place for each signal and argument.

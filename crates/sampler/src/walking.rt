@@ -3,19 +3,20 @@ ghost use Rattle.std.specs.Prelude.{◌≡◌, ◌+◌, ◌-◌, ◌^◌, ◌<�
 ghost use Rattle.record_codec.specs.declared.record.Event.{Event as AnyEvent};
 ghost use Rattle.record_codec.specs.declared.record.Event.TheVariants.{Sample};
 ghost use Rattle.record_codec.specs.Samples.{args_of};
+ghost use Rattle.sampler_plans.specs.ItemPlans.{ArePlans};
 ghost use Rattle.sampler.specs.Values.{places, Holds};
-ghost use Rattle.sampler.specs.Standing.{AreNumbered, ArePlans, AreChosen, InstAt, InstTaken};
+ghost use Rattle.sampler.specs.Standing.{AreNumbered, AreChosen, InstAt, InstTaken};
 ghost use Rattle.sampler.specs.Quick.{AreQuickUpTo};
 ghost use Rattle.sampler.specs.Walking.{IsInstWork, IsWork, InstFits, AllInstFit, WalkAt, ShareCounted};
 
 use crate::instance::{InstState, sample_instance};
-use crate::plan::{InstPlan, ItemPlan};
 use crate::quick::{QuickTable, count_items};
 use crate::values::{clear_args, set_signal, write_args};
 use cov_base::{Int, Memory};
 use cov_tree::{List, Shared};
 use design_data::{InstInfo, ItemInfo};
 use record_codec::{ArgRow, Event, InstRow, Record};
+use sampler_plans::{InstPlan, ItemPlan};
 
 /// The arguments of the instance at this index.
 pub(crate) fn arguments(instances: &[InstRow], index: usize) -> &[ArgRow]

@@ -3,14 +3,14 @@ use Rattle.std.proofs.Common.{◌≡◌, ℕ, ◌<◌, List, [], ◌∷◌, map,
 use Rattle.std.specs.Prelude.{replicate}
 use Rattle.std.specs.List.{AllByRecursion}
 use Rattle.record_codec.specs.declared.record.SignalRow.{SignalRow}
-use Rattle.vcd_reader.specs.declared.packing.Item.{Item}
-use Rattle.vcd_reader.specs.declared.packing.Item.TheVariants.{Begins, Changes}
+use Rattle.vcd_dump.specs.declared.packing.Item.{Item}
+use Rattle.vcd_dump.specs.declared.packing.Item.TheVariants.{Begins, Changes}
+use Rattle.vcd_dump.specs.declared.dump.Change.{Change}
+use Rattle.vcd_dump.specs.declared.dump.DumpStep.{DumpStep}
+use Rattle.vcd_dump.specs.Body.{steps_begun, steps_of}
 use Rattle.vcd_reader.specs.declared.watching.Watch.{Watch}
-use Rattle.vcd_reader.specs.declared.dump.Change.{Change}
-use Rattle.vcd_reader.specs.declared.dump.DumpStep.{DumpStep}
 use Rattle.vcd_reader.specs.Held.{unknown, applied}
 use Rattle.vcd_reader.specs.Moments.{table_events, events_of}
-use Rattle.vcd_reader.specs.Body.{steps_begun, steps_of}
 use Rattle.vcd_reader.specs.Starting.{last_time}
 use Rattle.vcd_reader.proofs.Tables.{walk_is}
 

@@ -1,9 +1,9 @@
 -- Lists that are walked until the first refusal.
 use Rattle.std.proofs.Common.{◌≡◌, ℕ, List, [], ◌∷◌, length, Option, Result, Ok, refl, sym, ap, subst, arith}
 use Rattle.design_data.specs.declared.infos.Signal.{Signal}
-use Rattle.vcd_reader.specs.declared.header.Code.{Code}
-use Rattle.vcd_reader.specs.declared.fault.DumpFault.{DumpFault}
-use Rattle.vcd_reader.specs.declared.fault.DumpFault.TheVariants.{Syntax, TimeBack, UnknownCode, BadEvent, NoSignal, WidthDiffers, TooManyEvents, TooLong, Memory}
+use Rattle.vcd_dump.specs.declared.header.Code.{Code}
+use Rattle.vcd_dump.specs.declared.fault.DumpFault.{DumpFault}
+use Rattle.vcd_dump.specs.declared.fault.DumpFault.TheVariants.{Syntax, TimeBack, UnknownCode, BadEvent, NoSignal, WidthDiffers, TooManyEvents, TooLong, Memory}
 use Rattle.vcd_reader.specs.Refusals.{◌>>=◌, Fails, each}
 use Rattle.vcd_reader.specs.Signals.{add_code}
 

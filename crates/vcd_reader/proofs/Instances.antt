@@ -11,8 +11,8 @@ use Rattle.design_data.specs.declared.infos.InstInfo.{InstInfo}
 use Rattle.design_data.specs.declared.infos.Signal.{Signal}
 use Rattle.elab_base.specs.Gives.{Refusal}
 use Rattle.cov_design.specs.Events.{event_levels}
-use Rattle.vcd_reader.specs.declared.header.Code.{Code}
-use Rattle.vcd_reader.specs.declared.fault.DumpFault.{DumpFault}
+use Rattle.vcd_dump.specs.declared.header.Code.{Code}
+use Rattle.vcd_dump.specs.declared.fault.DumpFault.{DumpFault}
 use Rattle.vcd_reader.specs.declared.watching.Watch.{Watch}
 use Rattle.vcd_reader.specs.declared.watching.Watches.{Watches}
 use Rattle.vcd_reader.specs.Refusals.{◌>>=◌, each}

@@ -1,7 +1,3 @@
-pub mod Found
-pub mod Unpacked
-pub mod Widths
-pub mod Loops
 pub mod Each
 pub mod Tables
 pub mod Begun

@@ -12,8 +12,8 @@ use Rattle.record_codec.specs.declared.record.ArgRow.{ArgRow}
 use Rattle.record_codec.specs.declared.record.Event.{Event}
 use Rattle.record_codec.specs.declared.record.Event.TheVariants.{Set, Sample}
 use Rattle.record_codec.specs.Samples.{Env, latest, signal_value, arg_at, env_of, envs_after}
-use Rattle.vcd_reader.specs.declared.dump.Change.{Change}
-use Rattle.vcd_reader.specs.declared.dump.DumpStep.{DumpStep}
+use Rattle.vcd_dump.specs.declared.dump.Change.{Change}
+use Rattle.vcd_dump.specs.declared.dump.DumpStep.{DumpStep}
 use Rattle.vcd_reader.specs.declared.held.Held.{Held}
 use Rattle.vcd_reader.specs.declared.watching.Watch.{Watch}
 use Rattle.vcd_reader.specs.Held.{held}

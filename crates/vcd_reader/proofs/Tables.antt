@@ -8,10 +8,10 @@ use Rattle.std.proofs.lemmas.Bool.Decides.{nat_tests}
 use Rattle.std.proofs.lemmas.Option.{get_or_from_slice_get, slice_get_within}
 use Rattle.std.proofs.lemmas.List.{get_or-set_same, get_or-set_other, length-set, get_or-replicate, length-replicate}
 use Rattle.record_codec.specs.declared.record.Event.{Event}
+use Rattle.vcd_dump.specs.declared.dump.Change.{Change}
+use Rattle.vcd_dump.specs.declared.dump.DumpStep.{DumpStep}
 use Rattle.vcd_reader.specs.declared.watching.Watch.{Watch}
 use Rattle.vcd_reader.specs.declared.held.Held.{Held}
-use Rattle.vcd_reader.specs.declared.dump.Change.{Change}
-use Rattle.vcd_reader.specs.declared.dump.DumpStep.{DumpStep}
 use Rattle.record_codec.specs.declared.record.SignalRow.{SignalRow}
 use Rattle.vcd_reader.specs.Held.{unknown, held_by, held_after, held, applied, shown_by, shown}
 use Rattle.vcd_reader.specs.Moments.{Moment, has_edge, matches, samples_from, sets_from, moment_with, moment_of, held_by_code, signal_held, values_after, table_events, events_from, events_of}

@@ -1,7 +1,7 @@
 -- What a code holds after changes.
 use Rattle.std.specs.Prelude.{ℕ, List, [], ◌∷◌, slice_set, slice_get, slice_index_or, ◌==◌, Option, Some, None, if◌then◌else◌}
-use Rattle.vcd_reader.specs.declared.dump.Bit4.TheVariants.{X}
-use Rattle.vcd_reader.specs.declared.dump.Change.{Change}
+use Rattle.vcd_dump.specs.declared.dump.Bit4.TheVariants.{X}
+use Rattle.vcd_dump.specs.declared.dump.Change.{Change}
 use Rattle.vcd_reader.specs.declared.held.Held.{Held}
 
 -- what is held before the first change: Unknown, with x as the lowest bit

@@ -5,8 +5,8 @@ use Rattle.cov_ground.specs.Limits.{most_signals, most_arguments}
 use Rattle.record_codec.specs.declared.record.SignalRow.{SignalRow}
 use Rattle.record_codec.specs.declared.record.ArgRow.{ArgRow}
 use Rattle.record_codec.specs.Samples.{Env, signal_value, arg_at}
-use Rattle.vcd_reader.specs.declared.dump.Change.{Change}
-use Rattle.vcd_reader.specs.declared.dump.DumpStep.{DumpStep}
+use Rattle.vcd_dump.specs.declared.dump.Change.{Change}
+use Rattle.vcd_dump.specs.declared.dump.DumpStep.{DumpStep}
 use Rattle.vcd_reader.specs.declared.watching.Watch.{Watch}
 use Rattle.vcd_reader.specs.Moments.{signal_held, numbers_from, values_after, matches}
 

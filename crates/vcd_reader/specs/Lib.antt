@@ -1,11 +1,3 @@
-pub mod Words
-pub mod Numbers
-pub mod Values
-pub mod Gives
-pub mod Header
-pub mod Packing
-pub mod Body
-pub mod Reading
 pub mod Refusals
 pub mod Signals
 pub mod Watching
@@ -16,3 +8,6 @@ pub mod Starting
 pub mod Events
 pub mod Records
 pub mod Laws
+pub use Rattle.vcd_dump.specs.Reading
+pub use Rattle.vcd_dump.specs.declared.dump.Dump
+pub use Rattle.vcd_dump.specs.declared.fault.DumpFault

@@ -12,10 +12,10 @@ use Rattle.record_codec.specs.declared.record.Event.{Event}
 use Rattle.record_codec.specs.declared.record.Event.TheVariants.{Set, Sample}
 use Rattle.record_codec.specs.Samples.{signal_value}
 use Rattle.cov_counting.specs.Hits.{holds}
-use Rattle.vcd_reader.specs.declared.dump.Bit4.{Bit4}
-use Rattle.vcd_reader.specs.declared.dump.Bit4.TheVariants.{Zero, One, X, Z}
-use Rattle.vcd_reader.specs.declared.dump.DumpStep.{DumpStep}
-use Rattle.vcd_reader.specs.declared.dump.Change.{Change}
+use Rattle.vcd_dump.specs.declared.dump.Bit4.{Bit4}
+use Rattle.vcd_dump.specs.declared.dump.Bit4.TheVariants.{Zero, One, X, Z}
+use Rattle.vcd_dump.specs.declared.dump.DumpStep.{DumpStep}
+use Rattle.vcd_dump.specs.declared.dump.Change.{Change}
 use Rattle.vcd_reader.specs.declared.held.Held.{Held}
 use Rattle.vcd_reader.specs.declared.watching.Watch.{Watch}
 use Rattle.vcd_reader.specs.Held.{unknown, held, shown, applied}

@@ -6,9 +6,9 @@ use Rattle.design_data.specs.declared.infos.InstInfo.{InstInfo}
 use Rattle.design_data.specs.declared.design.Design.{Design}
 use Rattle.record_codec.specs.declared.record.Fields.{Fields}
 use Rattle.record_codec.specs.Starts.{with_events, size_with}
-use Rattle.vcd_reader.specs.declared.dump.Dump.{Dump}
-use Rattle.vcd_reader.specs.declared.fault.DumpFault.{DumpFault}
-use Rattle.vcd_reader.specs.declared.fault.DumpFault.TheVariants.{BadEvent}
+use Rattle.vcd_dump.specs.declared.dump.Dump.{Dump}
+use Rattle.vcd_dump.specs.declared.fault.DumpFault.{DumpFault}
+use Rattle.vcd_dump.specs.declared.fault.DumpFault.TheVariants.{BadEvent}
 use Rattle.vcd_reader.specs.declared.watching.Watches.{Watches}
 use Rattle.vcd_reader.specs.Signals.{vars_in, codes_of}
 use Rattle.vcd_reader.specs.Watching.{first_of}

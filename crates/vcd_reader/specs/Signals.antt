@@ -4,11 +4,11 @@ use mathlib.Core.Bool.{◌&&◌}
 use Rattle.std.specs.List.{flat_map}
 use Rattle.name_map.specs.Names.{Pairs}
 use Rattle.design_data.specs.declared.infos.Signal.{Signal}
-use Rattle.vcd_reader.specs.declared.dump.DumpVar.{DumpVar}
-use Rattle.vcd_reader.specs.declared.header.Code.{Code}
-use Rattle.vcd_reader.specs.declared.fault.DumpFault.{DumpFault}
-use Rattle.vcd_reader.specs.declared.fault.DumpFault.TheVariants.{NoSignal, WidthDiffers}
-use Rattle.vcd_reader.specs.Header.{is}
+use Rattle.vcd_dump.specs.declared.dump.DumpVar.{DumpVar}
+use Rattle.vcd_dump.specs.declared.header.Code.{Code}
+use Rattle.vcd_dump.specs.declared.fault.DumpFault.{DumpFault}
+use Rattle.vcd_dump.specs.declared.fault.DumpFault.TheVariants.{NoSignal, WidthDiffers}
+use Rattle.vcd_dump.specs.Header.{is}
 use Rattle.vcd_reader.specs.Refusals.{◌>>=◌, each}
 
 -- a variable of the scope that is no bit and no word of what has its name

@@ -7,10 +7,10 @@ use Rattle.record_codec.specs.declared.record.Start.{Start}
 use Rattle.record_codec.specs.declared.making.MakeFault.{MakeFault}
 use Rattle.record_codec.specs.declared.making.MakeFault.TheVariants as faults
 use Rattle.cov_counting.specs.Tables.{signals_of, instances_of}
-use Rattle.vcd_reader.specs.declared.dump.Dump.{Dump}
-use Rattle.vcd_reader.specs.declared.dump.DumpStep.{DumpStep}
-use Rattle.vcd_reader.specs.declared.fault.DumpFault.{DumpFault}
-use Rattle.vcd_reader.specs.declared.fault.DumpFault.TheVariants.{TooManyEvents, TooLong, Memory}
+use Rattle.vcd_dump.specs.declared.dump.Dump.{Dump}
+use Rattle.vcd_dump.specs.declared.dump.DumpStep.{DumpStep}
+use Rattle.vcd_dump.specs.declared.fault.DumpFault.{DumpFault}
+use Rattle.vcd_dump.specs.declared.fault.DumpFault.TheVariants.{TooManyEvents, TooLong, Memory}
 
 -- the time of the last step, or 0
 abbrev pub last_time : ℕ → List DumpStep → ℕ

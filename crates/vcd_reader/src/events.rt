@@ -8,13 +8,13 @@ ghost use Rattle.vcd_reader.specs.Watching.{with_event};
 ghost use Rattle.vcd_reader.specs.Events.{watched_in, event_watched, add_event, all_events};
 ghost use Rattle.vcd_reader.specs.Records.{watches_of};
 
-use crate::DumpFault;
 use crate::watching::{Watch, Watches, all_watched, first_of, group_event};
 use cov_design::event_scope;
 use cov_ground::Memory;
 use cov_tree::{DesignText, EdgeText, List};
 use design_data::{Design, InstInfo};
 use std::alloc::Global;
+use vcd_dump::DumpFault;
 
 /// The event of an instance of which some edge is written; None where it can't be watched.
 #[tactic(auto, using(crate::proofs::Instances::watched_is))]

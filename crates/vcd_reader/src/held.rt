@@ -1,11 +1,10 @@
 //! What codes hold after changes.
 ghost use Rattle.std.specs.Prelude.{◌≡◌, slice_set};
-ghost use Rattle.vcd_reader.specs.Packing.{items_in};
-ghost use Rattle.vcd_reader.specs.Body.{changes_of};
+ghost use Rattle.vcd_dump.specs.Packing.{items_in};
+ghost use Rattle.vcd_dump.specs.Body.{changes_of};
 ghost use Rattle.vcd_reader.specs.Held.{held_by, applied};
 
-use crate::steps::next_change;
-use crate::{Bit4, Change};
+use vcd_dump::{Bit4, Change, next_change};
 
 /// What a code holds: its value, which is None where it is Unknown, and its lowest bit.
 #[derive(Clone, Copy)]

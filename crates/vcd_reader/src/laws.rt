@@ -3,7 +3,7 @@ ghost use Rattle.std.specs.Prelude.{◌≡◌, ℕ, List, [], slice_index_or};
 ghost use Rattle.record_codec.specs.declared.record.SignalRow.{SignalRow};
 ghost use Rattle.record_codec.specs.declared.record.ArgRow.{ArgRow};
 ghost use Rattle.record_codec.specs.Samples.{envs_after};
-ghost use Rattle.vcd_reader.specs.declared.dump.DumpStep.{DumpStep};
+ghost use Rattle.vcd_dump.specs.declared.dump.DumpStep.{DumpStep};
 ghost use Rattle.vcd_reader.specs.declared.watching.Watch.{Watch};
 ghost use Rattle.vcd_reader.specs.Moments.{events_of};
 ghost use Rattle.vcd_reader.specs.Laws.{moments_of};

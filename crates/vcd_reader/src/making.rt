@@ -12,12 +12,12 @@ ghost use Rattle.vcd_reader.specs.Starting.{start_of, limited, refused};
 
 use crate::start::start_of;
 use crate::walking::{Plan, push_events};
-use crate::{Dump, DumpFault};
 use cov_ground::Memory;
 use cov_tree::Name;
 use design_data::Design;
 use record_codec::{MakeFault, Record, RecordBuilder, Start};
 use std::alloc::Global;
+use vcd_dump::{Dump, DumpFault};
 
 /// A builder with this start. A name that no record can hold counts as want of memory: no text has one.
 fn begin(alloc: Global, start: Start) -> Result<RecordBuilder, Memory>

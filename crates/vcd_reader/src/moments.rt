@@ -6,7 +6,6 @@ ghost use Rattle.record_codec.specs.declared.record.Event.TheVariants.{Set, Samp
 ghost use Rattle.vcd_reader.specs.Held.{unknown, shown, applied};
 ghost use Rattle.vcd_reader.specs.Moments.{is_zero, is_one, is_x, is_z, rises, falls, same_bit, same_value, is_edge, numbers_from, sets_from, matches, samples_from, has_edge, moment_with, moment_of};
 
-use crate::Bit4;
 use crate::held::{Held, UNKNOWN};
 use crate::watching::Watch;
 use cov_base::Int;
@@ -15,6 +14,7 @@ use cov_ground::Memory;
 use cov_tree::{EdgeKind, List};
 use record_codec::{Event, SignalRow};
 use std::alloc::Global;
+use vcd_dump::Bit4;
 
 fn is_zero(bit: Bit4) -> bool
     ensures { result ≡ is_zero bit }

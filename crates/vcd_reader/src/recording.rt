@@ -11,12 +11,12 @@ use crate::making::record_by;
 use crate::signals::codes_of;
 use crate::walking::Plan;
 use crate::watching::Watches;
-use crate::{Dump, DumpFault};
 use cov_counting::signal_rows;
 use cov_tree::{DesignText, List, Name};
 use design_data::Design;
 use record_codec::Record;
 use std::alloc::Global;
+use vcd_dump::{Dump, DumpFault};
 
 /// The record by the codes of the signals and the events of the instances.
 #[tactic(auto, unfolding(crate::specs::Records::made_of))]

@@ -4,13 +4,12 @@ ghost use Rattle.name_map.specs.Names.{meaning_of};
 ghost use Rattle.vcd_reader.specs.Refusals.{Gives, Makes, each};
 ghost use Rattle.vcd_reader.specs.Signals.{var_pair, vars_in, code_for, add_code, codes_of};
 
-use crate::header::Code;
-use crate::{DumpFault, DumpVar};
 use cov_ground::Memory;
 use cov_tree::{List, Name};
 use design_data::Signal;
 use name_map::NameMap;
 use std::alloc::Global;
+use vcd_dump::{Code, DumpFault, DumpVar};
 
 /// A variable with its code, where it stands in the scope and is no bit and no word of what has its name.
 fn add_pair(

@@ -2,14 +2,13 @@
 ghost use Rattle.std.specs.Prelude.{◌≡◌, IfOk};
 ghost use Rattle.vcd_reader.specs.Starting.{last_time, start_of};
 
-use crate::steps::next_time;
-use crate::{Dump, Steps};
 use cov_counting::{instance_rows, signal_rows};
 use cov_ground::Memory;
 use cov_tree::Name;
 use design_data::Design;
 use record_codec::Start;
 use std::alloc::Global;
+use vcd_dump::{Dump, Steps, next_time};
 
 /// The time of the last step, or 0.
 fn last_time(steps: &Steps) -> u64

@@ -2,21 +2,20 @@
 ghost use Rattle.std.specs.Prelude.{◌≡◌, ◌≤◌, ◌<◌, ◌∷◌, [], None, map, length, replicate, slice_index_or, IfOk, OnOk};
 ghost use Rattle.std.specs.List.{AllByRecursion};
 ghost use Rattle.cov_ground.specs.Limits.{most_signals, most_instances};
-ghost use Rattle.vcd_reader.specs.Packing.{items_in};
-ghost use Rattle.vcd_reader.specs.Body.{changes_of, steps_begun};
+ghost use Rattle.vcd_dump.specs.Packing.{items_in};
+ghost use Rattle.vcd_dump.specs.Body.{changes_of, steps_begun};
 ghost use Rattle.vcd_reader.specs.Held.{unknown, shown, applied};
 ghost use Rattle.vcd_reader.specs.Moments.{moment_of, table_events, events_of};
 ghost use Rattle.vcd_reader.specs.Pushing.{Pushed};
 
-use crate::Steps;
 use crate::held::{Held, UNKNOWN, apply};
 use crate::moments::{Step, moment};
-use crate::steps::{first_time, next_time};
 use crate::watching::Watch;
 use cov_ground::Memory;
 use cov_tree::List;
 use record_codec::{Event, RecordBuilder, SignalRow};
 use std::alloc::Global;
+use vcd_dump::{Steps, first_time, next_time};
 
 /// What is watched: the signals' rows and codes, and the edges of each instance.
 #[derive(Drop)]

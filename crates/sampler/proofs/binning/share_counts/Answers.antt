@@ -1,9 +1,9 @@
 use Rattle.std.proofs.Common.{◌≡◌, ◌∙◌, List, ℕ, length, drop, ap, sym, subst, arith}
 use Rattle.design_data.specs.declared.infos.InstInfo.{InstInfo}
-use Rattle.sampler.specs.declared.plan.InstPlan.{InstPlan}
+use Rattle.sampler_plans.specs.declared.plan.InstPlan.{InstPlan}
+use Rattle.sampler_plans.specs.Shares.{IsPartTally}
 use Rattle.sampler.specs.Starting.{AreAllZero}
 use Rattle.sampler.specs.Walking.{IsWork, ShareCounted}
-use Rattle.sampler.specs.Shares.{IsPartTally}
 use Rattle.sampler.proofs.Starts.{written}
 use Rattle.sampler.proofs.Parts.{is_work, part_counted}
 use Rattle.sampler.proofs.binning.share_counts.Goals as goal

@@ -1,8 +1,9 @@
 use Rattle.std.proofs.Common.{◌∙◌, ap, subst}
 use Rattle.cross_sampler.specs.declared.plan.CrossPlan.{CrossPlan}
+use Rattle.sampler_plans.specs.declared.plan.ItemPlan.{ItemPlan}
+use Rattle.sampler_plans.specs.ItemPlans.{IsCrossPlan}
 use Rattle.sampler.specs.declared.instance.ItemState.{ItemState}
-use Rattle.sampler.specs.declared.plan.ItemPlan.{ItemPlan}
-use Rattle.sampler.specs.Standing.{IsCrossPlan, CrossStands}
+use Rattle.sampler.specs.Standing.{CrossStands}
 use Rattle.sampler.proofs.Items.{are_hit}
 use Rattle.sampler.proofs.instance.cross_taken.Goals as goal
 

@@ -1,7 +1,7 @@
 use Rattle.std.proofs.Common.{◌≡◌, ◌+◌, ℕ, List, length}
 use Rattle.record_codec.specs.Samples.{Env}
 use Rattle.design_data.specs.declared.infos.ItemInfo.{ItemInfo}
-use Rattle.sampler.specs.declared.plan.ItemPlan.{ItemPlan}
+use Rattle.sampler_plans.specs.declared.plan.ItemPlan.{ItemPlan}
 use Rattle.sampler.specs.declared.instance.ItemState.{ItemState}
 use Rattle.sampler.specs.Standing.{IsSample, AllStand, SomeTaken}
 use Rattle.sampler.specs.Walking.{IsInstWork}

@@ -1,7 +1,7 @@
 use Rattle.std.proofs.Common.{◌≡◌, ℕ, length, Some}
 use Rattle.std.specs.Prelude.{slice_get}
 use Rattle.design_data.specs.declared.infos.ItemInfo.{ItemInfo}
-use Rattle.sampler.specs.declared.plan.ItemPlan.{ItemPlan}
+use Rattle.sampler_plans.specs.declared.plan.ItemPlan.{ItemPlan}
 use Rattle.sampler.specs.declared.lists.QuickItem.{QuickItem}
 use Rattle.sampler.specs.Quick.{IsQuickItem, AreKept}
 use Rattle.sampler.proofs.quick.quick_items.Given as goal

@@ -3,13 +3,15 @@ use Rattle.std.specs.Prelude.{slice_get}
 use Rattle.std.proofs.lemmas.Option.{slice_get_within}
 use Rattle.design_data.specs.declared.infos.ItemInfo.{ItemInfo}
 use Rattle.record_codec.specs.Samples.{Env}
-use Rattle.sampler.specs.declared.plan.ItemPlan.{ItemPlan}
+use Rattle.sampler_plans.specs.declared.plan.ItemPlan.{ItemPlan}
+use Rattle.sampler_plans.specs.ItemPlans.{ArePlans}
+use Rattle.sampler_plans.proofs.Places.{each_push}
 use Rattle.sampler.specs.declared.instance.InstState.{InstState}
-use Rattle.sampler.specs.Standing.{ArePlans, AreChosen, AllStand}
+use Rattle.sampler.specs.Standing.{AreChosen, AllStand}
 use Rattle.sampler.specs.Starting.{AreAllZero}
 use Rattle.sampler.specs.Walking.{InstFits}
 use Rattle.sampler.proofs.Items.{read_at}
-use Rattle.sampler.proofs.Starts.{InstFitsAt, InstStartsAt, inst_fits_here, inst_starts_here, each_push, by_parts}
+use Rattle.sampler.proofs.Starts.{InstFitsAt, InstStartsAt, inst_fits_here, inst_starts_here, by_parts}
 use Rattle.sampler.proofs.starting.inst_states.Goals as goal
 
 pub inst_state-requires-clause-same : goal.inst_state-requires-clause-same

@@ -5,9 +5,10 @@ use Rattle.design_data.specs.declared.infos.BinInfo.{BinInfo}
 use Rattle.record_codec.specs.Samples.{Env}
 use Rattle.point_sampler.specs.Points.{StateStands}
 use Rattle.point_sampler.specs.declared.plan.PointPlan.{PointPlan}
-use Rattle.sampler.specs.declared.plan.ItemPlan.{ItemPlan}
+use Rattle.sampler_plans.specs.declared.plan.ItemPlan.{ItemPlan}
+use Rattle.sampler_plans.specs.ItemPlans.{IsPlanOf}
 use Rattle.sampler.specs.declared.instance.ItemState.TheVariants as kept
-use Rattle.sampler.specs.Standing.{IsPlanOf, FitsItem, Stands}
+use Rattle.sampler.specs.Standing.{FitsItem, Stands}
 use Rattle.sampler.proofs.Starts.{start_point, start_cross}
 use Rattle.sampler.proofs.starting.item_state.Goals as goal
 

@@ -1,9 +1,10 @@
 use Rattle.std.proofs.Common.{◌≡◌, ◌∙◌, ◌<◌, ◌+◌, ◌∷◌, [], List, ℕ, length, ap, arith, length-append, Some}
 use Rattle.std.specs.Prelude.{slice_get}
 use Rattle.std.proofs.lemmas.Option.{slice_get_within}
+use Rattle.sampler_plans.proofs.Places.{each_push}
 use Rattle.sampler.specs.declared.instance.ItemState.{ItemState}
 use Rattle.sampler.proofs.Items.{read_at}
-use Rattle.sampler.proofs.Starts.{FitsAt, StartsAt, fits_here, starts_here, each_push}
+use Rattle.sampler.proofs.Starts.{FitsAt, StartsAt, fits_here, starts_here}
 use Rattle.sampler.proofs.starting.item_states.Goals as goal
 
 pub item_state-requires : goal.item_state-requires

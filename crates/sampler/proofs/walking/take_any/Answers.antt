@@ -4,7 +4,7 @@ use Rattle.design_data.specs.declared.infos.ItemInfo.{ItemInfo}
 use Rattle.record_codec.specs.declared.record.Event.{Event}
 use Rattle.record_codec.specs.declared.record.Event.TheVariants.{Set, Sample}
 use Rattle.record_codec.specs.declared.record.SignalRow.{SignalRow}
-use Rattle.sampler.specs.declared.plan.ItemPlan.{ItemPlan}
+use Rattle.sampler_plans.specs.declared.plan.ItemPlan.{ItemPlan}
 use Rattle.sampler.specs.declared.instance.InstState.{InstState}
 use Rattle.sampler.specs.Values.{Holds}
 use Rattle.sampler.specs.Standing.{InstAt, InstTaken}

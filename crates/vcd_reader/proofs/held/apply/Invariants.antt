@@ -1,6 +1,6 @@
 use Rattle.std.proofs.Common.{◌≡◌, length}
-use Rattle.vcd_reader.specs.Packing.{items_in}
-use Rattle.vcd_reader.specs.Body.{changes_of}
+use Rattle.vcd_dump.specs.Packing.{items_in}
+use Rattle.vcd_dump.specs.Body.{changes_of}
 use Rattle.vcd_reader.specs.Held.{applied}
 use Rattle.vcd_reader.proofs.held.apply.Given as goal
 

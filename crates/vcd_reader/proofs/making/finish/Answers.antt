@@ -1,6 +1,6 @@
 use Rattle.std.proofs.Common.{sym, subst}
 use Rattle.record_codec.specs.Starts.{with_events, size_with}
-use Rattle.vcd_reader.specs.declared.fault.DumpFault.{DumpFault}
+use Rattle.vcd_dump.specs.declared.fault.DumpFault.{DumpFault}
 use Rattle.vcd_reader.specs.Refusals.{Fails}
 use Rattle.vcd_reader.specs.Starting.{limited}
 use Rattle.vcd_reader.proofs.Limited.{made_is, refused_is}

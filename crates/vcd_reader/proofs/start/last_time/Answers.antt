@@ -1,5 +1,5 @@
 use Rattle.std.proofs.Common.{ap, ◌∙◌}
-use Rattle.vcd_reader.specs.Packing.{items_in}
+use Rattle.vcd_dump.specs.Packing.{items_in}
 use Rattle.vcd_reader.specs.Starting.{last_time}
 use Rattle.vcd_reader.proofs.Begun.{last_of_begun}
 use Rattle.vcd_reader.proofs.start.last_time.Goals as goal

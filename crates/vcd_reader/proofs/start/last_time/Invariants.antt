@@ -1,6 +1,6 @@
 use Rattle.std.proofs.Common.{◌≡◌, length}
-use Rattle.vcd_reader.specs.Packing.{items_in}
-use Rattle.vcd_reader.specs.Body.{steps_begun}
+use Rattle.vcd_dump.specs.Packing.{items_in}
+use Rattle.vcd_dump.specs.Body.{steps_begun}
 use Rattle.vcd_reader.specs.Starting.{last_time}
 use Rattle.vcd_reader.proofs.start.last_time.Given as goal
 

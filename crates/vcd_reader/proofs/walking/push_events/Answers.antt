@@ -2,9 +2,9 @@ use Rattle.std.proofs.Common.{◌≡◌, ℕ, ◌<◌, List, length, map, None, 
 use Rattle.std.specs.Prelude.{replicate}
 use Rattle.std.specs.List.{AllByRecursion}
 use Rattle.record_codec.specs.declared.record.Event.{Event}
-use Rattle.vcd_reader.specs.declared.dump.DumpStep.{DumpStep}
-use Rattle.vcd_reader.specs.Packing.{items_in}
-use Rattle.vcd_reader.specs.Body.{changes_of, steps_begun}
+use Rattle.vcd_dump.specs.declared.dump.DumpStep.{DumpStep}
+use Rattle.vcd_dump.specs.Packing.{items_in}
+use Rattle.vcd_dump.specs.Body.{changes_of, steps_begun}
 use Rattle.vcd_reader.specs.Held.{unknown, applied}
 use Rattle.vcd_reader.specs.Moments.{table_events}
 use Rattle.vcd_reader.specs.Pushing.{Pushed}

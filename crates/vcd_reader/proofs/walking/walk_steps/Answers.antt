@@ -1,6 +1,6 @@
 use Rattle.std.proofs.Common.{length, ap, sym, refl, ◌∙◌}
-use Rattle.vcd_reader.specs.Packing.{items_in}
-use Rattle.vcd_reader.specs.Body.{changes_of, steps_begun}
+use Rattle.vcd_dump.specs.Packing.{items_in}
+use Rattle.vcd_dump.specs.Body.{changes_of, steps_begun}
 use Rattle.vcd_reader.specs.Held.{applied}
 use Rattle.vcd_reader.proofs.Tables.{table_step, no_steps}
 use Rattle.vcd_reader.proofs.Pushes.{goes_on, is_done}

@@ -1,6 +1,6 @@
 use Rattle.std.proofs.Common.{◌≡◌, length}
-use Rattle.vcd_reader.specs.Packing.{items_in}
-use Rattle.vcd_reader.specs.Body.{steps_begun}
+use Rattle.vcd_dump.specs.Packing.{items_in}
+use Rattle.vcd_dump.specs.Body.{steps_begun}
 use Rattle.vcd_reader.specs.Moments.{table_events}
 use Rattle.vcd_reader.proofs.Pushes.{SoFar}
 use Rattle.vcd_reader.proofs.walking.walk_steps.Given as goal

@@ -1,10 +1,10 @@
 use Rattle.std.proofs.Common.{◌≡◌, ◌∙◌, ◌-◌, ap, sym, subst, ℕ, length, Some, None}
 use Rattle.cov_history.specs.History.{tests_of}
-use Rattle.merge_store.specs.Keeps.{IsLast}
-use Rattle.merge_store.specs.Lasts.{is_test}
-use Rattle.merge_store.specs.Words.{test_of}
+use Rattle.store_parts.specs.Keeps.{IsLast}
+use Rattle.store_parts.specs.Lasts.{is_test}
+use Rattle.store_parts.specs.Words.{test_of}
 use Rattle.merge_store.specs.Stores.{opening_of, entries_of}
-use Rattle.merge_store.proofs.Latest.{last_test, last_there}
+use Rattle.store_parts.proofs.Latest.{last_test, last_there}
 use Rattle.merge_store.proofs.store.Store.admitted.Goals as goal
 
 pub returns-in-Some : goal.returns-in-Some

@@ -3,10 +3,10 @@ use Rattle.std.proofs.lemmas.List.{length-map}
 use Rattle.std.specs.declared.vec.Vec.{Vec}
 use Rattle.std.specs.declared.alloc.Global.{Global}
 use Rattle.cov_history.specs.History.{Test, tests_of}
-use Rattle.merge_store.specs.declared.held.Kept.{Kept}
-use Rattle.merge_store.specs.Words.{entry_of, test_of}
+use Rattle.store_parts.specs.declared.held.Kept.{Kept}
+use Rattle.store_parts.specs.Words.{entry_of, test_of}
 use Rattle.merge_store.specs.Stores.{entries_of}
-use Rattle.merge_store.proofs.Excluding.{history_is}
+use Rattle.store_parts.proofs.Excluding.{history_is}
 use Rattle.merge_store.proofs.store.Store.amounts.Goals as goal
 
 pub returns : goal.returns

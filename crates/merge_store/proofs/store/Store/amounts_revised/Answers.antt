@@ -3,10 +3,10 @@ use Rattle.std.proofs.lemmas.List.{length-map}
 use Rattle.std.proofs.lemmas.List.Sums.{length-filter, count_by-le-length}
 use Rattle.ucis_model.specs.declared.answers.Which.TheVariants.{History}
 use Rattle.cov_history.specs.History.{out_of, is_found}
-use Rattle.merge_store.specs.Words.{entry_of}
+use Rattle.store_parts.specs.Words.{entry_of}
 use Rattle.merge_store.specs.Stores.{opening_of, entries_of}
-use Rattle.merge_store.proofs.Excluding.{history_amount}
-use Rattle.merge_store.proofs.Revising.{contents_since, revised_amounts}
+use Rattle.store_parts.proofs.Excluding.{history_amount}
+use Rattle.store_parts.proofs.Revising.{contents_since, revised_amounts}
 use Rattle.merge_store.proofs.store.Store.amounts_revised.Goals as goal
 
 pub overflow_add-result-3 : goal.overflow_add-result-3

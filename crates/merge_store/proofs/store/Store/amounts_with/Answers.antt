@@ -4,7 +4,7 @@ use Rattle.sampler.specs.Plans.{IsTallyOf}
 use Rattle.record_codec.specs.Spelling.{spelling}
 use Rattle.cov_history.specs.History.{design_of, bins_hit}
 use Rattle.merge_store.specs.Stores.{opening_of, entries_of}
-use Rattle.merge_store.proofs.Tallied.{rows_are, size_is}
+use Rattle.store_parts.proofs.Tallied.{rows_are, size_is}
 use Rattle.cov_history.proofs.Amounting.{amounts_more}
 use Rattle.merge_store.proofs.store.Store.amounts_with.Goals as goal
 

@@ -3,8 +3,8 @@ use Rattle.cov_history.specs.Answers.{Serves}
 use Rattle.store_core.specs.declared.asks.Ask.{Ask}
 use Rattle.store_core.specs.Asks.{asked, revision_of}
 use Rattle.merge_store.specs.Stores.{opening_of, entries_of}
-use Rattle.merge_store.specs.Told.{admitted, excluded, included, revised, rows_read, cover_read, tests_read, rank_read, name_read, chunk_read}
-use Rattle.merge_store.proofs.Served.{serves_hello, serves_counts, serves_coverage, serves_illegal, serves_tests, serves_test_counts, serves_rank, serves_name, serves_fetch, serves_admit, serves_exclude, serves_include, serves_revise}
+use Rattle.store_parts.specs.Told.{admitted, excluded, included, revised, rows_read, cover_read, tests_read, rank_read, name_read, chunk_read}
+use Rattle.store_parts.proofs.Served.{serves_hello, serves_counts, serves_coverage, serves_illegal, serves_tests, serves_test_counts, serves_rank, serves_name, serves_fetch, serves_admit, serves_exclude, serves_include, serves_revise}
 use Rattle.merge_store.proofs.store.Store.answer.Goals as goal
 
 pub returns-in-Hello-clause-served : goal.returns-in-Hello-clause-served

@@ -1,8 +1,8 @@
 use Rattle.std.proofs.Common.{sym, subst, ℕ}
 use Rattle.cov_history.specs.History.{is_test_or_revise}
-use Rattle.merge_store.specs.Keeps.{IsLast}
+use Rattle.store_parts.specs.Keeps.{IsLast}
 use Rattle.merge_store.specs.Stores.{entries_of}
-use Rattle.merge_store.proofs.Latest.{last_of_both}
+use Rattle.store_parts.proofs.Latest.{last_of_both}
 use Rattle.merge_store.proofs.store.Store.changed.Goals as goal
 
 pub returns : goal.returns

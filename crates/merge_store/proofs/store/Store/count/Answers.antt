@@ -1,6 +1,6 @@
 use Rattle.std.proofs.Common.{◌∙◌}
 use Rattle.cov_history.specs.Coverage.{count_at}
-use Rattle.merge_store.proofs.Standing.{same_count}
+use Rattle.store_parts.proofs.Standing.{same_count}
 use Rattle.merge_store.proofs.store.Store.count.Goals as goal
 
 pub returns : goal.returns

@@ -5,7 +5,7 @@ use Rattle.cov_history.specs.Nodes.{bins_under}
 use Rattle.cov_history.specs.Answers.{rows}
 use Rattle.store_sums.specs.Now.{nodes_now as sums_nodes, count_now, excluded_now}
 use Rattle.merge_store.specs.Now.{nodes_now}
-use Rattle.merge_store.proofs.Standing.{same_count, same_excluded}
+use Rattle.store_parts.proofs.Standing.{same_count, same_excluded}
 use Rattle.merge_store.proofs.store.Store.counts.Goals as goal
 
 pub returns-in-Ok : goal.returns-in-Ok

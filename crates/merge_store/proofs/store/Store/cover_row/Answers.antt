@@ -1,6 +1,6 @@
 use Rattle.std.proofs.Common.{◌∙◌}
 use Rattle.cov_history.specs.Answers.{cover_row}
-use Rattle.merge_store.proofs.Standing.{same_count, same_excluded}
+use Rattle.store_parts.proofs.Standing.{same_count, same_excluded}
 use Rattle.merge_store.proofs.store.Store.cover_row.Goals as goal
 
 pub returns : goal.returns

@@ -1,5 +1,5 @@
 use Rattle.std.proofs.Common.{sym, inl}
-use Rattle.merge_store.proofs.Excluding.{exclude_made}
+use Rattle.store_parts.proofs.Excluding.{exclude_made}
 use Rattle.merge_store.proofs.store.Store.exclude.Goals as goal
 
 pub returns-in-Ok-clause-answer : goal.returns-in-Ok-clause-answer

@@ -1,7 +1,7 @@
 use Rattle.std.proofs.Common.{◌∙◌, ap, inl, List, ℕ}
 use Rattle.cov_history.specs.Answers.{rows, illegal_hit}
 use Rattle.store_sums.specs.Now.{nodes_now, count_now, excluded_now}
-use Rattle.merge_store.proofs.Standing.{same_count, same_excluded}
+use Rattle.store_parts.proofs.Standing.{same_count, same_excluded}
 use Rattle.merge_store.proofs.store.Store.illegal.Goals as goal
 
 pub returns-in-Ok-rows : goal.returns-in-Ok-rows

@@ -7,12 +7,12 @@ use Rattle.std.specs.declared.alloc.Global.{Global}
 use Rattle.cov_tree.specs.declared.name.Name.{Name}
 use Rattle.cov_history.specs.declared.entry.Event.TheVariants.{Include}
 use Rattle.cov_history.specs.Answers.{by}
-use Rattle.merge_store.specs.Words.{entry_of}
-use Rattle.merge_store.specs.declared.held.HeldEvent.TheVariants as HeldEvent
+use Rattle.store_parts.specs.Words.{entry_of}
+use Rattle.store_parts.specs.declared.held.HeldEvent.TheVariants as HeldEvent
 use Rattle.merge_store.specs.Stores.{entries_of}
 use Rattle.store_sums.proofs.Ranges.{map_more}
 use Rattle.store_sums.proofs.Stored.{option_at, unset_option}
-use Rattle.merge_store.proofs.Excluding.{include_none, include_made, include_keeps, path_is, outs_one}
+use Rattle.store_parts.proofs.Excluding.{include_none, include_made, include_keeps, path_is, outs_one}
 use Rattle.merge_store.proofs.store.Store.include.Goals as goal
 
 pub returns-in_default-put_back-clause-answer : goal.returns-in_default-put_back-clause-answer

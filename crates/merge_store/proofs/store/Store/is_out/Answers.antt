@@ -1,5 +1,5 @@
 use Rattle.std.proofs.Common.{◌∙◌, sym}
-use Rattle.merge_store.proofs.Excluding.{out_flag}
+use Rattle.store_parts.proofs.Excluding.{out_flag}
 use Rattle.merge_store.proofs.store.Store.is_out.Goals as goal
 
 pub returns : goal.returns

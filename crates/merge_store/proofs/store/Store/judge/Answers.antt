@@ -3,7 +3,7 @@ use Rattle.design_data.specs.declared.design.Design.{Design}
 use Rattle.cov_history.specs.Tables.{fits}
 use Rattle.cov_history.specs.History.{kept}
 use Rattle.merge_store.specs.Stores.{entries_of}
-use Rattle.merge_store.proofs.Admitting.{same_since, admit_made}
+use Rattle.store_parts.proofs.Admitting.{same_since, admit_made}
 use Rattle.merge_store.proofs.store.Store.judge.Goals as goal
 
 pub amounts_with-after-requires : goal.amounts_with-after-requires

@@ -1,11 +1,11 @@
 use Rattle.std.proofs.Common.{◌≡◌, ◌∙◌, ap, sym, Option, option_map}
 use Rattle.std.specs.Arc.{arc_value}
 use Rattle.cov_history.specs.History.{design_of, tests_of}
-use Rattle.merge_store.specs.Keeps.{rows_of}
-use Rattle.merge_store.specs.declared.held.Kept.{Kept}
-use Rattle.merge_store.specs.Words.{test_of}
+use Rattle.store_parts.specs.Keeps.{rows_of}
+use Rattle.store_parts.specs.declared.held.Kept.{Kept}
+use Rattle.store_parts.specs.Words.{test_of}
 use Rattle.merge_store.specs.Stores.{opening_of, entries_of}
-use Rattle.merge_store.proofs.ById.{borrowed, kept_is, by_id_tallied, lent}
+use Rattle.store_parts.proofs.ById.{borrowed, kept_is, by_id_tallied, lent}
 use Rattle.merge_store.proofs.store.Store.kept.Goals as goal
 
 pub returns-clause-test : goal.returns-clause-test

@@ -2,9 +2,9 @@ use Rattle.std.proofs.Common.{◌≡◌, ◌∙◌, ◌+◌, ◌<◌, ap, sym, s
 use Rattle.std.proofs.lemmas.List.{length-map}
 use Rattle.ucis_model.specs.declared.answers.Answer.TheVariants as answer
 use Rattle.ucis_model.specs.declared.answers.Which.TheVariants.{History}
-use Rattle.merge_store.specs.Words.{entry_of}
+use Rattle.store_parts.specs.Words.{entry_of}
 use Rattle.merge_store.specs.Stores.{entries_of}
-use Rattle.merge_store.proofs.Excluding.{exclude_already, exclude_full, may_exclude}
+use Rattle.store_parts.proofs.Excluding.{exclude_already, exclude_full, may_exclude}
 use Rattle.merge_store.proofs.store.Store.may_exclude.Goals as goal
 
 pub returns-then-is_out-clause-refused : goal.returns-then-is_out-clause-refused

@@ -4,7 +4,7 @@ use Rattle.design_data.specs.declared.design.Design.{Design}
 use Rattle.ucis_model.specs.declared.answers.Answer.TheVariants as answer
 use Rattle.cov_history.specs.History.{out_of, is_found}
 use Rattle.merge_store.specs.Stores.{opening_of, entries_of}
-use Rattle.merge_store.proofs.Revising.{calm_is, revise_full}
+use Rattle.store_parts.proofs.Revising.{calm_is, revise_full}
 use Rattle.merge_store.proofs.store.Store.may_revise.Goals as goal
 
 pub amounts_revised-after-requires-clause-calm : goal.amounts_revised-after-requires-clause-calm

@@ -6,7 +6,7 @@ use Rattle.std.specs.declared.alloc.Global.{Global}
 use Rattle.cov_tree.specs.declared.name.Name.{Name}
 use Rattle.design_data.specs.declared.design.Design.{Design}
 use Rattle.ucis_model.specs.Nodes.{nodes_of}
-use Rattle.merge_store.proofs.Beginning.{fresh, map_none}
+use Rattle.store_parts.proofs.Beginning.{fresh, map_none}
 use Rattle.merge_store.proofs.store.Store.new.Goals as goal
 
 pub invariant_of-result-clause-keeps : goal.invariant_of-result-clause-keeps

@@ -7,7 +7,7 @@ use Rattle.std.proofs.lemmas.List.{length-map}
 use Rattle.cov_tree.specs.declared.name.Name.{Name}
 use Rattle.merge_store.specs.Stores.{opening_of, entries_of}
 use Rattle.merge_store.specs.Now.{outs_now}
-use Rattle.merge_store.proofs.Moving.{nothing_put, moved_on, moved_out, found_all}
+use Rattle.store_parts.proofs.Moving.{nothing_put, moved_on, moved_out, found_all}
 use Rattle.merge_store.proofs.store.Store.out_in.Goals as goal
 
 pub loop-path-init : goal.loop-path-init

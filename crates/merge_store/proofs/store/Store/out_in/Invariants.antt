@@ -2,8 +2,8 @@ use Rattle.std.proofs.Common.{◌≤◌, map, take, is_some}
 use Rattle.std.specs.Prelude.{filter, option_map}
 use Rattle.std.specs.Arc.{arc_value}
 use Rattle.ucis_model.specs.Paths.{find_in}
-use Rattle.merge_store.specs.Keeps.{HasOut}
-use Rattle.merge_store.proofs.Places.{paths_in}
+use Rattle.store_parts.specs.Keeps.{HasOut}
+use Rattle.store_parts.proofs.Places.{paths_in}
 use Rattle.merge_store.proofs.store.Store.out_in.Given as goal
 
 abbrev pub invariant-loop-path : goal.invariant-loop-path

@@ -6,13 +6,13 @@ use Rattle.std.specs.declared.alloc.Global.{Global}
 use Rattle.cov_tree.specs.declared.name.Name.{Name}
 use Rattle.cov_history.specs.declared.entry.Event.TheVariants.{Exclude}
 use Rattle.cov_history.specs.Answers.{by}
-use Rattle.merge_store.specs.Words.{entry_of}
-use Rattle.merge_store.specs.declared.held.Held.{Held}
-use Rattle.merge_store.specs.declared.held.HeldEvent.TheVariants as HeldEvent
+use Rattle.store_parts.specs.Words.{entry_of}
+use Rattle.store_parts.specs.declared.held.Held.{Held}
+use Rattle.store_parts.specs.declared.held.HeldEvent.TheVariants as HeldEvent
 use Rattle.merge_store.specs.Stores.{entries_of}
 use Rattle.store_sums.proofs.Ranges.{map_more}
 use Rattle.store_sums.proofs.Stored.{set_option}
-use Rattle.merge_store.proofs.Excluding.{exclude_keeps}
+use Rattle.store_parts.proofs.Excluding.{exclude_keeps}
 use Rattle.merge_store.proofs.store.Store.put_out.Goals as goal
 
 pub invariant_of-self-2-clause-keeps : goal.invariant_of-self-2-clause-keeps

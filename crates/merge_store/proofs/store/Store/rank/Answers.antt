@@ -13,9 +13,9 @@ use Rattle.cov_history.specs.History.{tests_of, design_of}
 use Rattle.cov_history.specs.Answers.{wanted_at}
 use Rattle.cov_history.specs.Ranking.{ranking}
 use Rattle.cov_history.proofs.Rankings.{ranking_is}
-use Rattle.merge_store.specs.Keeps.{rows_of}
+use Rattle.store_parts.specs.Keeps.{rows_of}
 use Rattle.merge_store.specs.Stores.{opening_of, entries_of}
-use Rattle.merge_store.proofs.Standing.{same_wanted}
+use Rattle.store_parts.proofs.Standing.{same_wanted}
 use Rattle.merge_store.proofs.store.Store.rank.Goals as goal
 
 pub rank-requires-clause-tests : goal.rank-requires-clause-tests

@@ -6,7 +6,7 @@ use Rattle.std.specs.declared.alloc.Global.{Global}
 use Rattle.cov_tree.specs.declared.name.Name.{Name}
 use Rattle.ucis_model.specs.declared.node.Node.{Node}
 use Rattle.ucis_model.specs.Paths.{find_in}
-use Rattle.merge_store.specs.Keeps.{HasOut}
+use Rattle.store_parts.specs.Keeps.{HasOut}
 use Rattle.store_sums.specs.Runs.{HasMarks}
 use Rattle.merge_store.specs.Now.{outs_now}
 use Rattle.merge_store.proofs.store.Store.remade.Goals as goal

@@ -1,6 +1,6 @@
 use Rattle.std.proofs.Common.{sym, inl}
 use Rattle.merge_store.specs.Stores.{opening_of, entries_of}
-use Rattle.merge_store.proofs.Refusing.{refused_so, made_so}
+use Rattle.store_parts.proofs.Refusing.{refused_so, made_so}
 use Rattle.merge_store.proofs.store.Store.revise.Goals as goal
 
 pub returns-in-Err-clause-answer : goal.returns-in-Err-clause-answer

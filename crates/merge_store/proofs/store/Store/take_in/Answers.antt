@@ -15,15 +15,15 @@ use Rattle.cov_history.specs.Tallies.{tally}
 use Rattle.cov_history.specs.History.{Test, design_of}
 use Rattle.cov_history.specs.declared.entry.Event.TheVariants.{Admit}
 use Rattle.cov_history.specs.Answers.{by}
-use Rattle.merge_store.specs.declared.held.Held.{Held}
-use Rattle.merge_store.specs.declared.held.HeldEvent.TheVariants as HeldEvent
-use Rattle.merge_store.specs.declared.held.Kept.{Kept}
-use Rattle.merge_store.specs.Words.{entry_of, test_of}
+use Rattle.store_parts.specs.declared.held.Held.{Held}
+use Rattle.store_parts.specs.declared.held.HeldEvent.TheVariants as HeldEvent
+use Rattle.store_parts.specs.declared.held.Kept.{Kept}
+use Rattle.store_parts.specs.Words.{entry_of, test_of}
 use Rattle.merge_store.specs.Stores.{opening_of, entries_of}
-use Rattle.merge_store.proofs.ById.{none_kept}
+use Rattle.store_parts.proofs.ById.{none_kept}
 use Rattle.store_sums.proofs.Ranges.{map_more}
-use Rattle.merge_store.proofs.Tallied.{rows_are, all_inside}
-use Rattle.merge_store.proofs.Admitting.{counts_room, admit_keeps, test_at}
+use Rattle.store_parts.proofs.Tallied.{rows_are, all_inside}
+use Rattle.store_parts.proofs.Admitting.{counts_room, admit_keeps, test_at}
 use Rattle.merge_store.proofs.store.Store.take_in.Goals as goal
 
 pub add-requires-clause-inside : goal.add-requires-clause-inside

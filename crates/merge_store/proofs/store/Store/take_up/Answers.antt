@@ -17,16 +17,16 @@ use Rattle.cov_history.specs.declared.entry.Entry.{Entry}
 use Rattle.cov_history.specs.declared.entry.Event.TheVariants.{Revise}
 use Rattle.cov_history.specs.Answers.{by}
 use Rattle.store_core.specs.Asks.{revision_of}
-use Rattle.merge_store.specs.declared.held.Held.{Held}
-use Rattle.merge_store.specs.declared.held.HeldEvent.TheVariants as HeldEvent
-use Rattle.merge_store.specs.declared.held.Kept.{Kept}
-use Rattle.merge_store.specs.Words.{entry_of, test_of}
+use Rattle.store_parts.specs.declared.held.Held.{Held}
+use Rattle.store_parts.specs.declared.held.HeldEvent.TheVariants as HeldEvent
+use Rattle.store_parts.specs.declared.held.Kept.{Kept}
+use Rattle.store_parts.specs.Words.{entry_of, test_of}
 use Rattle.merge_store.specs.Stores.{opening_of, entries_of}
-use Rattle.merge_store.specs.Remakes.{IsRemade}
+use Rattle.store_parts.specs.Remakes.{IsRemade}
 use Rattle.store_sums.specs.Runs.{HasMarks}
-use Rattle.merge_store.proofs.Excluding.{history_amount}
+use Rattle.store_parts.proofs.Excluding.{history_amount}
 use Rattle.store_sums.proofs.Ranges.{map_more}
-use Rattle.merge_store.proofs.Revising.{tally_count, revise_keeps}
+use Rattle.store_parts.proofs.Revising.{tally_count, revise_keeps}
 use Rattle.merge_store.proofs.store.Store.take_up.Goals as goal
 
 pub overflow_add-ready : goal.overflow_add-ready

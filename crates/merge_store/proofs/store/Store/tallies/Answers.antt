@@ -1,6 +1,6 @@
 use Rattle.std.proofs.Common.{arith}
 use Rattle.cov_history.specs.History.{tests_of, design_of}
-use Rattle.merge_store.specs.Keeps.{rows_of}
+use Rattle.store_parts.specs.Keeps.{rows_of}
 use Rattle.merge_store.specs.Stores.{opening_of, entries_of}
 use Rattle.store_sums.proofs.Walks.{taken_more}
 use Rattle.merge_store.proofs.store.Store.tallies.Goals as goal

@@ -1,7 +1,7 @@
 use Rattle.std.proofs.Common.{◌≡◌, ◌-◌, map, take, drop}
 use Rattle.std.specs.Arc.{arc_value}
 use Rattle.cov_history.specs.History.{tests_of, design_of}
-use Rattle.merge_store.specs.Keeps.{rows_of}
+use Rattle.store_parts.specs.Keeps.{rows_of}
 use Rattle.merge_store.specs.Stores.{opening_of, entries_of}
 use Rattle.merge_store.proofs.store.Store.tallies.Given as goal
 

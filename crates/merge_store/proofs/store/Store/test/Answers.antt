@@ -2,10 +2,10 @@ use Rattle.std.proofs.Common.{◌∙◌, ap, sym, option_map, ℕ}
 use Rattle.std.specs.declared.vec.Vec.{Vec}
 use Rattle.std.specs.declared.alloc.Global.{Global}
 use Rattle.cov_history.specs.History.{design_of, tests_of}
-use Rattle.merge_store.specs.declared.held.Kept.{Kept}
-use Rattle.merge_store.specs.Words.{test_of}
+use Rattle.store_parts.specs.declared.held.Kept.{Kept}
+use Rattle.store_parts.specs.Words.{test_of}
 use Rattle.merge_store.specs.Stores.{opening_of, entries_of}
-use Rattle.merge_store.proofs.ById.{test_there, at_place_tallied}
+use Rattle.store_parts.proofs.ById.{test_there, at_place_tallied}
 use Rattle.merge_store.proofs.store.Store.test.Goals as goal
 
 pub returns-in-Some-clause-test : goal.returns-in-Some-clause-test

@@ -4,8 +4,8 @@ use Rattle.std.specs.declared.vec.Vec.{Vec}
 use Rattle.std.specs.declared.alloc.Global.{Global}
 use Rattle.ucis_model.specs.declared.answers.Which.TheVariants.{Tests}
 use Rattle.cov_history.specs.History.{Test, tests_of}
-use Rattle.merge_store.specs.declared.held.Kept.{Kept}
-use Rattle.merge_store.specs.Words.{test_of}
+use Rattle.store_parts.specs.declared.held.Kept.{Kept}
+use Rattle.store_parts.specs.Words.{test_of}
 use Rattle.merge_store.specs.Stores.{entries_of}
 use Rattle.merge_store.proofs.store.Store.test_count.Goals as goal
 

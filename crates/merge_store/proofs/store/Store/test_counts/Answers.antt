@@ -5,12 +5,12 @@ use Rattle.ucis_model.specs.Paths.{find_in}
 use Rattle.cov_history.specs.Nodes.{bins_under}
 use Rattle.cov_history.specs.History.{design_of, hits, kept}
 use Rattle.cov_history.specs.Answers.{rows}
-use Rattle.merge_store.specs.Words.{test_of}
+use Rattle.store_parts.specs.Words.{test_of}
 use Rattle.store_sums.specs.Now.{nodes_now as sums_nodes, excluded_now}
 use Rattle.merge_store.specs.Now.{nodes_now}
 use Rattle.merge_store.specs.Stores.{opening_of, entries_of}
-use Rattle.merge_store.proofs.Standing.{same_excluded}
-use Rattle.merge_store.proofs.Tallied.{counted}
+use Rattle.store_parts.proofs.Standing.{same_excluded}
+use Rattle.store_parts.proofs.Tallied.{counted}
 use Rattle.merge_store.proofs.store.Store.test_counts.Goals as goal
 
 pub returns-in-Ok : goal.returns-in-Ok

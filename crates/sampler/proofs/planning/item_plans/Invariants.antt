@@ -1,9 +1,0 @@
-use Rattle.std.proofs.Common.{◌≡◌, length}
-use Rattle.sampler.specs.Standing.{ArePlans}
-use Rattle.sampler.proofs.planning.item_plans.Given as goal
-
-abbrev pub invariant-loop-index : goal.invariant-loop-index
-invariant-loop-index l = record {
-  same : length l.plans ≡ l.index;
-  plans : ArePlans l.items l.plans;
-}

@@ -1,6 +1,0 @@
-use Rattle.std.proofs.Common.{arith}
-use Rattle.sampler.proofs.Alike.{same_by_place}
-use Rattle.sampler.proofs.sameness.same_bins.Goals as goal
-
-pub returns : goal.returns
-returns c = λ t. same_by_place c.args.first.now c.args.second.now (omega (arith, c.if-first-second.false)) (λ k d lt. c.loop-k.invariant k d (omega (arith, lt, c.loop-k-test.false)))

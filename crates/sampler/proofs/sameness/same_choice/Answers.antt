@@ -1,6 +1,0 @@
-use Rattle.std.specs.Cmp.{booleans_Decides}
-use Rattle.std.proofs.lemmas.Slice.Eq.{slice_eq-Decides}
-use Rattle.sampler.proofs.sameness.same_choice.Goals as goal
-
-pub returns : goal.returns
-returns c = λ t. (slice_eq-Decides booleans_Decides c.args.first.now c.args.second.now c.eq.result c.eq.ensures).0 t

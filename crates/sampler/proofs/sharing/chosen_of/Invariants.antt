@@ -1,6 +1,0 @@
-use Rattle.std.proofs.Common.{◌≡◌}
-use Rattle.sampler.specs.Shares.{chosen_items}
-use Rattle.sampler.proofs.sharing.chosen_of.Given as goal
-
-abbrev pub invariant-loop-index : goal.invariant-loop-index
-invariant-loop-index l = l.chosen.items ≡ chosen_items l.labels l.parts l.part l.index

@@ -1,0 +1,7 @@
+pub mod Tables
+pub mod Places
+mod Points
+mod Chosen
+mod Alike
+mod Expressions
+pub mod Designs

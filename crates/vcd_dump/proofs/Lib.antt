@@ -1,0 +1,4 @@
+pub mod Found
+pub mod Unpacked
+pub mod Widths
+pub mod Loops
