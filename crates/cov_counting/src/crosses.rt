@@ -4,7 +4,7 @@ ghost use Rattle.cov_counting.specs.Crosses.{NumberHitAt, MemberHitAt, AllHitAt,
 ghost use Rattle.cov_counting.specs.Steps.{AreItems, SomeProductHit};
 
 use crate::points::is_hit;
-use crate::rules::holds;
+use crate::rules::{bin_holds, holds};
 use cov_base::Int;
 use cov_ground::Memory;
 use cov_tree::List;
@@ -120,7 +120,7 @@ pub(crate) fn is_cross_hit(
     if !holds(&item.guard, env) {
         return Ok(false);
     }
-    if !holds(&bin.guard, env) {
+    if !bin_holds(&bin.guard, env) {
         return Ok(false);
     }
     let sizes = sizes(alloc, items, axes)?;

@@ -12,7 +12,7 @@ mod tables;
 mod tally;
 mod values;
 
-pub use rules::{holds, in_patterns, is_listed};
+pub use rules::{bin_holds, holds, in_patterns, is_listed};
 pub use tables::{instance_rows, signal_rows};
 pub use tally::tally_by_definition;
 pub use values::{arg_value, samples, signal_value};

@@ -5,7 +5,7 @@ ghost use Rattle.design_data.specs.Bins.{removing_seqs, seqs_of as seqs_of_rule}
 ghost use Rattle.cov_counting.specs.Hits.{trace as trace_of, EndsNone, IsDefaultSequence, Meets, HitAt};
 ghost use Rattle.cov_counting.specs.Steps.{Keeps};
 
-use crate::rules::{holds, in_patterns, is_listed};
+use crate::rules::{bin_holds, holds, in_patterns, is_listed};
 use const_eval::{Bound, eval};
 use cov_base::Int;
 use cov_ground::Memory;
@@ -215,7 +215,7 @@ pub(crate) fn is_hit(
     if !holds(&item.guard, env) {
         return Ok(false);
     }
-    if !holds(&bin.guard, env) {
+    if !bin_holds(&bin.guard, env) {
         return Ok(false);
     }
     let now = eval(expr, env, None);

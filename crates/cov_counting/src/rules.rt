@@ -6,6 +6,7 @@ ghost use Rattle.cov_counting.specs.Hits.{holds as holds_at};
 
 use const_eval::{Bound, eval};
 use cov_base::Int;
+use cov_tree::Shared;
 use design_data::{BinInfo, BinRule};
 use trans_seq::is_inside;
 use wildcard_bins::Pattern;
@@ -29,6 +30,17 @@ pub fn holds(guard: &Option<Bound>, env: &[Option<Int>]) -> bool
     match guard {
         None => true,
         Some(guard) => is_true(eval(guard, env, None)),
+    }
+}
+
+/// The same of the guard of a bin.
+#[inline(always)]
+pub fn bin_holds(guard: &Option<Shared<Bound>>, env: &[Option<Int>]) -> bool
+    ensures { result ≡ holds_at guard.now env.now }
+{
+    match guard {
+        None => true,
+        Some(guard) => is_true(eval(guard.get(), env, None)),
     }
 }
 

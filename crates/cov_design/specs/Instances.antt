@@ -18,7 +18,7 @@ use Rattle.elab_base.specs.Gives.{Refusal, ◌>>=◌, needs}
 use Rattle.elab_base.specs.Steps.{unused}
 use Rattle.elab_decls.specs.declared.outside.Outside.{Outside}
 use Rattle.elab_decls.specs.Formals.{args_fit, formals_of}
-use Rattle.elab_decls.specs.Options.{group_options}
+use Rattle.elab_decls.specs.Options.{group_options, remarks_of}
 use Rattle.elab_members.specs.declared.counts.Counts.{Counts}
 use Rattle.elab_members.specs.Members.{inside_in, members_walked}
 use Rattle.cov_design.specs.declared.known.Known.{Known}
@@ -81,7 +81,9 @@ inst_info name group args body = record {
   group = group;
   weight = body.options.weight;
   goal = body.options.goal;
+  at_least = body.options.at_least;
   print = nat_eq body.options.per_instance 1;
+  remarks = remarks_of body.options;
   args = args;
   items = body.items.items;
 }

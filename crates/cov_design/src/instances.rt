@@ -15,7 +15,7 @@ use cov_options::Options;
 use cov_tree::{Decl, Expr, Formal, List, Member, Name};
 use design_data::{InstInfo, Signal};
 use elab_base::{ElabFault, ElabKind, What, add_name, check_unused};
-use elab_decls::{Formals, Outside, fits, read_formals, read_options};
+use elab_decls::{Formals, Outside, fits, read_formals, read_options, remarks};
 use elab_members::{Counts, DefaultNames, Inside, Items, inside_of, walk_members};
 use name_map::NameMap;
 use std::alloc::Global;
@@ -202,7 +202,9 @@ fn keep_instance(
         group,
         weight: options.weight,
         goal: options.goal,
+        at_least: options.at_least,
         print: options.per_instance == 1,
+        remarks: remarks(&options)?,
         args,
         items,
     })?;

@@ -5,7 +5,7 @@ ghost use Rattle.cross_sampler.specs.Once.{Once, HasRoom, guard_at, bit};
 ghost use Rattle.cross_sampler.specs.Plans.{IsGuardEnd};
 
 use cov_base::Int;
-use cov_counting::holds;
+use cov_counting::bin_holds;
 use design_data::BinInfo;
 
 /// 1 where the guard of the bin at this index is true, else 0. Bins from `guards` on have none.
@@ -17,7 +17,11 @@ fn rise(bins: &[BinInfo], guards: usize, bin: usize, env: &[Option<Int>]) -> u64
     if bin >= guards {
         return 1;
     }
-    if holds(&bins[bin].guard, env) { 1 } else { 0 }
+    if bin_holds(&bins[bin].guard, env) {
+        1
+    } else {
+        0
+    }
 }
 
 /// Adds one to a bin that doesn't bear the sample's mark yet and whose guard is true, and marks it.

@@ -2,7 +2,7 @@
 
 use const_eval::Bound;
 use cov_base::ValueSet;
-use cov_tree::{List, Name};
+use cov_tree::{List, Name, Shared};
 use cross_select::Select;
 use trans_seq::Seq;
 use wildcard_bins::Pattern;
@@ -48,6 +48,30 @@ impl Drop for GroupInfo {
     }
 }
 
+/// What the options of an instance, a coverpoint or a cross say that no count depends on (19.7): for those who print.
+pub struct Remarks {
+    /// `option.comment`, by default empty.
+    pub comment: Name,
+    /// `option.detect_overlap`: whether a reader is to be warned of bins that share values. False in a cross.
+    pub detect_overlap: bool,
+    /// `option.auto_bin_max`: how many automatic bins a coverpoint has at most, 1 to 65,536. 64 in a cross.
+    pub auto_bin_max: u32,
+    /// `option.cross_num_print_missing`: how many products that aren't covered are to be printed, 0 to 2^31 - 1. 0 in a
+    /// coverpoint.
+    pub cross_num_print_missing: u32,
+}
+
+impl Drop for Remarks {
+    fn drop(self) {
+        let Remarks {
+            comment: _,
+            detect_overlap: _,
+            auto_bin_max: _,
+            cross_num_print_missing: _,
+        } = self;
+    }
+}
+
 /// An instance of a covergroup, with what its options say (19.7).
 pub struct InstInfo {
     pub name: Name,
@@ -57,8 +81,12 @@ pub struct InstInfo {
     pub weight: u32,
     /// `option.goal`, in per cent.
     pub goal: u32,
+    /// `option.at_least`, at least 1: that of an item which says nothing else.
+    pub at_least: u32,
     /// Whether it is reported by itself (`option.per_instance`).
     pub print: bool,
+    /// What its options say besides, which those of its items have by default where they have such an option.
+    pub remarks: Remarks,
     /// The arguments of the group's sample function, in order.
     pub args: List<Signal>,
     /// Its coverpoints and crosses, in order.
@@ -72,7 +100,9 @@ impl Drop for InstInfo {
             group: _,
             weight: _,
             goal: _,
+            at_least: _,
             print: _,
+            remarks: _,
             args: _,
             items: _,
         } = self;
@@ -90,6 +120,8 @@ pub struct ItemInfo {
     pub goal: u32,
     /// How often a bin has to be hit to be covered, at least 1.
     pub at_least: u32,
+    /// What its options say besides.
+    pub remarks: Remarks,
     /// Its guard `iff`.
     pub guard: Option<Bound>,
     pub shape: ItemShape,
@@ -111,6 +143,7 @@ impl Drop for ItemInfo {
             type_weight: _,
             goal: _,
             at_least: _,
+            remarks: _,
             guard: _,
             shape: _,
             first_bin: _,
@@ -135,8 +168,8 @@ pub struct BinInfo {
     pub name: Name,
     pub kind: BinKind,
     pub rule: BinRule,
-    /// Its guard `iff`.
-    pub guard: Option<Bound>,
+    /// Its guard `iff`, which the bins of a declaration have in common.
+    pub guard: Option<Shared<Bound>>,
 }
 
 impl Drop for BinInfo {

@@ -15,5 +15,7 @@ mod testing;
 
 pub use crosses::{has, products, sizes};
 pub use design::Design;
-pub use infos::{BinInfo, BinKind, BinRule, GroupInfo, InstInfo, ItemInfo, ItemShape, Signal};
+pub use infos::{
+    BinInfo, BinKind, BinRule, GroupInfo, InstInfo, ItemInfo, ItemShape, Remarks, Signal,
+};
 pub use numbers::ranges_of;

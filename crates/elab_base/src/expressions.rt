@@ -9,7 +9,7 @@ use crate::ElabFault;
 use const_eval::{Bound, Scope, bind, constant, place};
 use cov_base::Int;
 use cov_ground::Memory;
-use cov_tree::Expr;
+use cov_tree::{Expr, Shared};
 use std::alloc::Global;
 
 /// An expression with its names bound.
@@ -62,12 +62,30 @@ pub fn guard_in(
     }
 }
 
-/// The same guard once more.
-pub fn copy_guard(alloc: Global, guard: &Option<Bound>) -> Result<Option<Bound>, Memory>
-    ensures { IfOk result (λ copy. copy ≡ guard.now) }
+/// A guard that several bins are to have in common, where one is written.
+#[tactic(auto, unfolding(crate::specs::Steps::guard_in))]
+pub fn shared_guard_in(
+    alloc: Global,
+    scope: &Scope,
+    expr: &Option<Expr>,
+) -> Result<Option<Shared<Bound>>, ElabFault>
+    ensures { Gives result (guard_meant scope.now expr.now) }
+{
+    match expr {
+        None => Ok(None),
+        Some(expr) => {
+            let bound = bind_in(alloc, scope, expr)?;
+            Ok(Some(Shared::of(alloc, bound)?))
+        }
+    }
+}
+
+/// The same guard for a further bin. It copies nothing.
+pub fn share_guard(guard: &Option<Shared<Bound>>) -> Result<Option<Shared<Bound>>, Memory>
+    ensures { IfOk result (λ shared. shared ≡ guard.now) }
 {
     match guard {
         None => Ok(None),
-        Some(bound) => Ok(Some(bound.copy(alloc)?)),
+        Some(bound) => Ok(Some(bound.share()?)),
     }
 }

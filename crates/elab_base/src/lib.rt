@@ -8,6 +8,6 @@ mod expressions;
 mod fault;
 mod names;
 
-pub use expressions::{bind_in, copy_guard, guard_in, number_in};
+pub use expressions::{bind_in, guard_in, number_in, share_guard, shared_guard_in};
 pub use fault::{ElabFault, ElabKind};
 pub use names::{What, add_name, check_unused};

@@ -8,9 +8,9 @@ ghost use Rattle.elab_bins.specs.Made.{plan_bins, indexed, named_bin};
 use const_eval::Bound;
 use cov_base::{Int, Memory};
 use cov_ground::limits::MOST_BINS;
-use cov_tree::{List, Name};
+use cov_tree::{List, Name, Shared};
 use design_data::{BinInfo, BinKind, BinRule};
-use elab_base::{ElabFault, ElabKind, copy_guard};
+use elab_base::{ElabFault, ElabKind, share_guard};
 use elab_values::Made;
 use std::alloc::Global;
 
@@ -22,7 +22,7 @@ pub struct Head {
     /// The kind of its bins.
     pub kind: BinKind,
     /// The condition behind `iff`.
-    pub guard: Option<Bound>,
+    pub guard: Option<Shared<Bound>>,
     /// Where the declaration stands, or the point of automatic bins.
     pub at: u32,
     /// The place of the declaration among those of the point; None for automatic bins.
@@ -102,10 +102,10 @@ pub fn indexed_name(alloc: Global, name: &[u8], index: &[u8]) -> Result<Name, Me
 }
 
 /// A bin of a declaration, or an automatic one.
-pub fn bin_of(alloc: Global, head: &Head, name: Name, rule: BinRule) -> Result<Made, Memory>
+pub fn bin_of(head: &Head, name: Name, rule: BinRule) -> Result<Made, Memory>
     ensures { IfOk result (λ made. made ≡ named_bin head.now name rule) }
 {
-    let guard = copy_guard(alloc, &head.guard)?;
+    let guard = share_guard(&head.guard)?;
     Ok(Made {
         bin: BinInfo {
             name,

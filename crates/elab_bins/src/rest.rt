@@ -31,7 +31,7 @@ fn rest_bin(alloc: Global, head: &Head, value: Int) -> Result<Made, Memory>
     let text = value.get().to_string(alloc)?;
     let name = indexed_name(alloc, head.name.as_slice(), text.as_bytes())?;
     let set = ValueSet::from_ranges(alloc, &[(value, value)])?;
-    bin_of(alloc, head, name, BinRule::DefaultValues(set))
+    bin_of(head, name, BinRule::DefaultValues(set))
 }
 
 fn rest_bins(alloc: Global, head: &Head, values: &[Int]) -> Result<List<Made>, Memory>

@@ -10,10 +10,10 @@ use crate::selections::{Crossed, selection};
 use const_eval::{Bound, Scope};
 use cov_ground::Memory;
 use cov_ground::limits::MOST_BINS;
-use cov_tree::{CrossBins, List};
+use cov_tree::{CrossBins, List, Shared};
 use cross_select::Select;
 use design_data::{BinInfo, BinRule};
-use elab_base::{ElabFault, ElabKind, What, add_name, check_unused, guard_in};
+use elab_base::{ElabFault, ElabKind, What, add_name, check_unused, shared_guard_in};
 use elab_values::{Made, kind_of};
 use name_map::NameMap;
 use std::alloc::Global;
@@ -41,7 +41,7 @@ fn keep_bin(
     alloc: Global,
     decl: &CrossBins,
     select: Select,
-    guard: Option<Bound>,
+    guard: Option<Shared<Bound>>,
     walked: &mut Walked,
 ) -> Result<(), Memory>
     requires { length walked.old.bins < most_bins }
@@ -77,7 +77,7 @@ fn add_bin(
 {
     check_unused(&walked.names, &decl.name, decl.at)?;
     let select = selection(alloc, scope, cross, &decl.sel)?;
-    let guard = guard_in(alloc, scope, &decl.guard)?;
+    let guard = shared_guard_in(alloc, scope, &decl.guard)?;
     check_count(walked.bins.as_slice().len(), decl.at)?;
     keep_bin(alloc, decl, select, guard, walked)?;
     Ok(())

@@ -1,5 +1,5 @@
 -- Options where they stand (IEEE 1800-2017, 19.7 and 19.7.1).
-use Rattle.std.specs.Prelude.{ℕ, List, [], Bool, true, false, Result, Ok, Err}
+use Rattle.std.specs.Prelude.{ℕ, List, [], nat_eq, Bool, true, false, Result, Ok, Err}
 use Rattle.cov_tree.specs.declared.bins.OptDecl.{OptDecl}
 use Rattle.cov_tree.specs.declared.bins.OptText.{OptText}
 use Rattle.cov_tree.specs.declared.bins.OptText.TheVariants as texts
@@ -14,6 +14,7 @@ use Rattle.cov_options.specs.declared.values.OptValue.TheVariants as values
 use Rattle.cov_options.specs.declared.values.OptFault.{OptFault}
 use Rattle.cov_options.specs.declared.values.OptFault.TheVariants as faults
 use Rattle.cov_options.specs.Table.{defaults, answer, after}
+use Rattle.design_data.specs.declared.infos.Remarks.{Remarks}
 use Rattle.elab_base.specs.declared.fault.ElabKind.{ElabKind}
 use Rattle.elab_base.specs.declared.fault.ElabKind.TheVariants as kind
 use Rattle.elab_base.specs.Gives.{Refusal, ◌>>=◌, each}
@@ -71,3 +72,12 @@ point_defaults group = record defaults { at_least = group.at_least; auto_bin_max
 
 abbrev pub cross_defaults : Options → Options
 cross_defaults group = record defaults { at_least = group.at_least; cross_num_print_missing = group.cross_num_print_missing }
+
+-- what the options of an instance, a point or a cross say that no count depends on
+abbrev pub remarks_of : Options → Remarks
+remarks_of options = record {
+  comment = options.comment;
+  detect_overlap = nat_eq options.detect_overlap 1;
+  auto_bin_max = options.auto_bin_max;
+  cross_num_print_missing = options.cross_num_print_missing;
+}

@@ -21,7 +21,7 @@ pub use constants::Constants;
 pub use enumerations::add_enumeration;
 pub use formals::{Formals, fits, read_formals, walk_formals};
 pub use numbers::Numbers;
-pub use options::{cross_defaults, point_defaults, read_options, set_options};
+pub use options::{cross_defaults, point_defaults, read_options, remarks, set_options};
 pub use outside::{Enumeration, Outside, Shape};
 pub use refs::enumeration_of;
 pub use shapes::{has_width, read_shape};

@@ -1,13 +1,15 @@
 //! Options where they stand.
-ghost use Rattle.std.specs.Prelude.{◌≡◌, []};
+ghost use Rattle.std.specs.Prelude.{◌≡◌, [], IfOk};
 ghost use Rattle.elab_base.specs.Gives.{Gives, Makes, each};
 ghost use Rattle.elab_base.specs.Steps.{number_in as number_meant};
-ghost use Rattle.elab_decls.specs.Options.{seen_by, value_of as value_meant, kind_of as kind_meant, value_set, option_set, options_set, member_set, group_options, point_defaults as defaults_of_point, cross_defaults as defaults_of_cross};
+ghost use Rattle.elab_decls.specs.Options.{seen_by, value_of as value_meant, kind_of as kind_meant, value_set, option_set, options_set, member_set, group_options, point_defaults as defaults_of_point, cross_defaults as defaults_of_cross, remarks_of};
 
 use const_eval::Scope;
 use cov_base::Int;
+use cov_ground::Memory;
 use cov_options::{Level, OptFault, OptValue, Options};
 use cov_tree::{Expr, Member, OptDecl, OptText};
+use design_data::Remarks;
 use elab_base::{ElabFault, ElabKind, number_in};
 use name_map::NameMap;
 use std::alloc::Global;
@@ -167,4 +169,16 @@ pub fn cross_defaults(group: &Options) -> Options
     options.at_least = group.at_least;
     options.cross_num_print_missing = group.cross_num_print_missing;
     options
+}
+
+/// What the options of an instance, a point or a cross say that no count depends on.
+pub fn remarks(options: &Options) -> Result<Remarks, Memory>
+    ensures { IfOk result (λ remarks. remarks ≡ remarks_of options.now) }
+{
+    Ok(Remarks {
+        comment: options.comment.share()?,
+        detect_overlap: options.detect_overlap == 1,
+        auto_bin_max: options.auto_bin_max,
+        cross_num_print_missing: options.cross_num_print_missing,
+    })
 }

@@ -13,7 +13,7 @@ use Rattle.elab_base.specs.declared.names.What.{What}
 use Rattle.elab_base.specs.Gives.{Refusal, ◌>>=◌, each}
 use Rattle.elab_base.specs.Steps.{unused, guard_in}
 use Rattle.elab_decls.specs.declared.outside.Outside.{Outside}
-use Rattle.elab_decls.specs.Options.{options_set, cross_defaults}
+use Rattle.elab_decls.specs.Options.{options_set, cross_defaults, remarks_of}
 use Rattle.elab_values.specs.declared.made.ItemDecls.{ItemDecls}
 use Rattle.elab_values.specs.declared.made.Made.{Made}
 use Rattle.elab_crosses.specs.declared.axes.Axis.{Axis}
@@ -81,6 +81,7 @@ cross_item head axes bins = record {
   type_weight = head.options.type_weight;
   goal = head.options.goal;
   at_least = head.options.at_least;
+  remarks = remarks_of head.options;
   guard = head.guard;
   shape = Cross axes;
   first_bin = 0;

@@ -16,7 +16,7 @@ use Rattle.elab_base.specs.declared.fault.ElabKind.TheVariants as kind
 use Rattle.elab_base.specs.Gives.{Refusal, ◌>>=◌, needs}
 use Rattle.elab_base.specs.Steps.{unused, bound_in, guard_in}
 use Rattle.elab_decls.specs.declared.outside.Outside.{Outside}
-use Rattle.elab_decls.specs.Options.{options_set, point_defaults}
+use Rattle.elab_decls.specs.Options.{options_set, point_defaults, remarks_of}
 use Rattle.elab_values.specs.declared.domain.Domain.{Domain}
 use Rattle.elab_values.specs.declared.made.ItemDecls.{ItemDecls}
 use Rattle.elab_values.specs.declared.made.PointBins.{PointBins}
@@ -61,6 +61,7 @@ point_item head found = record {
   type_weight = head.options.type_weight;
   goal = head.options.goal;
   at_least = head.options.at_least;
+  remarks = remarks_of head.options;
   guard = head.guard;
   shape = Point head.expr;
   first_bin = 0;

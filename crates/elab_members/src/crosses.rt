@@ -21,10 +21,10 @@ use const_eval::{Bound, Scope};
 use cov_ground::Memory;
 use cov_options::{Level, Options};
 use cov_tree::{CrossDecl, Expr, List, Name, PointDecl};
-use design_data::{BinInfo, ItemInfo, ItemShape};
+use design_data::{BinInfo, ItemInfo, ItemShape, Remarks};
 use elab_base::{ElabFault, What, check_unused, guard_in};
 use elab_crosses::{Axis, Crossed, check_products, cross_bins, name_axes};
-use elab_decls::{Outside, cross_defaults, set_options};
+use elab_decls::{Outside, cross_defaults, remarks, set_options};
 use elab_values::{ItemDecls, Made};
 use name_map::NameMap;
 use std::alloc::Global;
@@ -291,8 +291,14 @@ fn bins_of(
 
 impl CrossHead {
     /// A cross with these bins.
-    fn into_item(self, alloc: Global, axes: List<u32>, bins: List<BinInfo>) -> ItemInfo
-        ensures { result ≡ record { name = self.name; weight = self.options.weight; type_weight = self.options.type_weight; goal = self.options.goal; at_least = self.options.at_least; guard = self.guard; shape = Cross axes; first_bin = 0; bins = bins; ignored = []; illegal = [] } }
+    fn into_item(
+        self,
+        alloc: Global,
+        remarks: Remarks,
+        axes: List<u32>,
+        bins: List<BinInfo>,
+    ) -> ItemInfo
+        ensures { result ≡ record { name = self.name; weight = self.options.weight; type_weight = self.options.type_weight; goal = self.options.goal; at_least = self.options.at_least; remarks = remarks; guard = self.guard; shape = Cross axes; first_bin = 0; bins = bins; ignored = []; illegal = [] } }
     {
         let CrossHead {
             name,
@@ -305,6 +311,7 @@ impl CrossHead {
             type_weight: options.type_weight,
             goal: options.goal,
             at_least: options.at_least,
+            remarks,
             guard,
             shape: ItemShape::Cross(axes),
             first_bin: 0,
@@ -338,7 +345,8 @@ fn keep_cross(
     ensures { OnOk result (items.new ≡ with_cross head axes bins counts items.old) }
 {
     let bins = infos(alloc, bins.into_vec())?;
-    let item = head.into_item(alloc, axes, bins);
+    let remarks = remarks(&head.options)?;
+    let item = head.into_item(alloc, remarks, axes, bins);
     keep_item(alloc, item, no_decls(alloc), counts, items)
 }
 

@@ -21,9 +21,9 @@ use const_eval::{Bound, typ};
 use cov_ground::Memory;
 use cov_options::{Level, Options};
 use cov_tree::{Expr, List, Name, PointDecl};
-use design_data::{BinInfo, ItemInfo, ItemShape};
+use design_data::{BinInfo, ItemInfo, ItemShape, Remarks};
 use elab_base::{ElabFault, ElabKind, bind_in, check_unused, guard_in};
-use elab_decls::{Outside, has_width, point_defaults, set_options};
+use elab_decls::{Outside, has_width, point_defaults, remarks, set_options};
 use elab_points::point_bins;
 use elab_values::{Domain, ItemDecls, Made, PointBins, Settings};
 use std::alloc::Global;
@@ -101,8 +101,14 @@ fn decls_of(
 
 impl Head {
     /// A point with these bins and sequences.
-    fn into_item(self, bins: List<BinInfo>, ignored: List<Seq>, illegal: List<Seq>) -> ItemInfo
-        ensures { result ≡ record { name = self.name; weight = self.options.weight; type_weight = self.options.type_weight; goal = self.options.goal; at_least = self.options.at_least; guard = self.guard; shape = Point self.expr; first_bin = 0; bins = bins; ignored = ignored; illegal = illegal } }
+    fn into_item(
+        self,
+        remarks: Remarks,
+        bins: List<BinInfo>,
+        ignored: List<Seq>,
+        illegal: List<Seq>,
+    ) -> ItemInfo
+        ensures { result ≡ record { name = self.name; weight = self.options.weight; type_weight = self.options.type_weight; goal = self.options.goal; at_least = self.options.at_least; remarks = remarks; guard = self.guard; shape = Point self.expr; first_bin = 0; bins = bins; ignored = ignored; illegal = illegal } }
     {
         let Head {
             name,
@@ -116,6 +122,7 @@ impl Head {
             type_weight: options.type_weight,
             goal: options.goal,
             at_least: options.at_least,
+            remarks,
             guard,
             shape: ItemShape::Point(expr),
             first_bin: 0,
@@ -146,7 +153,8 @@ fn keep_point(
     } = found;
     let decls = decls_of(alloc, domain, names.as_slice(), bins.as_slice())?;
     let bins = infos(alloc, bins.into_vec())?;
-    let item = head.into_item(bins, ignored, illegal);
+    let remarks = remarks(&head.options)?;
+    let item = head.into_item(remarks, bins, ignored, illegal);
     keep_item(alloc, item, decls, counts, items)
 }
 

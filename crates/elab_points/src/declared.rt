@@ -11,9 +11,9 @@ ghost use Rattle.elab_bins.specs.Declarations.{default_kind as default_meant, is
 use crate::made::{bins_of, make_plan, size_of};
 use const_eval::{Bound, Scope};
 use cov_base::{Int, Memory, ValueSet};
-use cov_tree::{BinsDecl, List, Name, Right, Size, Word};
+use cov_tree::{BinsDecl, List, Name, Right, Shared, Size, Word};
 use design_data::{BinKind, BinRule};
-use elab_base::{ElabFault, ElabKind, check_unused, guard_in};
+use elab_base::{ElabFault, ElabKind, check_unused, shared_guard_in};
 use elab_bins::{
     Entry, Head, Manner, Walked, Wanted, add_made, bin_of, check_room, declare_default_sequence,
     declare_trans, filter_of, is_kept, keep_bins, keep_name, keep_numbers, numbers_in,
@@ -160,7 +160,7 @@ fn head(
     alloc: Global,
     decl: &BinsDecl,
     kind: BinKind,
-    guard: Option<Bound>,
+    guard: Option<Shared<Bound>>,
     walked: &Walked,
 ) -> Result<Head, Memory>
     ensures { IfOk result (λ head. head ≡ head_of decl.now kind guard walked.now) }
@@ -288,7 +288,7 @@ fn bin_elements(
 {
     let keep = filter_of(alloc, scope, domain.typ, &decl.right)?;
     let wanted = size_of(alloc, scope, &decl.size, decl.at)?;
-    let guard = guard_in(alloc, scope, &decl.guard)?;
+    let guard = shared_guard_in(alloc, scope, &decl.guard)?;
     let head = head(alloc, decl, kind_of(decl.word), guard, walked)?;
     bin_listed(
         alloc, domain, manner, &keep, wanted, elements, &head, walked,
@@ -327,7 +327,7 @@ fn add_one(alloc: Global, head: &Head, rule: BinRule, walked: &mut Walked) -> Re
     ensures { OnOk result (walked.new ≡ one_added head.now rule walked.old) }
 {
     let name = head.name.share()?;
-    let made = bin_of(alloc, head, name, rule)?;
+    let made = bin_of(head, name, rule)?;
     add_made(alloc, &head.name, made, walked)
 }
 
@@ -369,7 +369,7 @@ fn declare_default(
 ) -> Result<(), ElabFault>
     ensures { Makes result walked.new (default_declared scope.now decl.now walked.old) }
 {
-    let guard = guard_in(alloc, scope, &decl.guard)?;
+    let guard = shared_guard_in(alloc, scope, &decl.guard)?;
     let head = head(alloc, decl, default_kind(&decl.word), guard, walked)?;
     add_sized(alloc, &decl.size, head, walked)?;
     Ok(())

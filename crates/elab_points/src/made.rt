@@ -98,7 +98,7 @@ fn single_bin(alloc: Global, head: &Head, value: Int) -> Result<Made, Memory>
     let made = ValueSet::from_ranges(alloc, &[(value, value)])?;
     // a copy has no room to spare, and there may be very many of them
     let set = made.copy(alloc)?;
-    bin_of(alloc, head, name, BinRule::Values(set))
+    bin_of(head, name, BinRule::Values(set))
 }
 
 fn single_bins(alloc: Global, head: &Head, values: &[Int]) -> Result<List<Made>, Memory>
@@ -116,7 +116,7 @@ fn part_bin(alloc: Global, head: &Head, place: usize, set: ValueSet) -> Result<M
 {
     let text = place.to_string(alloc)?;
     let name = indexed_name(alloc, head.name.as_slice(), text.as_bytes())?;
-    bin_of(alloc, head, name, BinRule::Values(set))
+    bin_of(head, name, BinRule::Values(set))
 }
 
 fn parts(alloc: Global, head: &Head, sets: Vec<ValueSet>) -> Result<List<Made>, Memory>
@@ -213,7 +213,7 @@ fn whole_bin(alloc: Global, head: &Head, elems: &Elems) -> Result<List<Made>, Me
     let set = ValueSet::from_ranges(alloc, elems.as_slice())?;
     let name = head.name.share()?;
     let mut bins = List::new(alloc);
-    bins.push(bin_of(alloc, head, name, BinRule::Values(set))?)?;
+    bins.push(bin_of(head, name, BinRule::Values(set))?)?;
     Ok(bins)
 }
 

@@ -10,9 +10,9 @@ use crate::shown::{Values, no_values};
 use crate::steps::{ListedStep, listed_sequences};
 use const_eval::{Bound, Scope};
 use cov_base::{Int, Memory};
-use cov_tree::{BinsDecl, List, Name, Step, Word};
+use cov_tree::{BinsDecl, List, Name, Shared, Step, Word};
 use design_data::{BinInfo, BinKind, BinRule};
-use elab_base::{ElabFault, ElabKind, copy_guard, guard_in};
+use elab_base::{ElabFault, ElabKind, share_guard, shared_guard_in};
 use elab_values::{Domain, Made, is_array, kind_of};
 use std::alloc::Global;
 use trans_seq::{Seq, append_copies};
@@ -42,7 +42,7 @@ fn bin_of(
     name: Name,
     kind: BinKind,
     rule: BinRule,
-    guard: Option<Bound>,
+    guard: Option<Shared<Bound>>,
     at: u32,
     declared: u32,
 ) -> Made
@@ -64,7 +64,7 @@ fn list_bin(
     alloc: Global,
     decl: &BinsDecl,
     declared: u32,
-    guard: &Option<Bound>,
+    guard: &Option<Shared<Bound>>,
     list: &[Int],
     values: &mut Values,
 ) -> Result<Made, Memory>
@@ -73,7 +73,7 @@ fn list_bin(
     let (name, seq) = shown_list(alloc, &decl.name, list, values)?;
     let mut seqs = List::new(alloc);
     seqs.push(seq)?;
-    let guard = copy_guard(alloc, guard)?;
+    let guard = share_guard(guard)?;
     let rule = BinRule::Trans(seqs);
     Ok(bin_of(name, kind_of(decl.word), rule, guard, decl.at, declared))
 }
@@ -83,7 +83,7 @@ fn list_bins(
     alloc: Global,
     decl: &BinsDecl,
     declared: u32,
-    guard: &Option<Bound>,
+    guard: &Option<Shared<Bound>>,
     lists: List<List<Int>>,
 ) -> Result<List<Made>, Memory>
     ensures { IfOk result (λ bins. bins ≡ map (bin_of_list decl.now declared guard.now) lists) }
@@ -101,7 +101,7 @@ fn scalar_bins(
     alloc: Global,
     decl: &BinsDecl,
     declared: u32,
-    guard: Option<Bound>,
+    guard: Option<Shared<Bound>>,
     seqs: List<Seq>,
 ) -> Result<List<Made>, Memory>
     ensures { IfOk result (λ bins. bins ≡ bins_of_plan decl.now declared Plan.One guard seqs) }
@@ -119,7 +119,7 @@ fn bins_made(
     decl: &BinsDecl,
     declared: u32,
     plan: Plan,
-    guard: Option<Bound>,
+    guard: Option<Shared<Bound>>,
     seqs: List<Seq>,
 ) -> Result<List<Made>, Memory>
     ensures { IfOk result (λ bins. bins ≡ bins_of_plan decl.now declared plan guard seqs) }
@@ -155,7 +155,7 @@ fn make_bins(
     declared: u32,
     plan: Plan,
     removing: u64,
-    guard: Option<Bound>,
+    guard: Option<Shared<Bound>>,
     seqs: List<Seq>,
 ) -> Result<TransBins, Memory>
     ensures { IfOk result (λ made. made ≡ trans_made decl.now declared plan removing guard seqs) }
@@ -174,7 +174,7 @@ fn bin_seqs(
     alloc: Global,
     decl: &BinsDecl,
     before: Before,
-    guard: Option<Bound>,
+    guard: Option<Shared<Bound>>,
     seqs: List<Seq>,
 ) -> Result<TransBins, ElabFault>
     ensures { Gives result (seqs_binned decl.now before guard seqs) }
@@ -195,7 +195,7 @@ fn bin_steps(
 ) -> Result<TransBins, ElabFault>
     ensures { Gives result (steps_binned scope.now domain.now decl.now before sequences.now) }
 {
-    let guard = guard_in(alloc, scope, &decl.guard)?;
+    let guard = shared_guard_in(alloc, scope, &decl.guard)?;
     let array = is_array(&decl.size);
     ElabKind::Unbounded.unless(is_bounded(array, sequences), decl.at)?;
     let seqs = seqs_in(alloc, domain, sequences, decl.at)?;
@@ -233,7 +233,7 @@ pub fn default_bin(
 ) -> Result<Made, ElabFault>
     ensures { Gives result (default_bin_of scope.now decl.now before) }
 {
-    let guard = guard_in(alloc, scope, &decl.guard)?;
+    let guard = shared_guard_in(alloc, scope, &decl.guard)?;
     check_room(before.bins, 1, decl.at)?;
     let name = decl.name.share()?;
     let kind = default_kind(decl.word);

@@ -8,7 +8,7 @@ ghost use Rattle.point_sampler.specs.Points.{IsOutside};
 ghost use Rattle.point_sampler.specs.Met.{PlaceTaken, AllTaken, IsAnswered};
 
 use cov_base::{Int, Memory};
-use cov_counting::holds;
+use cov_counting::bin_holds;
 use design_data::{BinInfo, ItemInfo};
 use point_tables::Entry;
 
@@ -38,7 +38,7 @@ fn holds_at_place(
             return last.holds;
         }
     }
-    let holds = holds(&bins[place as usize].guard, env);
+    let holds = bin_holds(&bins[place as usize].guard, env);
     *asked = Some(Asked { place, holds });
     holds
 }

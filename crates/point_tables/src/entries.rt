@@ -16,7 +16,7 @@ fn has_guard(bin: &BinInfo, guard: &Bound) -> bool
 {
     match &bin.guard {
         None => false,
-        Some(own) => own.is_same(guard),
+        Some(own) => own.get().is_same(guard),
     }
 }
 
@@ -43,7 +43,7 @@ fn guard_place(bins: &[BinInfo], before: &Option<u32>, bin: &BinInfo, place: u32
 {
     match &bin.guard {
         None => None,
-        Some(guard) => Some(place_of(bins, before, guard, place)),
+        Some(guard) => Some(place_of(bins, before, guard.get(), place)),
     }
 }
 

@@ -4,6 +4,7 @@ use Rattle.std.proofs.Crossing.{crosses}
 use Rattle.cov_base.proofs.sets.ValueSet.TheSendSync as set
 use Rattle.cov_tree.proofs.name.Name.TheSendSync as name
 use Rattle.cov_tree.proofs.list.List.TheSendSync as list
+use Rattle.cov_tree.proofs.shared.Shared.TheSendSync as shared
 use Rattle.trans_seq.proofs.seq.Seq.TheSendSync as seq
 use Rattle.wildcard_bins.proofs.pattern.Pattern.TheSendSync as pattern
 use Rattle.design_data.proofs.infos.BinKind.TheSendSync as kind
@@ -30,10 +31,10 @@ pub rule_field_sync : IsSync (rule.the_field).row
 rule_field_sync = search (sendable, crosses, select_field_sync, list.the_sync, set.the_sync, seq.the_sync, pattern.the_sync) depth 30
 
 pub bin_send : IsSend bin.the_row
-bin_send = search (sendable, crosses, name.the_send, kind.the_field_send, rule_field_send, bound_send) depth 30
+bin_send = search (sendable, crosses, name.the_send, kind.the_field_send, rule_field_send, shared.the_send, bound_send, bound_sync) depth 30
 
 pub bin_sync : IsSync bin.the_row
-bin_sync = search (sendable, crosses, name.the_sync, kind.the_field_sync, rule_field_sync, bound_sync) depth 30
+bin_sync = search (sendable, crosses, name.the_sync, kind.the_field_sync, rule_field_sync, shared.the_sync, bound_sync, bound_send) depth 30
 
 pub item_send : IsSend item.the_row
 item_send = search (sendable, crosses, name.the_send, bound_send, shape_field_send, list.the_send, bin_send, seq.the_send) depth 30

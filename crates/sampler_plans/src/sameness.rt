@@ -4,7 +4,7 @@ ghost use Rattle.sampler_plans.specs.Alike.{AreAlike};
 
 use const_eval::Bound;
 use cov_base::ValueSet;
-use cov_tree::Name;
+use cov_tree::{Name, Shared};
 use cross_select::Select;
 use design_data::{BinInfo, BinKind, BinRule, ItemInfo};
 use trans_seq::Seq;
@@ -22,7 +22,7 @@ fn same_kind(first: BinKind, second: BinKind) -> bool
     first == second
 }
 
-fn same_guard(first: &Option<Bound>, second: &Option<Bound>) -> bool
+fn same_guard(first: &Option<Shared<Bound>>, second: &Option<Shared<Bound>>) -> bool
     ensures { IsTrue result → first.now ≡ second.now }
 {
     match first {
@@ -32,7 +32,7 @@ fn same_guard(first: &Option<Bound>, second: &Option<Bound>) -> bool
         },
         Some(guard) => match second {
             None => false,
-            Some(other) => guard.is_same(other),
+            Some(other) => guard.get().is_same(other.get()),
         },
     }
 }
