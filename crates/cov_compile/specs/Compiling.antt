@@ -62,7 +62,7 @@ abbrev pub Compiles : List ℕ → Result Design CompileFault → Type 0
 Compiles text (Ok design) = IsDesign (parts_of design) text
 Compiles text (Err fault) = (is_memory fault → ⊥) → IsDesignFault text fault
 
--- A text has one outcome: one design, or one fault.
+-- A text has one outcome at most: one design, or one fault.
 pub record HasOneOutcome (text : List ℕ) : Type 0 where
   pub one_design : (parts other : Parts) → IsDesign parts text → IsDesign other text → parts ≡ other
   pub one_fault : (fault other : CompileFault) → IsDesignFault text fault → IsDesignFault text other → fault ≡ other

@@ -12,6 +12,7 @@ use Rattle.design_data.specs.declared.infos.Signal.{Signal}
 use Rattle.design_data.specs.declared.infos.GroupInfo.{GroupInfo}
 use Rattle.design_data.specs.declared.infos.InstInfo.{InstInfo}
 use Rattle.design_data.specs.declared.infos.ItemInfo.{ItemInfo}
+use Rattle.design_data.specs.declared.infos.Remarks.{Remarks}
 use Rattle.design_data.specs.declared.infos.BinInfo.{BinInfo}
 use Rattle.design_data.specs.declared.infos.BinKind.{BinKind}
 use Rattle.design_data.specs.declared.infos.BinKind.TheVariants.{CvgBin, IllegalBin}
@@ -45,6 +46,9 @@ use Rattle.cov_history.proofs.Snoc.{test_count_snoc}
 abbrev bin : (name_ : List ℕ) → BinKind → List (ℤ × ℤ) → BinInfo
 bin name_ kind set = record { name = name_; kind = kind; rule = Values set; guard = None }
 
+abbrev unremarked : Remarks
+unremarked = record { comment = []; detect_overlap = false; auto_bin_max = 64; cross_num_print_missing = 0 }
+
 abbrev item : (least : ℕ) → List BinInfo → ItemInfo
 item least bins = record {
   name = 112 ∷ [];
@@ -52,6 +56,7 @@ item least bins = record {
   type_weight = 1;
   goal = 100;
   at_least = least;
+  remarks = unremarked;
   guard = None;
   shape = Point (name (meaning.Signal 0 (record { width = 8; signed = false }) 0) 0);
   first_bin = 0;
@@ -67,7 +72,7 @@ abbrev groups : List GroupInfo
 groups = record { name = 103 ∷ []; weight = 1; goal = 100; merge = false } ∷ []
 
 abbrev instances : (least : ℕ) → List BinInfo → List InstInfo
-instances least bins = record { name = 105 ∷ []; group = 0; weight = 1; goal = 100; print = false; args = []; items = item least bins ∷ [] } ∷ []
+instances least bins = record { name = 105 ∷ []; group = 0; weight = 1; goal = 100; at_least = 1; print = false; remarks = unremarked; args = []; items = item least bins ∷ [] } ∷ []
 
 abbrev ab : List BinInfo
 ab = bin (97 ∷ []) CvgBin ((pos 0, pos 0) ∷ []) ∷ bin (98 ∷ []) CvgBin ((pos 1, pos 2) ∷ []) ∷ []
@@ -268,6 +273,7 @@ item_from first = record {
   type_weight = 1;
   goal = 100;
   at_least = 1;
+  remarks = unremarked;
   guard = None;
   shape = Point (name (meaning.Signal 0 (record { width = 8; signed = false }) 0) 0);
   first_bin = first;
@@ -277,8 +283,8 @@ item_from first = record {
 }
 
 abbrev two : List InstInfo
-two = record { name = 105 ∷ []; group = 0; weight = 1; goal = 100; print = false; args = []; items = item_from 0 ∷ [] }
-    ∷ record { name = 106 ∷ []; group = 0; weight = 1; goal = 100; print = false; args = []; items = item_from 2 ∷ [] } ∷ []
+two = record { name = 105 ∷ []; group = 0; weight = 1; goal = 100; at_least = 1; print = false; remarks = unremarked; args = []; items = item_from 0 ∷ [] }
+    ∷ record { name = 106 ∷ []; group = 0; weight = 1; goal = 100; at_least = 1; print = false; remarks = unremarked; args = []; items = item_from 2 ∷ [] } ∷ []
 
 abbrev group : Bool → List GroupInfo
 group merge = record { name = 103 ∷ []; weight = 1; goal = 100; merge = merge } ∷ []

@@ -1,8 +1,8 @@
 //! Connections, one after another, over one seat.
 ghost use Rattle.std.specs.Prelude.{◌≡◌, ◌+◌, ◌-◌, ◌<◌, ◌≤◌, ◌^◌, min, true};
 ghost use Rattle.cov_spec.specs.Causes.{Rose};
-ghost use Rattle.cov_history.specs.History.{is_legal};
 ghost use Rattle.cov_history.specs.Turns.{Grown};
+ghost use Rattle.store_core.specs.Histories.{IsHistory};
 ghost use Rattle.cov_session.specs.Streams.{Session};
 ghost use Rattle.turn_lock.specs.Seats.{IsSame, number_of, seen, own};
 ghost use Rattle.cov_server.specs.Shares.{opening_of, HasSeat};
@@ -49,7 +49,7 @@ pub fn serve_connection<C: Core, L: Link, R: Threads + Wait + Sync, G: Gate>(
         })
         result.1 }
     ensures begins { Grown (seen seat) (seen result.0) }
-    ensures legal { is_legal (opening_of C.base shared.now) (seen result.0) ≡ true }
+    ensures history { IsHistory (opening_of C.base shared.now) (seen result.0) }
     ensures read_later { L.read_faults link.old ≤ L.read_faults link.new }
     ensures read_cause { result.1 ≡ Ended.ReadFault
         → Rose (L.read_faults link.old) (L.read_faults link.new) }
@@ -83,7 +83,7 @@ where
     ensures seat { HasSeat C.base C.sound shared.now result.0 }
     ensures same { IsSame seat result.0 }
     ensures begins { Grown (seen seat) (seen result.0) }
-    ensures legal { is_legal (opening_of C.base shared.now) (seen result.0) ≡ true }
+    ensures history { IsHistory (opening_of C.base shared.now) (seen result.0) }
     ensures most { result.1 ≤ rounds }
     ensures handed { 0 < result.1
         → D.handed door.new ≡ min (D.handed door.old + result.1) (2 ^ 64 - 1) }

@@ -1,7 +1,7 @@
 //! A core behind a lock, with its opening design.
 ghost use Rattle.std.specs.Prelude.{◌≡◌, ◌+◌, ◌-◌, ◌^◌, ◌≤◌, [], length, true, IfOk};
 ghost use mathlib.Core.List.{IsPrefix};
-ghost use Rattle.cov_history.specs.History.{is_legal};
+ghost use Rattle.store_core.specs.Histories.{IsHistory};
 ghost use Rattle.turn_lock.specs.History.{longer};
 ghost use Rattle.turn_lock.specs.Limits.{most_seats};
 ghost use Rattle.turn_lock.specs.Seats.{IsSame, number_of, free, left, opened, seen, own};
@@ -75,7 +75,7 @@ impl<C: Core> Shared<C> {
         ensures b { HasSeat C.base C.sound self.now b.new × IsSame b.old b.new }
         ensures seen { seen a.new ≡ seen b.new }
         ensures begins { IsPrefix (seen a.old) (seen a.new) × IsPrefix (seen b.old) (seen a.new) }
-        ensures legal { is_legal (opening_of C.base self.now) (seen a.new) ≡ true }
+        ensures history { IsHistory (opening_of C.base self.now) (seen a.new) }
         ensures own_a { own C.number a.new ≡ own C.number a.old }
         ensures own_b { own C.number b.new ≡ own C.number b.old }
     {

@@ -33,7 +33,7 @@ fn basis_of<C: Core, W: Wait>(
 
 impl<'a, C: Core, W: Wait> Port for SharedPort<'a, C, W> {
     ghost use Rattle.turn_lock.specs.Seats.{home};
-    ghost use Rattle.cov_server.specs.Legal.{seat_legal};
+    ghost use Rattle.cov_server.specs.Legal.{seat_history};
     ghost use Rattle.cov_server.specs.Places.{number_in, seen_in, own_in, free_in, left_in, opened_in};
 
     /// The shared core, and the rest of the seat: what it may still split off, what it may still draw, and since when it
@@ -50,7 +50,7 @@ impl<'a, C: Core, W: Wait> Port for SharedPort<'a, C, W> {
 
     ghost own = { λ p. own_in C.number p.seat };
 
-    ghost lawful = { λ p. seat_legal C.base C.sound C.lawful p.shared.now.lock p.seat p.of };
+    ghost lawful = { λ p. seat_history C.base C.sound C.lawful p.shared.now.lock p.seat p.of };
 
     fn turn<R: Threads + Sync>(&mut self, rt: &R, ask: Ask) -> Answered {
         let SharedPort {

@@ -114,11 +114,11 @@ ends_long {opening} {caller} {most} {n} {w} {v} {u} s p q torn e = close (ran_th
 abbrev pub then_read : World → Option (List ℕ) → List ℕ → World
 then_read u left held = record { left = left; held = held; place = u.place; seen = u.seen; own = u.own; written = u.written }
 
-pub ends_read : {opening : Design} {caller most n : ℕ} {w v u : World} (left : Option (List ℕ)) → Starts w → n ≤ most → Ran opening caller n w v → Ran opening caller 0 v u → IsTorn u.held → Stays u.left left → Closes opening caller most w (then_read u left u.held) ended.ReadFault
+pub ends_read : {opening : Design} {caller most n : ℕ} {w v u : World} (left : Option (List ℕ)) → Starts w → n < most → Ran opening caller n w v → Ran opening caller 0 v u → IsTorn u.held → Stays u.left left → Closes opening caller most w (then_read u left u.held) ended.ReadFault
 ends_read {opening} {caller} {most} {n} {w} {v} {u} left s few p q torn stays = close (read_ran left u.held [] (ran_then p q refl) refl (sym (append-nil u.held)) (stays_shrinks u.left left stays) refl)
   where
     close : Ran opening caller (n + 0 + 0) w (then_read u left u.held) → Closes opening caller most w (then_read u left u.held) ended.ReadFault
-    close r = closed ended.ReadFault s r.goes (omega (arith, r.long)) (r.no_bye, torn) tt r.out
+    close r = closed ended.ReadFault s r.goes (omega (arith, r.long)) (r.no_bye, torn) (omega (arith, r.long)) r.out
 
 pub ends_input : {opening : Design} {caller most n m : ℕ} {w v u : World} {left : Option (List ℕ)} {held : List ℕ} → Starts w → n < most → Ran opening caller n w v → Ran opening caller 0 v u → Filled u.left left u.held held m → m ≡ 0 → length held ≡ 0 → Closes opening caller most w (then_read u left held) ended.InputEnd
 ends_input {opening} {caller} {most} {n} {m} {w} {v} {u} {left} {held} s few p q f zero none = close (read_ran left held f.got (ran_then p q refl) f.long f.is f.takes refl)

@@ -11,7 +11,8 @@ use Rattle.cov_proto.specs.Limits.{IsReply}
 use Rattle.cov_proto.specs.Spelled.{reply_spelled, body_fields}
 use Rattle.session_table.specs.declared.bodies.Said.{Said}
 use Rattle.upload_stage.specs.Uploads.{Upload}
-use Rattle.session_table.specs.Says.{Says, IsWritable}
+use Rattle.session_table.specs.Frames.{IsWritable}
+use Rattle.session_table.specs.Says.{Says}
 use Rattle.session_table.specs.Table.{is_bye}
 use Rattle.session_table.proofs.Growing.{grown_refl}
 use Rattle.cov_session.specs.Fills.{longest_frame}

@@ -11,3 +11,4 @@ pub use Rattle.session_table.specs.Faults
 pub use Rattle.session_table.specs.Serves
 pub use Rattle.session_table.specs.Table
 pub use Rattle.session_table.specs.Alone
+pub use Rattle.session_table.specs.Histories

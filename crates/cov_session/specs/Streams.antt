@@ -74,11 +74,13 @@ Out other before now replies = Grows before now (flat_map reply_frame replies)
 abbrev pub TookAll : (most : ℕ) → List ℕ → (left : Option (List ℕ)) → Type 0
 TookAll most bytes left = (length bytes < most) × IsAtEnd left
 
--- what the end says of the bytes taken; a session that is too long took as many as it may
+-- What the end says of the bytes taken: a session that is too long took as many as it may, and one whose read failed took
+-- fewer.
 abbrev pub Took : Ended → (most : ℕ) → List ℕ → (left : Option (List ℕ)) → Type 0
 Took ended.InputEnd most bytes left = TookAll most bytes left
 Took ended.TornFrame most bytes left = TookAll most bytes left
 Took ended.SessionTooLong most bytes left = length bytes ≡ most
+Took ended.ReadFault most bytes left = length bytes < most
 Took other most bytes left = ⊤
 
 -- ---- the session

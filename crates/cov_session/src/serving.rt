@@ -3,8 +3,8 @@ ghost use Rattle.std.specs.Prelude.{◌≡◌, ◌≤◌, ◌<◌, [], length, t
 ghost use Rattle.std.specs.Arc.{arc_value};
 ghost use Rattle.cov_spec.specs.Causes.{Rose, HasCause};
 ghost use Rattle.cov_spec.specs.Told.{Grows, GrowsByFront};
-ghost use Rattle.cov_history.specs.History.{is_legal};
 ghost use Rattle.cov_proto.specs.Frames.{HasFrame};
+ghost use Rattle.session_table.specs.Histories.{IsHistory};
 ghost use Rattle.session_table.specs.Says.{place_of};
 ghost use Rattle.cov_session.specs.Fills.{longest_frame};
 ghost use Rattle.cov_session.specs.Ends.{Stops, StopsByFault, Framed};
@@ -190,7 +190,7 @@ pub fn session<P: Port, L: Link, R: Threads + Sync, G: Gate>(
           own = P.own port.new;
         })
         result }
-    ensures legal { is_legal (P.opening port.old) (P.seen port.new) ≡ true }
+    ensures history { IsHistory (P.opening port.old) (P.seen port.new) }
     ensures read_later { L.read_faults link.old ≤ L.read_faults link.new }
     ensures read_cause { result ≡ Ended.ReadFault
         → Rose (L.read_faults link.old) (L.read_faults link.new) }

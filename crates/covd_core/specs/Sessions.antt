@@ -1,15 +1,16 @@
 -- What `session DESIGN` leaves. A design that can't be had is refused as by the other commands. Over a design that is had,
 -- the requests that come over the link are answered, as those of the one caller of a store that begins without entries.
-use Rattle.std.specs.Prelude.{◌≡◌, ◌⊎◌, ℕ, ◌^◌, List, [], ◌∷◌, Some, true, false, codes}
+use Rattle.std.specs.Prelude.{◌≡◌, ◌⊎◌, ℕ, ◌^◌, List, [], ◌∷◌, Some, false, codes}
 use Rattle.cov_spec.specs.Causes.{Rose}
 use Rattle.cov_spec.specs.Told.{Grows, GrowsByFront, Stays}
 use Rattle.design_data.specs.declared.design.Design.{Design}
 use Rattle.cov_history.specs.declared.entry.Entry.{Entry}
-use Rattle.cov_history.specs.History.{is_legal, has_stop}
+use Rattle.cov_history.specs.History.{has_stop}
 use Rattle.cov_session.specs.Alone.{own_from, others}
 use Rattle.cov_session.specs.declared.ended.Ended.{Ended}
 use Rattle.cov_session.specs.declared.ended.Ended.TheVariants as ended
 use Rattle.cov_session.specs.Streams.{Session}
+use Rattle.cov_session.specs.Histories.{IsHistory}
 use Rattle.covd_commands.specs.declared.status.Status.{Status}
 use Rattle.covd_commands.specs.declared.status.Status.TheVariants as status
 use Rattle.covd_commands.specs.FromFiles.{Files, HasDesign, NoDesign}
@@ -41,8 +42,9 @@ ended_status ended.ReadFault = status.ReadFault
 ended_status ended.WriteFault = status.WriteFault
 ended_status ended.Memory = status.Memory
 
--- A session of the caller 0 over a history that is empty at first and has no entry but those that its replies made; the
--- history is legal and has no Stop. A fault ends it only where that count rose.
+-- A session of the caller 0 over a history that is empty at first and has no entry but those that its replies made. The
+-- history is legal, the text of each revision in it declares its design, and it has no Stop. A fault ends the session only
+-- where that count rose.
 pub record Conducted (d : Design) (before after : Ends) (end : Ended) : Type 0 where
   pub history : List Entry
   pub session : Session d 0 most_taken
@@ -50,7 +52,7 @@ pub record Conducted (d : Design) (before after : Ends) (end : Ended) : Type 0 w
       (record { left = after.left; written = after.written; seen = history; own = own_from 0 0 history })
       end
   pub own : others 0 history ≡ []
-  pub legal : is_legal d history ≡ true
+  pub is_history : IsHistory d history
   pub going : has_stop history ≡ false
   pub read_cause : end ≡ ended.ReadFault → Rose before.read_faults after.read_faults
   pub write_cause : end ≡ ended.WriteFault → Rose before.write_faults after.write_faults

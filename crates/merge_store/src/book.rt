@@ -24,7 +24,10 @@ impl Book for Store {
 
     ghost sound = { IsSound };
 
-    ghost is_sound = { λ s. record { legal = s.keeps.legal; going = s.keeps.going } };
+    ghost is_sound = { λ s. record {
+      history = record { legal = s.keeps.legal; declared = s.keeps.declared };
+      going = s.keeps.going;
+    } };
 
     fn len(&self) -> u64 {
         self.entries.as_slice().len() as u64

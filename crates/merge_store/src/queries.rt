@@ -5,7 +5,7 @@ ghost use Rattle.cov_history.specs.History.{design_of, tests_of};
 ghost use Rattle.store_parts.specs.Keeps.{rows_of};
 ghost use Rattle.store_parts.specs.Words.{test_of};
 ghost use Rattle.cov_history.specs.Answers.{hello_at, counts_at, test_counts_at, illegal_at, name_at, fetch_at, test_row, tests_at, rank_at};
-ghost use Rattle.store_parts.specs.Told.{Reads, rows_read, name_read, chunk_read, tests_read, rank_read};
+ghost use Rattle.store_parts.specs.Told.{Reads, rows_read, illegal_read, name_read, chunk_read, tests_read, rank_read};
 ghost use Rattle.merge_store.specs.Stores.{opening_of, entries_of};
 
 use crate::{QueryFault, Store};
@@ -38,17 +38,13 @@ impl Store {
     }
 
     /// The illegal bins that were hit: how many they are, and at most 65,536 of them from the first-th on.
-    pub fn illegal(&self, first: u32) -> Result<(u32, List<CountRow>), QueryFault>
+    pub fn illegal(&self, first: u32) -> Result<(u32, List<CountRow>), Memory>
         ensures { Reads (illegal_at (opening_of self.now) (entries_of self.now) first)
-            (rows_read result) }
+            (illegal_read result) }
     {
-        let Ok(bins) = self.sums.illegal_bins() else {
-            return Err(QueryFault::Memory);
-        };
-        match self.sums.rows(bins.as_slice(), first) {
-            Ok(rows) => Ok(rows),
-            Err(Memory) => Err(QueryFault::Memory),
-        }
+        let bins = self.sums.illegal_bins()?;
+        let rows = self.sums.rows(bins.as_slice(), first)?;
+        Ok(rows)
     }
 
     /// The path of the bin of this number.
@@ -130,14 +126,12 @@ impl Store {
     }
 
     /// The tests in order of admission: how many they are, and at most 1,024 of them from the first-th on.
-    pub fn tests(&self, first: u32) -> Result<(u32, List<HistoryNode>), QueryFault>
+    pub fn tests(&self, first: u32) -> Result<(u32, List<HistoryNode>), Memory>
         ensures { Reads (tests_at (entries_of self.now) first) (tests_read result) }
     {
         let from = first as usize;
-        match self.tests_between(from, from + MOST_TEST_ROWS) {
-            Ok(rows) => Ok((self.test_count() as u32, List::of(rows))),
-            Err(Memory) => Err(QueryFault::Memory),
-        }
+        let rows = self.tests_between(from, from + MOST_TEST_ROWS)?;
+        Ok((self.test_count() as u32, List::of(rows)))
     }
 
     /// The tallies of all tests in order.
@@ -163,19 +157,13 @@ impl Store {
 
     /// The greedy ranking of the tests by the live bins that they cover: each test that adds to those taken before it,
     /// with how many wanted hits it adds. The work is shared among the processors.
-    pub fn rank<R: Threads + Sync>(&self, rt: &R) -> Result<List<Ranked>, QueryFault>
+    pub fn rank<R: Threads + Sync>(&self, rt: &R) -> Result<List<Ranked>, Memory>
         ensures { Reads (rank_at (opening_of self.now) (entries_of self.now)) (rank_read result) }
     {
-        let Ok(tallies) = self.tallies() else {
-            return Err(QueryFault::Memory);
-        };
-        let Ok(wanted) = self.sums.wanted() else {
-            return Err(QueryFault::Memory);
-        };
-        match rank(rt, self.alloc, tallies.as_slice(), wanted.as_slice()) {
-            Ok(rows) => Ok(rows),
-            Err(_) => Err(QueryFault::Memory),
-        }
+        let tallies = self.tallies()?;
+        let wanted = self.sums.wanted()?;
+        let rows = rank(rt, self.alloc, tallies.as_slice(), wanted.as_slice())?;
+        Ok(rows)
     }
 
     /// Some of the bytes of the record that was admitted at this place, from 0: how many they are, and at most 1,048,576

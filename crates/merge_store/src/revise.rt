@@ -2,6 +2,7 @@
 ghost use Rattle.std.specs.Prelude.{◌≡◌, ◌++◌, ◌∷◌, [], ℕ, max, false, true, length, map, filter, option_map, IfErr, IfOk, OnOk, OnErr};
 ghost use Rattle.std.specs.Arc.{arc_value};
 ghost use Rattle.cov_history.specs.declared.entry.Event.TheVariants as event;
+ghost use Rattle.ucis_model.specs.Nodes.{nodes_of};
 ghost use Rattle.cov_history.specs.History.{is_test_or_revise, is_found, out_of};
 ghost use Rattle.cov_history.specs.Answers.{revise_at, by, stands_since};
 ghost use Rattle.cov_history.specs.Sums.{all_hits};
@@ -66,8 +67,8 @@ impl Store {
         requires { IsReadied (opening_of self.now) (entries_of self.now) rebinned.now }
         ensures refused { IfErr result (λ fault. IsRefused (opening_of self.now) (entries_of self.now) rebinned.now fault) }
         ensures may { IfOk result (λ ready. MayRevise (opening_of self.now) (entries_of self.now) rebinned.now ready.after) }
-        ensures remade { IfOk result (λ ready. IsRemade (entries_of self.now) rebinned.now.design ready.remade.branches (map (λ p. option_map arc_value p) ready.remade.out.items) ready.remade.outs) }
-        ensures marked { IfOk result (λ ready. HasMarks ready.remade.branches
+        ensures remade { IfOk result (λ ready. IsRemade (entries_of self.now) rebinned.now.design (map (λ p. option_map arc_value p) ready.remade.out.items) ready.remade.outs) }
+        ensures marked { IfOk result (λ ready. HasMarks (nodes_of rebinned.now.design)
             (all_hits rebinned.now.design rebinned.now.records)
             (map (λ p. option_map arc_value p) ready.remade.out.items) (λ bin. true) ready.remade.runs) }
     {
@@ -75,7 +76,7 @@ impl Store {
         if since < self.changed() {
             return Err(ReviseFault::Moved { since });
         }
-        let Ok(remade) = self.remade(rebinned.design(), rebinned.counts()) else {
+        let Ok(remade) = self.remade(rebinned) else {
             return Err(ReviseFault::Memory);
         };
         let after = self.amounts_revised(rebinned, remade.outs);
@@ -91,8 +92,8 @@ impl Store {
     fn take_up(&mut self, caller: u32, rebinned: Rebinned, ready: Ready) -> Result<(), Rebinned>
         requires readied { IsReadied (opening_of self.old) (entries_of self.old) rebinned }
         requires may { MayRevise (opening_of self.old) (entries_of self.old) rebinned ready.after }
-        requires remade { IsRemade (entries_of self.old) rebinned.design ready.remade.branches (map (λ p. option_map arc_value p) ready.remade.out.items) ready.remade.outs }
-        requires marked { HasMarks ready.remade.branches (all_hits rebinned.design rebinned.records)
+        requires remade { IsRemade (entries_of self.old) rebinned.design (map (λ p. option_map arc_value p) ready.remade.out.items) ready.remade.outs }
+        requires marked { HasMarks (nodes_of rebinned.design) (all_hits rebinned.design rebinned.records)
             (map (λ p. option_map arc_value p) ready.remade.out.items) (λ bin. true) ready.remade.runs }
         ensures opening { opening_of self.new ≡ opening_of self.old }
         ensures done { OnOk result (entries_of self.new ≡ entries_of self.old ++ by caller (event.Revise (revision_of rebinned)) ∷ []) }
@@ -115,7 +116,7 @@ impl Store {
         self.sums = Sums::of_parts(
             self.alloc,
             parts.design,
-            ready.remade.branches,
+            parts.branches,
             ready.remade.runs,
             parts.counts,
             ready.remade.out,

@@ -11,8 +11,8 @@ use std::sync::Arc;
 use std::thread::Threads;
 use store_core::{Ask, Basis, Core};
 use store_parts::{
-    of_admit, of_chunk, of_coverage, of_exclude, of_include, of_name, of_rank, of_revise, of_rows,
-    of_tests,
+    of_admit, of_chunk, of_coverage, of_exclude, of_illegal, of_include, of_name, of_rank,
+    of_revise, of_rows, of_tests,
 };
 use ucis_model::{Answer, Answered};
 
@@ -26,7 +26,7 @@ impl Store {
             Ask::Hello { point } => self.hello(point),
             Ask::Counts { first, path } => of_rows(self.counts(first, path.as_slice())),
             Ask::Coverage { path } => of_coverage(self.coverage(path.as_slice())),
-            Ask::Illegal { first } => of_rows(self.illegal(first)),
+            Ask::Illegal { first } => of_illegal(self.illegal(first)),
             Ask::Tests { first } => of_tests(self.tests(first)),
             Ask::TestCounts { first, id, path } => {
                 of_rows(self.test_counts(first, id.as_slice(), path.as_slice()))
@@ -63,7 +63,7 @@ impl Core for Store {
 
     ghost numbered = { λ e. refl };
 
-    ghost lawful = { λ opening h s. s.legal };
+    ghost lawful = { λ opening h s. s.history };
 
     fn opening(&self) -> &Arc<Design> {
         &self.opening

@@ -5,6 +5,7 @@ ghost use Rattle.std.proofs.Props.{props};
 ghost use Rattle.design_data.specs.Limits.{IsDesign-prop};
 ghost use Rattle.record_codec.specs.Limits.{IsWithinLimits-prop};
 ghost use Rattle.ucis_model.specs.Nodes.{nodes_of};
+ghost use Rattle.store_core.specs.Histories.{IsDeclared-prop};
 ghost use Rattle.store_parts.specs.Keeps.{Keeps};
 ghost use Rattle.store_parts.specs.Words.{entry_of, test_of};
 
@@ -34,7 +35,7 @@ pub struct Store {
     ghost keeps: { Keeps (arc_value opening) sums.design (nodes_of sums.design)
         (map entry_of entries.items) (map (λ e. (e.0.items, test_of e.1)) tests.entries)
         (map (λ e. arc_value e.1.tally) tests.entries) sums.counts.items
-        (map (λ p. option_map arc_value p) sums.out.items) outs bytes rows revised } by { Prim.hlevel (props, IsWithinLimits-prop, IsDesign-prop) },
+        (map (λ p. option_map arc_value p) sums.out.items) outs bytes rows revised } by { Prim.hlevel (props, IsWithinLimits-prop, IsDesign-prop, IsDeclared-prop) },
     ghost room: { vec_len entries + outs ≤ vec_capacity entries },
 }
 

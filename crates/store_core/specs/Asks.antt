@@ -1,7 +1,6 @@
 -- The asks of callers as asks at a history, and what they come with.
-use Rattle.std.specs.Prelude.{◌≡◌, ◌≤◌, ℕ, List, length, take, Ok, true}
+use Rattle.std.specs.Prelude.{◌≡◌, ◌≤◌, ℕ, List, length, take, true}
 use Rattle.design_data.specs.declared.design.Design.{Design}
-use Rattle.cov_compile.specs.Compiling.{Compiles}
 use Rattle.cov_history.specs.declared.entry.Entry.{Entry}
 use Rattle.cov_history.specs.declared.entry.Revision.{Revision}
 use Rattle.cov_history.specs.declared.asks.Ask.{Ask as At}
@@ -11,6 +10,7 @@ use Rattle.cov_history.specs.History.{design_of, contents}
 use Rattle.sampler.specs.Preparing.{Whole}
 use Rattle.store_core.specs.declared.asks.Ask.{Ask}
 use Rattle.store_core.specs.declared.asks.Ask.TheVariants as ask
+use Rattle.store_core.specs.Histories.{Declaring}
 use Rattle.store_core.specs.Rebins.{Redone}
 
 -- the revision that a text with its design makes
@@ -44,7 +44,7 @@ pub record IsReadied (opening : Design) (h : List Entry) (r : Redone) : Type 0 w
   pub reached : r.since ≤ length h
   pub tables : same_tables r.design opening ≡ true
   pub records : r.records ≡ contents (take r.since h)
-  pub declared : Compiles r.text (Ok r.design)
+  pub declared : Declaring r.text r.design
 
 -- what an ask comes with
 abbrev pub Meets : (opening : Design) → List Entry → Ask → Type 0

@@ -1,13 +1,13 @@
 -- What a basis is, and a text that is made ready by it.
-use Rattle.std.specs.Prelude.{◌≡◌, ◌≤◌, List, length, map, Ok}
+use Rattle.std.specs.Prelude.{◌≡◌, ◌≤◌, List, length, map}
 use Rattle.std.specs.Arc.{arc_value}
 use Rattle.design_data.specs.declared.design.Design.{Design}
 use Rattle.ucis_model.specs.declared.answers.Which.TheVariants.{Tests}
-use Rattle.cov_compile.specs.Compiling.{Compiles}
 use Rattle.cov_compile.specs.Texts.{Declared}
 use Rattle.cov_history.specs.declared.entry.Entry.{Entry}
 use Rattle.cov_history.specs.History.{design_of, contents, most}
 use Rattle.store_core.specs.declared.basis.Basis.{Basis}
+use Rattle.store_core.specs.Histories.{Declaring}
 use Rattle.store_core.specs.Rebins.{Redone}
 
 -- the point, the design and the tests' records of this history
@@ -23,4 +23,4 @@ pub record IsRebinned (compiled : Declared) (b : Basis) (r : Redone) : Type 0 wh
   pub design : r.design ≡ compiled.design
   pub since : r.since ≡ b.point
   pub records : r.records ≡ map arc_value b.records
-  pub declared : Compiles r.text (Ok r.design)
+  pub declared : Declaring r.text r.design

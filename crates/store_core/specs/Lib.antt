@@ -1,3 +1,4 @@
+pub mod Histories
 pub mod Rebins
 pub mod Bases
 pub mod Asks

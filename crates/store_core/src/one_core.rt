@@ -1,11 +1,11 @@
 //! What serves asks over one history.
-ghost use Rattle.std.specs.Prelude.{◌≡◌, ℕ, List, length, true, IfOk};
+ghost use Rattle.std.specs.Prelude.{◌≡◌, ◌≤◌, ℕ, List, length, IfOk};
 ghost use Rattle.std.specs.Arc.{arc_value};
 ghost use Rattle.std.specs.Thread.{IsSync};
 ghost use Rattle.design_data.specs.declared.design.Design.{Design};
 ghost use Rattle.cov_history.specs.declared.entry.Entry.{Entry};
-ghost use Rattle.cov_history.specs.History.{is_legal};
 ghost use Rattle.cov_history.specs.Turns.{ServesOrStops};
+ghost use Rattle.store_core.specs.Histories.{IsHistory};
 ghost use Rattle.store_core.specs.Bases.{IsBasis};
 ghost use Rattle.store_core.specs.Asks.{asked, Meets};
 
@@ -40,12 +40,13 @@ pub trait Core: Book<Base = Design, Entry = Entry> {
         ensures served { ServesOrStops (Self.base self.old) caller (Self.entries self.old)
             (asked ask) result.answer (Self.entries self.new)
             (faults self.old) (faults self.new) }
+        ensures later { faults self.old ≤ faults self.new }
         ensures point { result.point ≡ length (Self.entries self.new) };
 
     /// An entry's number is that of its caller.
     ghost numbered: { (e : Entry) → Self.Book.number e ≡ e.caller };
 
-    /// What is sound is legal.
+    /// What is sound is legal, and each revision in it is of a text that declares its design.
     ghost lawful: { (opening : Design) (h : List Entry)
-        → Self.Book.sound opening h → is_legal opening h ≡ true };
+        → Self.Book.sound opening h → IsHistory opening h };
 }

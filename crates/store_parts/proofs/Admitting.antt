@@ -24,7 +24,7 @@ use Rattle.cov_history.proofs.Amounting.{passed_is, full_is}
 use Rattle.cov_history.specs.Amounts.{Amounts, AreAmounts, amount_in, first_passed}
 use Rattle.store_parts.specs.Keeps.{HasOut, Keeps, rows_of}
 use Rattle.store_parts.specs.May.{MayAdmit}
-use Rattle.store_parts.proofs.Steps.{legal_more, going_more, last_same}
+use Rattle.store_parts.proofs.Steps.{legal_more, declared_more, going_more, last_same}
 use Rattle.store_parts.proofs.Tallied.{counted, sum_few, hits_few, no_hits}
 
 abbrev pub test_at : ℕ → Record → Test
@@ -90,6 +90,7 @@ module _ {opening design : Design} {nodes : List Node} {h : List Entry} {tests :
         let fit : suits opening h (Admit r) ≡ true = rw (m.is_new, m.fit) refl in
         record {
           legal = legal_more opening h x k.legal k.going fit within;
+          declared = declared_more h x k.declared tt;
           going = going_more h x k.going refl;
           design_is = k.design_is ∙ sym same;
           nodes_are = k.nodes_are ∙ ap nodes_of (sym same);

@@ -2,12 +2,15 @@
 use Rattle.std.proofs.Common.{◌≡◌, ℕ, zero, suc, ◌≤◌, List, [], ◌∷◌, length, map, refl, ap, ◌∙◌, arith, replicate, Option, None}
 use Rattle.std.specs.Prelude.{slice_index, slice_index_or}
 use Rattle.std.proofs.lemmas.List.{length-replicate}
+use Rattle.std.proofs.lemmas.List.Elements.{All-nil}
 use Rattle.design_data.specs.declared.design.Design.{Design}
 use Rattle.ucis_model.specs.declared.node.Node.{Node}
 use Rattle.ucis_model.specs.declared.answers.Which.{Which}
 use Rattle.ucis_model.specs.declared.answers.Which.TheVariants.{Tests, Bytes, Entries, History}
 use Rattle.ucis_model.specs.Nodes.{nodes_of}
+use Rattle.cov_history.specs.declared.entry.Entry.{Entry}
 use Rattle.cov_history.specs.History.{amount, most, is_revise}
+use Rattle.store_core.specs.Histories.{IsDeclared}
 use Rattle.store_parts.specs.Keeps.{Keeps}
 use Rattle.store_parts.proofs.Steps.{none_last}
 
@@ -30,6 +33,7 @@ same_at (suc n) (suc i) x = same_at n i x
 pub fresh : (d : Design) (nodes : List Node) (counts : List ℕ) (out : List (Option (List ℕ))) → nodes ≡ nodes_of d → counts ≡ replicate d.bin_count 0 → out ≡ replicate (length nodes) None → Keeps d d nodes [] [] [] counts out 0 0 0 0
 fresh d nodes counts out n c o = record {
   legal = refl;
+  declared = All-nil (λ (e : Entry). IsDeclared e.event);
   going = refl;
   design_is = refl;
   nodes_are = n;

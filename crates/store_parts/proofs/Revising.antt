@@ -32,7 +32,7 @@ use Rattle.store_parts.specs.Remakes.{IsRemade, MayRevise}
 use Rattle.cov_history.proofs.Amounting.{passed_is, full_is}
 use Rattle.store_parts.proofs.Excluding.{history_amount}
 use Rattle.store_parts.proofs.Latest.{last_new}
-use Rattle.store_parts.proofs.Steps.{legal_more, going_more}
+use Rattle.store_parts.proofs.Steps.{legal_more, declared_more, going_more}
 
 -- ---- the records at a point
 
@@ -119,17 +119,18 @@ module _ (opening : Design) (h : List Entry) (caller : ℕ) (r : Redone) where
   -- ---- what is kept
 
   module _ {design : Design} {nodes : List Node} {tests : List (List ℕ × Test)} {tallies : List (List (ℕ × ℕ))} {counts : List ℕ} {out : List (Option (List ℕ))} {outs bytes entries revised : ℕ} (k : Keeps opening design nodes h tests tallies counts out outs bytes entries revised) where
-    pub revise_keeps : (after : Amounts) (new_nodes : List Node) (new_out : List (Option (List ℕ))) (new_outs : ℕ) → IsReadied opening h r → MayRevise opening h r after → IsRemade h r.design new_nodes new_out new_outs
-        → Keeps opening r.design new_nodes (h ++ entry ∷ []) tests (tallies_of r.design r.records) (all_hits r.design r.records) new_out new_outs after.bytes after.entries (length h + 1)
-    revise_keeps after new_nodes new_out new_outs ready may made =
+    pub revise_keeps : (after : Amounts) (new_out : List (Option (List ℕ))) (new_outs : ℕ) → IsReadied opening h r → MayRevise opening h r after → IsRemade h r.design new_out new_outs
+        → Keeps opening r.design (nodes_of r.design) (h ++ entry ∷ []) tests (tallies_of r.design r.records) (all_hits r.design r.records) new_out new_outs after.bytes after.entries (length h + 1)
+    revise_keeps after new_out new_outs ready may made =
         let are = may.amounts caller in
         let same : r.records ≡ contents h = ready.records ∙ sym (contents_since h r.since may.calm) in
         let within = within_of opening (h ++ entry ∷ []) (passed_is opening (h ++ entry ∷ []) after are ∙ may.room) in
         record {
           legal = legal_more opening h entry k.legal k.going ready.tables within;
+          declared = declared_more h entry k.declared ∣ ready.declared ∣₁;
           going = going_more h entry k.going refl;
           design_is = sym after_design;
-          nodes_are = made.nodes_are ∙ ap nodes_of (sym after_design);
+          nodes_are = ap nodes_of (sym after_design);
           tests_are = k.tests_are ∙ ap (map (λ (t : Test). (t.content.id, t))) (sym after_tests);
           tallies_are = ap (tallies_of r.design) same ∙ map-map (λ (c : Record). rows_from 0 (tally r.design c)) (λ (t : Test). t.content) (tests_of h) ∙ (λ i. map (rows_of (sym after_design i)) (sym after_tests i));
           within = within;
@@ -137,7 +138,7 @@ module _ (opening : Design) (h : List Entry) (caller : ℕ) (r : Redone) where
             same_len = all_hits_length r.design r.records ∙ ap (λ (d : Design). d.bin_count) (sym after_design);
             at = λ bin. all_hits_at r.design r.records bin ∙ (λ i. hits_of (sym after_design i) ((same ∙ sym after_contents) i) bin);
           };
-          outs_are = subst (λ ps. HasOut new_nodes ps new_out new_outs) (sym (out_snoc h entry)) made.outs_are;
+          outs_are = subst (λ ps. HasOut (nodes_of r.design) ps new_out new_outs) (sym (out_snoc h entry)) made;
           bytes_are = are.bytes;
           entries_are = are.entries;
           revised_is = last_new is_revise h entry revised k.revised_is refl;

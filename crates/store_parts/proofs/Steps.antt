@@ -4,6 +4,7 @@ use Rattle.std.specs.Prelude.{sum_by}
 use Rattle.std.specs.List.{list_any}
 use Rattle.std.proofs.lemmas.Bool.{le-ltb}
 use Rattle.std.proofs.lemmas.List.{append-nil}
+use Rattle.std.proofs.lemmas.List.Elements.{All-nil, All-cons, All-append}
 use Rattle.design_data.specs.declared.design.Design.{Design}
 use Rattle.ucis_model.specs.declared.node.Node.{Node}
 use Rattle.ucis_model.specs.declared.answers.Which.{Which}
@@ -17,12 +18,18 @@ use Rattle.cov_history.specs.Answers.{stands_since}
 use Rattle.cov_history.proofs.Bools.{and_false, or_false}
 use Rattle.cov_history.proofs.Snoc.{design_snoc, tests_snoc, out_snoc, legal_snoc, stop_snoc, since_snoc, bytes_snoc}
 use Rattle.cov_history.proofs.Legal.{none_passed}
+use Rattle.store_core.specs.Histories.{IsDeclared, AreDeclared}
 use Rattle.store_parts.specs.Keeps.{IsLast, HasOut, Keeps, rows_of}
 
 pub legal_more : (opening : Design) (h : List Entry) (e : Entry) → is_legal opening h ≡ true → has_stop h ≡ false → suits opening h e.event ≡ true → ((which : Which) → amount opening (h ++ e ∷ []) which ≤ most which) → is_legal opening (h ++ e ∷ []) ≡ true
 legal_more opening h e legal going fit within =
     let last : may_follow opening h e ≡ true = rw (going, fit, none_passed opening (h ++ e ∷ []) within) refl in
     legal_snoc opening h e ∙ rw (legal, last) refl
+
+pub declared_more : (h : List Entry) (e : Entry) → AreDeclared h → IsDeclared e.event → AreDeclared (h ++ e ∷ [])
+declared_more h e all one =
+    let last = All-cons (λ (x : Entry). IsDeclared x.event) e [] one (All-nil (λ (x : Entry). IsDeclared x.event)) in
+    All-append (λ (x : Entry). IsDeclared x.event) h (e ∷ []) all last
 
 pub going_more : (h : List Entry) (e : Entry) → has_stop h ≡ false → is_stop e.event ≡ false → has_stop (h ++ e ∷ []) ≡ false
 going_more h e going ok = stop_snoc h e ∙ rw (going, ok) refl
@@ -47,12 +54,13 @@ pub record IsQuiet (e : Event) : Type 0 where
   pub bytes : bytes_in e ≡ 0
   pub going : is_stop e ≡ false
   pub revises : is_revise e ≡ false
+  pub declared : IsDeclared e
 
 pub quiet_exclude : (path : List ℕ) → IsQuiet (Exclude path)
-quiet_exclude path = record { design = λ d. refl; tests = λ point. refl; bytes = refl; going = refl; revises = refl }
+quiet_exclude path = record { design = λ d. refl; tests = λ point. refl; bytes = refl; going = refl; revises = refl; declared = tt }
 
 pub quiet_include : (path : List ℕ) → IsQuiet (Include path)
-quiet_include path = record { design = λ d. refl; tests = λ point. refl; bytes = refl; going = refl; revises = refl }
+quiet_include path = record { design = λ d. refl; tests = λ point. refl; bytes = refl; going = refl; revises = refl; declared = tt }
 
 module _ (opening : Design) (h : List Entry) (e : Entry) (q : IsQuiet e.event) where
   pub same_design : design_of opening (h ++ e ∷ []) ≡ design_of opening h
@@ -98,6 +106,7 @@ module _ (opening : Design) (h : List Entry) (e : Entry) (q : IsQuiet e.event) w
       let within = quiet_within k.within room in
       record {
         legal = legal_more opening h e k.legal k.going fit within;
+        declared = declared_more h e k.declared q.declared;
         going = going_more h e k.going q.going;
         design_is = k.design_is ∙ sym same_design;
         nodes_are = k.nodes_are ∙ ap nodes_of (sym same_design);

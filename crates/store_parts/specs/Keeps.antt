@@ -13,6 +13,7 @@ use Rattle.cov_history.specs.declared.entry.Event.{Event}
 use Rattle.cov_history.specs.Tallies.{tally}
 use Rattle.cov_history.specs.History.{Test, design_of, tests_of, count_of, out_of, amount, most, is_legal, has_stop, is_revise}
 use Rattle.cov_history.specs.Answers.{stands_since}
+use Rattle.store_core.specs.Histories.{AreDeclared}
 
 -- the path finds this node
 abbrev pub finds : List Node → (n : ℕ) → (path : List ℕ) → Bool
@@ -44,6 +45,7 @@ rows_of d t = rows_from 0 (tally d t.content)
 
 pub record Keeps (opening design : Design) (nodes : List Node) (h : List Entry) (tests : List (List ℕ × Test)) (tallies : List (List (ℕ × ℕ))) (counts : List ℕ) (out : List (Option (List ℕ))) (outs bytes entries revised : ℕ) : Type 0 where
   pub legal : is_legal opening h ≡ true
+  pub declared : AreDeclared h
   pub going : has_stop h ≡ false
   pub design_is : design ≡ design_of opening h
   pub nodes_are : nodes ≡ nodes_of (design_of opening h)

@@ -2,7 +2,6 @@
 use Rattle.std.specs.Prelude.{◌≡◌, ℕ, List, ◌++◌, ◌∷◌, [], filter, None, Option, false, ⊤}
 use Rattle.design_data.specs.declared.design.Design.{Design}
 use Rattle.ucis_model.specs.Nodes.{nodes_of}
-use Rattle.ucis_model.specs.declared.node.Node.{Node}
 use Rattle.cov_history.specs.declared.entry.Entry.{Entry}
 use Rattle.cov_history.specs.declared.entry.Event.TheVariants as event
 use Rattle.cov_history.specs.History.{out_of, is_found, is_test_or_revise}
@@ -15,10 +14,9 @@ use Rattle.cov_history.specs.Amounts.{Amounts, AreAmounts, first_passed}
 use Rattle.store_parts.specs.Keeps.{HasOut}
 use Rattle.store_parts.specs.Told.{not_revised}
 
--- these are the nodes of a design, and the paths that find them, of those that are out
-pub record IsRemade (h : List Entry) (d : Design) (nodes : List Node) (out : List (Option (List ℕ))) (outs : ℕ) : Type 0 where
-  pub nodes_are : nodes ≡ nodes_of d
-  pub outs_are : HasOut nodes (filter (is_found d) (out_of h)) out outs
+-- of the paths that are out, those that find a node of the design stand at that node
+abbrev pub IsRemade : List Entry → Design → (out : List (Option (List ℕ))) → (outs : ℕ) → Type 0
+IsRemade h d out outs = HasOut (nodes_of d) (filter (is_found d) (out_of h)) out outs
 
 -- nothing was admitted or revised since the basis, and these amounts afterwards pass no limit
 pub record MayRevise (opening : Design) (h : List Entry) (r : Redone) (after : Amounts) : Type 0 where

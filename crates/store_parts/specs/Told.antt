@@ -94,7 +94,7 @@ not_read queries.NoSuchPath = answer.NoSuchPath
 not_read queries.NoSuchTest = answer.NoSuchTest
 not_read queries.Memory = answer.Memory
 
--- what counts and illegal answer
+-- what counts and test_counts answer
 abbrev pub rows_read : Result (ℕ × List CountRow) QueryFault → Answer
 rows_read (Ok r) = answer.Rows r.0 r.1
 rows_read (Err f) = not_read f
@@ -104,15 +104,20 @@ abbrev pub cover_read : Result CoverRow QueryFault → Answer
 cover_read (Ok row) = answer.CoverageIs row
 cover_read (Err f) = not_read f
 
--- what tests answers
-abbrev pub tests_read : Result (ℕ × List HistoryNode) QueryFault → Answer
-tests_read (Ok r) = answer.TestRows r.0 r.1
-tests_read (Err f) = not_read f
+-- what illegal answers, which is refused for want of memory alone
+abbrev pub illegal_read : {M : Type 0} → Result (ℕ × List CountRow) M → Answer
+illegal_read (Ok r) = answer.Rows r.0 r.1
+illegal_read (Err m) = answer.Memory
 
--- what rank answers
-abbrev pub rank_read : Result (List Ranked) QueryFault → Answer
+-- what tests answers; so is this
+abbrev pub tests_read : {M : Type 0} → Result (ℕ × List HistoryNode) M → Answer
+tests_read (Ok r) = answer.TestRows r.0 r.1
+tests_read (Err m) = answer.Memory
+
+-- what rank answers; so is this
+abbrev pub rank_read : {M : Type 0} → Result (List Ranked) M → Answer
 rank_read (Ok rows) = answer.RankRows rows
-rank_read (Err f) = not_read f
+rank_read (Err m) = answer.Memory
 
 -- what name_of answers
 abbrev pub name_read : Result (List ℕ) QueryFault → Answer

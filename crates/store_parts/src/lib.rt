@@ -19,6 +19,6 @@ pub use kept::add_test;
 pub use remaking::{Ready, Remade, put_found, set_tallies};
 pub use room::put;
 pub use serving::{
-    of_admit, of_chunk, of_coverage, of_exclude, of_include, of_name, of_rank, of_revise, of_rows,
-    of_tests,
+    of_admit, of_chunk, of_coverage, of_exclude, of_illegal, of_include, of_name, of_rank,
+    of_revise, of_rows, of_tests,
 };

@@ -15,11 +15,9 @@ use std::sync::Arc;
 use store_sums::{Branches, Runs, put_at};
 use tally::Tally;
 
-/// What is worked out of a design, of its tests' counts and of what is out.
+/// What is worked out of a design's nodes, of its tests' counts and of what is out.
 #[derive(Drop)]
 pub struct Remade {
-    /// Its nodes.
-    pub branches: Branches,
     /// What is marked of its bins.
     pub runs: Runs,
     /// At each node, the path that is out.

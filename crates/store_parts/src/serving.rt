@@ -1,8 +1,9 @@
 //! What calls answer, as answers.
 ghost use Rattle.std.specs.Prelude.{◌≡◌};
-ghost use Rattle.store_parts.specs.Told.{admitted, excluded, included, revised, not_read, rows_read, cover_read, tests_read, rank_read, name_read, chunk_read};
+ghost use Rattle.store_parts.specs.Told.{admitted, excluded, included, revised, not_read, rows_read, illegal_read, cover_read, tests_read, rank_read, name_read, chunk_read};
 
 use crate::{AdmitFault, Admitted, ExcludeFault, IncludeFault, QueryFault, ReviseFault};
+use cov_base::Memory;
 use cov_tree::{List, Name};
 use sampler::Prepared;
 use store_core::Rebinned;
@@ -79,6 +80,16 @@ pub fn of_rows(given: Result<(u32, List<CountRow>), QueryFault>) -> Answer
     }
 }
 
+/// What a query for the illegal bins that were hit answers: how many there are, and rows of some of them.
+pub fn of_illegal(given: Result<(u32, List<CountRow>), Memory>) -> Answer
+    ensures { result ≡ illegal_read given }
+{
+    match given {
+        Ok((total, rows)) => Answer::Rows { total, rows },
+        Err(Memory) => Answer::Memory,
+    }
+}
+
 /// What a query for the coverage of a node answers.
 pub fn of_coverage(given: Result<CoverRow, QueryFault>) -> Answer
     ensures { result ≡ cover_read given }
@@ -90,22 +101,22 @@ pub fn of_coverage(given: Result<CoverRow, QueryFault>) -> Answer
 }
 
 /// What a query for tests answers: how many there are, and rows of some of them.
-pub fn of_tests(given: Result<(u32, List<HistoryNode>), QueryFault>) -> Answer
+pub fn of_tests(given: Result<(u32, List<HistoryNode>), Memory>) -> Answer
     ensures { result ≡ tests_read given }
 {
     match given {
         Ok((total, rows)) => Answer::TestRows { total, rows },
-        Err(fault) => of_fault(fault),
+        Err(Memory) => Answer::Memory,
     }
 }
 
 /// What a query for the ranking of the tests answers.
-pub fn of_rank(given: Result<List<Ranked>, QueryFault>) -> Answer
+pub fn of_rank(given: Result<List<Ranked>, Memory>) -> Answer
     ensures { result ≡ rank_read given }
 {
     match given {
         Ok(rows) => Answer::RankRows(rows),
-        Err(fault) => of_fault(fault),
+        Err(Memory) => Answer::Memory,
     }
 }
 

@@ -1,7 +1,7 @@
 use Rattle.std.proofs.Common.{refl, sym, ◌∙◌, append-nil, [], arith, Some}
 use Rattle.cov_session.proofs.Growing.{grown_then}
 use Rattle.turn_lock.specs.Seats.{seen}
-use Rattle.cov_server.specs.Legal.{seat_legal}
+use Rattle.cov_server.specs.Legal.{seat_history}
 use Rattle.cov_server.proofs.Rounds.{handed_more}
 use Rattle.cov_server.proofs.serving.serve_rounds.Goals as goal
 
@@ -15,8 +15,8 @@ loop-round-init g c = record {
   later = omega arith;
 }
 
-pub returns-in-Err-clause-legal : goal.returns-in-Err-clause-legal
-returns-in-Err-clause-legal g c = seat_legal g.C.Book.base g.C.Book.sound g.met.C.Core.lawful c.args.shared.now.lock (Some c.loop-round.seat) c.loop-round.invariant.seat.0
+pub returns-in-Err-clause-history : goal.returns-in-Err-clause-history
+returns-in-Err-clause-history g c = seat_history g.C.Book.base g.C.Book.sound g.met.C.Core.lawful c.args.shared.now.lock (Some c.loop-round.seat) c.loop-round.invariant.seat.0
 
 pub loop-round-preserved : goal.loop-round-preserved
 loop-round-preserved g c =
@@ -31,5 +31,5 @@ loop-round-preserved g c =
       later = omega (arith, i.later, c.in-Ok.ensures.cause.later);
     }
 
-pub returns-clause-legal : goal.returns-clause-legal
-returns-clause-legal g c = seat_legal g.C.Book.base g.C.Book.sound g.met.C.Core.lawful c.args.shared.now.lock (Some c.loop-round.seat) c.loop-round.invariant.seat.0
+pub returns-clause-history : goal.returns-clause-history
+returns-clause-history g c = seat_history g.C.Book.base g.C.Book.sound g.met.C.Core.lawful c.args.shared.now.lock (Some c.loop-round.seat) c.loop-round.invariant.seat.0

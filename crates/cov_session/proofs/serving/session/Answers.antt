@@ -34,7 +34,7 @@ pub fill-requires-clause-room : goal.fill-requires-clause-room
 fill-requires-clause-room g c = torn_short c.answer_all.new.inbox c.in-Ok-answer_all.ensures.stops.1
 
 pub returns-in-Err-clause-session : goal.returns-in-Err-clause-session
-returns-in-Err-clause-session g c = let s = rw (c.loop-talk.invariant.opening, c.loop-talk.invariant.caller) at c.in-Ok-answer_all.ensures.stops in rw c.in-Err.ensures.written (ends_read (g.L.Link.left c.fill.new.link) (record { empty = refl; place = refl }) (omega arith) c.loop-talk.invariant.ran s.0 s.1 c.in-Err.ensures.fills.1)
+returns-in-Err-clause-session g c = let s = rw (c.loop-talk.invariant.opening, c.loop-talk.invariant.caller) at c.in-Ok-answer_all.ensures.stops in rw c.in-Err.ensures.written (ends_read (g.L.Link.left c.fill.new.link) (record { empty = refl; place = refl }) (omega (arith, c.loop-talk.invariant.low, c.if-room-eq0.false)) c.loop-talk.invariant.ran s.0 s.1 c.in-Err.ensures.fills.1)
 
 pub returns-in-Err-clause-read_cause : goal.returns-in-Err-clause-read_cause
 returns-in-Err-clause-read_cause g c = λ e. rose_after _ _ _ (omega (arith, c.loop-talk.invariant.read, c.in-Ok-answer_all.ensures.same_faults)) c.in-Err.ensures.cause.failed

@@ -4,9 +4,19 @@ use Rattle.design_data.specs.declared.design.Design.{Design}
 use Rattle.cov_history.specs.declared.entry.Entry.{Entry}
 use Rattle.cov_history.specs.Turns.{PortTurn, Grown, ServesOrStops}
 use Rattle.store_core.specs.Asks.{asked}
+use Rattle.turn_lock.specs.History.{AtMostOneMore}
 use Rattle.turn_lock.specs.Seats.{seen, own, taken, home}
-use Rattle.cov_server.proofs.Ports.{served_later, grown_later, grown_by}
+use Rattle.cov_server.proofs.Ports.{serves_most, served_later, grown_later, grown_by}
 use Rattle.cov_server.proofs.turns.SharedPortPort.turn.Goals as goal
+
+pub give-requires-clause-entries : goal.give-requires-clause-entries
+give-requires-clause-entries g c =
+    let now = c.deref_mut.result.now in
+    let after = g.C.Book.entries c.serve-answered.new.self in
+    let held : g.C.Book.entries now ≡ taken c.take-turn.result.0 = ap g.C.Book.entries c.deref_mut.ensures.value ∙ sym c.take-turn.ensures.taken in
+    let most = serves_most g.C.Book.number g.met.C.Core.numbered (g.C.Book.base now) c.number-caller.result (g.C.Book.entries now) after (asked c.args.ask) c.serve-answered.result.answer _ _ c.serve-answered.ensures.served in
+    subst (λ (n : ℕ). AtMostOneMore g.C.Book.number n (taken c.take-turn.result.0) after) (c.number-caller.ensures ∙ sym c.take-turn.ensures.by.same_number)
+    (subst (λ (h : List Entry). AtMostOneMore g.C.Book.number c.number-caller.result h after) held most)
 
 pub returns-clause-grown : goal.returns-clause-grown
 returns-clause-grown g c =

@@ -3,7 +3,7 @@ use Rattle.cov_history.specs.Answers.{Serves}
 use Rattle.store_core.specs.declared.asks.Ask.{Ask}
 use Rattle.store_core.specs.Asks.{asked, revision_of}
 use Rattle.merge_store.specs.Stores.{opening_of, entries_of}
-use Rattle.store_parts.specs.Told.{admitted, excluded, included, revised, rows_read, cover_read, tests_read, rank_read, name_read, chunk_read}
+use Rattle.store_parts.specs.Told.{admitted, excluded, included, revised, rows_read, illegal_read, cover_read, tests_read, rank_read, name_read, chunk_read}
 use Rattle.store_parts.proofs.Served.{serves_hello, serves_counts, serves_coverage, serves_illegal, serves_tests, serves_test_counts, serves_rank, serves_name, serves_fetch, serves_admit, serves_exclude, serves_include, serves_revise}
 use Rattle.merge_store.proofs.store.Store.answer.Goals as goal
 
@@ -37,7 +37,7 @@ returns-in-Illegal-clause-served g c =
     let o = opening_of s in
     let h = entries_of s in
     let n = c.args.caller in
-    subst (λ (a : Ask). Serves o n h (asked a) c.of_rows-in-Illegal.result h) (sym c.in-Illegal.is) (serves_illegal o h n s.keeps.going c.in-Illegal.first c.of_rows-in-Illegal.result (rows_read c.illegal.result) c.of_rows-in-Illegal.ensures c.illegal.ensures)
+    subst (λ (a : Ask). Serves o n h (asked a) c.of_illegal.result h) (sym c.in-Illegal.is) (serves_illegal o h n s.keeps.going c.in-Illegal.first c.of_illegal.result (illegal_read c.illegal.result) c.of_illegal.ensures c.illegal.ensures)
 
 pub returns-in-Tests-clause-served : goal.returns-in-Tests-clause-served
 returns-in-Tests-clause-served g c =

@@ -14,8 +14,7 @@ amounts_revised-after-requires-clause-calm c =
 
 pub amounts_revised-after-requires-clause-outs : goal.amounts_revised-after-requires-clause-outs
 amounts_revised-after-requires-clause-outs c =
-    let h = entries_of c.args.self.now in
-    c.in-Ok.ensures.is.outs_are.count ∙ ap (λ (d : Design). length (filter (is_found d) (out_of h))) (c.deref.ensures ∙ c.design.ensures.design)
+    c.in-Ok.ensures.is.count
 
 pub returns-in-Some-clause-refused : goal.returns-in-Some-clause-refused
 returns-in-Some-clause-refused c caller =

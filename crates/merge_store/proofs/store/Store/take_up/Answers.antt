@@ -22,7 +22,6 @@ use Rattle.store_parts.specs.declared.held.HeldEvent.TheVariants as HeldEvent
 use Rattle.store_parts.specs.declared.held.Kept.{Kept}
 use Rattle.store_parts.specs.Words.{entry_of, test_of}
 use Rattle.merge_store.specs.Stores.{opening_of, entries_of}
-use Rattle.store_parts.specs.Remakes.{IsRemade}
 use Rattle.store_sums.specs.Runs.{HasMarks}
 use Rattle.store_parts.proofs.Excluding.{history_amount}
 use Rattle.store_sums.proofs.Ranges.{map_more}
@@ -38,7 +37,7 @@ overflow_add-ready c =
     let b = count_by-le-length (is_found d) (out_of h) in
     let most = s.keeps.within History in
     let all = history_amount (opening_of s) h s.keeps.going in
-    omega (arith, a, b, most, all, c.requires.remade.outs_are.count)
+    omega (arith, a, b, most, all, c.requires.remade.count)
 
 pub set_tallies-requires : goal.set_tallies-requires
 set_tallies-requires c =
@@ -65,15 +64,14 @@ invariant_of-self-2-clause-keeps c =
     let grown : map entry_of c.put.new.entries.items ≡ h ++ by caller (Revise (revision_of r)) ∷ [] = map_more entry_of s.entries.items c.put.new.entries.items held (by caller (Revise (revision_of r))) items is in
     let point : length c.as_slice.result.now ≡ length h + 1 = ap length c.as_slice.ensures.value ∙ sym (length-map c.put.new.entries.items entry_of) ∙ ap (λ (es : List Entry). length es) grown ∙ length-append h (by caller (Revise (revision_of r)) ∷ []) in
     let tallies = c.set_tallies.ensures.tallies ∙ c.into_parts-parts.ensures.tallies in
-    let remade : IsRemade h r.design (nodes_of r.design) (map path m.out.items) m.outs = subst (λ (ns : List Node). IsRemade h r.design ns (map path m.out.items) m.outs) c.requires.remade.nodes_are c.requires.remade in
-    let keeps = revise_keeps (opening_of s) h caller r s.keeps c.args.ready.after (nodes_of r.design) (map path m.out.items) m.outs c.requires.readied c.requires.may remade in
+    let keeps = revise_keeps (opening_of s) h caller r s.keeps c.args.ready.after (map path m.out.items) m.outs c.requires.readied c.requires.may c.requires.remade in
     rw (grown, c.set_tallies.ensures.tests, tallies, c.of_parts.ensures.design ∙ c.into_parts-parts.ensures.design, ap (λ (v : Vec ℕ Global). v.items) c.of_parts.ensures.counts ∙ c.into_parts-parts.ensures.counts, c.of_parts.ensures.out, point) keeps
 
 pub of_parts-requires-clause-nodes : goal.of_parts-requires-clause-nodes
-of_parts-requires-clause-nodes c = c.requires.remade.nodes_are ∙ ap (λ (d : Design). nodes_of d) (sym c.into_parts-parts.ensures.design)
+of_parts-requires-clause-nodes c = c.into_parts-parts.ensures.branches ∙ ap (λ (d : Design). nodes_of d) (sym c.into_parts-parts.ensures.design)
 
 pub of_parts-requires-clause-marked : goal.of_parts-requires-clause-marked
 of_parts-requires-clause-marked c =
     let m = c.args.ready.remade in
     let path : Option (Arc Name Global) → Option (List ℕ) = λ p. option_map (λ (a : Arc Name Global). arc_value a) p in
-    subst (λ (xs : List ℕ). HasMarks m.branches xs (map path m.out.items) (λ p. true) m.runs) (sym c.into_parts-parts.ensures.counts) c.requires.marked
+    subst (λ (ns : List Node). HasMarks ns c.into_parts-parts.result.counts.items (map path m.out.items) (λ p. true) m.runs) (sym c.into_parts-parts.ensures.branches) (subst (λ (xs : List ℕ). HasMarks (nodes_of c.args.rebinned.design) xs (map path m.out.items) (λ p. true) m.runs) (sym c.into_parts-parts.ensures.counts) c.requires.marked)
