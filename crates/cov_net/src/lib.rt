@@ -5,11 +5,12 @@
 #![tactic(auto)]
 
 mod again;
-mod disk;
+mod calls;
 mod shelf;
 mod sockets;
 mod streams;
 
+pub use calls::{AcceptCall, Disk, ReadCall, WriteCall};
 pub use shelf::FileShelf;
 pub use sockets::{TcpDoor, TcpLink};
 pub use streams::{StdSink, StdSource};

@@ -1,29 +1,26 @@
 //! Files of the system.
-ghost use Rattle.std.specs.Prelude.{◌≡◌, ◌≢◌, ◌+◌, ◌<◌, ◌≤◌, ℕ, List, Option, None, IfOk, IfErr, OnOk, length, ◌++◌, vec_len};
-ghost use Rattle.std.specs.IoError.{error_kind};
+ghost use Rattle.std.specs.Prelude.{◌≡◌, ◌+◌, ◌<◌, ◌≤◌, ℕ, List, Option, None, IfOk, IfErr, OnOk, length, ◌++◌, vec_len};
 ghost use Rattle.std.specs.Io.KnownBytes.{Consumes, IsAtEnd};
 ghost use Rattle.cov_base.specs.Amounts.{LoadsAtMost};
 ghost use Rattle.cov_base.specs.Loads.{Loads};
-ghost use Rattle.cov_net.specs.Sizes.{IsSize, IsReadRefusal, IsFileRefusal};
+ghost use Rattle.cov_net.specs.Sizes.{IsCauseOf, IsSize, IsReadRefusal, ReadsAll, IsLoaded};
 ghost use Rattle.cov_net.specs.Counted.{CountedLoad, IsUntoldRefusal};
 
-use crate::again::read_again;
-use crate::disk::Disk;
+use crate::again::{metadata_again, open_again, read_again};
+use crate::calls::{Disk, ReadCall};
 use cov_base::{Shelf, ShelfRefusal};
 use std::alloc::Global;
 use std::fs::Metadata;
 use std::io;
-use std::io::{ErrorKind, Read};
+use std::io::ErrorKind;
 use std::marker::Model;
-use std::rt::Files;
 
 /// The bytes that one read asks for.
 const PIECE: usize = 65_536;
 
 /// Why a file can't be had after such an error.
 fn refusal_of(error: &io::Error) -> ShelfRefusal
-    ensures memory { error_kind error.now ≡ ErrorKind.OutOfMemory → result ≡ ShelfRefusal.Memory }
-    ensures failed { error_kind error.now ≢ ErrorKind.OutOfMemory → result ≡ ShelfRefusal.Failed }
+    ensures cause { IsCauseOf error.now result }
 {
     if error.kind() == ErrorKind::OutOfMemory {
         ShelfRefusal::Memory
@@ -48,7 +45,7 @@ fn size_of(metadata: &Metadata, most: u64) -> Result<u64, ShelfRefusal>
 }
 
 /// Appends what one read brings, and says how many bytes that was.
-fn append_piece<F: Read>(
+fn append_piece<F: ReadCall>(
     file: &mut F,
     room: &mut [u8],
     bytes: &mut Vec<u8>,
@@ -58,11 +55,18 @@ fn append_piece<F: Read>(
     requires most { vec_len bytes.old ≤ most }
     ensures room { length room.new ≡ length room.old }
     ensures bound { IfOk result (λ n. vec_len bytes.new ≤ most) }
-    ensures refusal { IfErr result (IsReadRefusal (F.remaining file.old) (F.remaining file.new) (vec_len bytes.old) most (length room.old)) }
-    ensures bytes { IfOk result (λ n. (piece : List ℕ) × (length piece ≡ n) × (bytes.new.items ≡ bytes.old.items ++ piece) × Consumes (F.remaining file.old) (F.remaining file.new) piece) }
+    ensures longer { IfOk result (λ n. vec_len bytes.new ≡ vec_len bytes.old + n) }
+    ensures refusal { IfErr result (IsReadRefusal F.remaining F.reads file.old file.new
+        (vec_len bytes.old) most (length room.old)) }
+    ensures bytes { IfOk result (λ n. (piece : List ℕ) × (length piece ≡ n)
+        × (bytes.new.items ≡ bytes.old.items ++ piece)
+        × Consumes (F.remaining file.old) (F.remaining file.new) piece) }
     ensures end { IfOk result (λ n. n ≡ 0 → IsAtEnd (F.remaining file.new)) }
 {
-    let count = read_again(file, room).map_err(|error| refusal_of(&error))?;
+    let count = match read_again(file, room) {
+        Ok(count) => count,
+        Err(error) => return Err(refusal_of(&error)),
+    };
     let seen = bytes.len() as u64 + count as u64;
     if seen > most {
         return Err(ShelfRefusal::TooLong { size: seen });
@@ -74,28 +78,29 @@ fn append_piece<F: Read>(
 }
 
 /// All bytes that the file has left, `size` of them as the system says. No more than `most` bytes are kept.
-pub(crate) fn read_whole<F: Read>(
+pub(crate) fn read_whole<F: ReadCall>(
     file: &mut F,
     alloc: Global,
     size: u64,
     most: u64,
 ) -> Result<Vec<u8>, ShelfRefusal>
     ensures bound { LoadsAtMost result most }
-    ensures refusal { IfErr result (IsReadRefusal (F.remaining file.old) (F.remaining file.new) 0 most PIECE) }
-    ensures bytes { IfOk result (λ bytes. Consumes (F.remaining file.old) (F.remaining file.new) bytes.items) }
-    ensures end { OnOk result (IsAtEnd (F.remaining file.new)) }
+    ensures refusal { IfErr result
+        (IsReadRefusal F.remaining F.reads file.old file.new 0 most PIECE) }
+    ensures bytes { IfOk result (λ bytes. ReadsAll F.remaining F.reads file.old bytes.items) }
 {
     let capacity = size.min(most) as usize;
     let mut bytes = Vec::with_capacity(alloc, capacity).map_err(|_| ShelfRefusal::Memory)?;
     let mut room = Vec::new(alloc);
     room.resize(PIECE, 0u8).map_err(|_| ShelfRefusal::Memory)?;
-    for _ in 0..u64::MAX {
+    while bytes.len() as u64 <= most {
         match append_piece(file, room.as_mut_slice(), &mut bytes, most) {
             Ok(count) if count == 0 => return Ok(bytes),
             Ok(_) => {}
             Err(cause) => return Err(cause),
         }
     }
+    // no more bytes are kept
     Err(ShelfRefusal::Failed)
 }
 
@@ -107,13 +112,13 @@ fn read_file<D: Disk>(
     most: u64,
 ) -> Result<Vec<u8>, ShelfRefusal>
     ensures bound { LoadsAtMost result most }
-    ensures refusal { IfErr result (IsFileRefusal (D.opens disk.now name.now) D.tells most PIECE) }
+    ensures loaded { IsLoaded (D.opens name.now) D.tells D.Opened.remaining D.Opened.reads most PIECE result }
 {
-    let mut file = match disk.open(name) {
+    let mut file = match open_again(disk, name) {
         Ok(file) => file,
         Err(error) => return Err(refusal_of(&error)),
     };
-    let metadata = match disk.metadata_of(&file) {
+    let metadata = match metadata_again(disk, &file) {
         Ok(metadata) => metadata,
         Err(error) => return Err(refusal_of(&error)),
     };
@@ -145,7 +150,10 @@ impl<'a, R> FileShelf<'a, R> {
     }
 }
 
-impl<R: Files> Shelf for FileShelf<'_, R> {
+impl<D: Disk> Shelf for FileShelf<'_, D>
+where
+    D::Opened: ReadCall,
+{
     ghost files = { λ s. None };
 
     ghost faults = { λ s. s };
@@ -156,7 +164,7 @@ impl<R: Files> Shelf for FileShelf<'_, R> {
         ensures bound { LoadsAtMost result most }
         ensures loads { Loads None self.old self.new name.now most result }
         ensures count { CountedLoad self.old self.new result }
-        ensures refusal { IfErr result (λ cause. IsUntoldRefusal most cause) }
+        ensures loaded { IsLoaded (D.opens name.now) D.tells D.Opened.remaining D.Opened.reads most PIECE result }
     {
         let answer = read_file(self.rt, alloc, name, most);
         match answer {

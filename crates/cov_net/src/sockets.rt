@@ -1,20 +1,19 @@
 //! Connections of a network, or any other streams that go both ways, and where they come from.
-ghost use Rattle.std.specs.Prelude.{◌≡◌, ◌≢◌, ◌<◌, None, IfOk, IfErr, length};
+ghost use Rattle.std.specs.Prelude.{◌≡◌, ◌<◌, None, IfOk, length};
 ghost use Rattle.std.specs.Io.{ReadsAtMost};
 ghost use Rattle.std.specs.Io.KnownBytes.{ReadConsumes, WriteAppends};
-ghost use Rattle.std.specs.IoError.{error_kind};
 ghost use Rattle.cov_base.specs.Amounts.{WritesSome};
 ghost use Rattle.cov_base.specs.Causes.{HasCause};
 ghost use Rattle.cov_base.specs.Plan.{one_more_at_ok};
 ghost use Rattle.cov_base.specs.Told.{Reads, Writes};
+ghost use Rattle.cov_net.specs.Calls.{AcceptsBy, ReadsBy, WritesBy};
 ghost use Rattle.cov_net.specs.Counted.{Counted};
 
-use crate::again::{read_again, write_again};
+use crate::again::{accept_told, read_told, write_told};
+use crate::calls::{AcceptCall, ReadCall, WriteCall};
 use cov_base::{Door, Failed, Link};
-use std::io;
-use std::io::{ErrorKind, Read, Write};
 use std::marker::Model;
-use std::net::{OpenListener, OpenStream};
+use std::net::OpenStream;
 
 /// A connection as a link. An interrupted call is made again, and a write that takes no byte is a failure.
 #[derive(Drop)]
@@ -49,7 +48,7 @@ impl<S> TcpLink<S> {
     }
 }
 
-impl<S: Read + Write> Link for TcpLink<S> {
+impl<S: ReadCall + WriteCall> Link for TcpLink<S> {
     ghost left = { λ l. None };
 
     ghost written = { λ l. None };
@@ -67,12 +66,14 @@ impl<S: Read + Write> Link for TcpLink<S> {
         ensures same_faults { self.new.write_faults ≡ self.old.write_faults }
         ensures inner { ReadConsumes (S.remaining self.old.inner) (S.remaining self.new.inner)
             result into.new }
+        ensures answer { ReadsBy S.reads (self.old.inner, into.old) result
+            (self.new.inner, into.new) }
     {
-        match read_again(&mut self.inner, into) {
+        match read_told(&mut self.inner, into) {
             Ok(count) => Ok(count),
-            Err(_) => {
+            Err(failed) => {
                 self.read_faults = self.read_faults.saturating_add(1);
-                Err(Failed)
+                Err(failed)
             }
         }
     }
@@ -86,32 +87,16 @@ impl<S: Read + Write> Link for TcpLink<S> {
         ensures same_faults { self.new.read_faults ≡ self.old.read_faults }
         ensures inner { WriteAppends (S.contents self.old.inner) (S.contents self.new.inner)
             result bytes.now }
+        ensures answer { WritesBy (S.writes bytes.now) self.old.inner result self.new.inner }
     {
-        match write_again(&mut self.inner, bytes) {
-            Ok(count) if count > 0 => Ok(count),
-            _ => {
+        match write_told(&mut self.inner, bytes) {
+            Ok(count) => Ok(count),
+            Err(failed) => {
                 self.write_faults = self.write_faults.saturating_add(1);
-                Err(Failed)
+                Err(failed)
             }
         }
     }
-}
-
-/// The next connection. An interrupted call is made again, and so is one whose connection was given up before it was
-/// taken.
-fn accept_again<L: OpenListener>(listener: &L) -> io::Result<L::Stream>
-    ensures interrupted { IfErr result (λ e. error_kind e ≢ ErrorKind.Interrupted) }
-    ensures given_up { IfErr result (λ e. error_kind e ≢ ErrorKind.ConnectionAborted) }
-{
-    for _ in 0..u64::MAX {
-        match listener.accept() {
-            Ok((stream, _)) => return Ok(stream),
-            Err(error) if error.kind() == ErrorKind::Interrupted => {}
-            Err(error) if error.kind() == ErrorKind::ConnectionAborted => {}
-            Err(error) => return Err(error),
-        }
-    }
-    Err(io::Error::from(ErrorKind::TimedOut))
 }
 
 /// A listener as a door. Contracts see how many links it has handed out, and how often it has failed.
@@ -145,8 +130,8 @@ impl<'a, L> TcpDoor<'a, L> {
 
 impl<L> Door for TcpDoor<'_, L>
 where
-    L: OpenListener,
-    L::Stream: Read + Write + OpenStream,
+    L: AcceptCall,
+    L::Stream: ReadCall + WriteCall + OpenStream,
 {
     type Wire = TcpLink<L::Stream>;
 
@@ -160,17 +145,18 @@ where
         ensures count { Counted self.old.faults self.new.faults result }
         ensures read_faults { IfOk result (λ link. link.read_faults ≡ 0) }
         ensures write_faults { IfOk result (λ link. link.write_faults ≡ 0) }
+        ensures answer { AcceptsBy L.accepts (λ link. link.inner) result }
     {
-        match accept_again(self.listener) {
+        match accept_told(self.listener) {
             Ok(stream) => {
                 // replies are written whole, so none has to wait for more bytes; where this is refused they come later
                 let _ = stream.set_nodelay(true);
                 self.handed = self.handed.saturating_add(1);
                 Ok(TcpLink::new(stream))
             }
-            Err(_) => {
+            Err(failed) => {
                 self.faults = self.faults.saturating_add(1);
-                Err(Failed)
+                Err(failed)
             }
         }
     }

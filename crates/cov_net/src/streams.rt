@@ -5,11 +5,12 @@ ghost use Rattle.std.specs.Io.KnownBytes.{ReadConsumes, WriteAppends};
 ghost use Rattle.cov_base.specs.Amounts.{WritesSome};
 ghost use Rattle.cov_base.specs.Causes.{HasCause};
 ghost use Rattle.cov_base.specs.Told.{Reads, Writes};
+ghost use Rattle.cov_net.specs.Calls.{ReadsBy, WritesBy};
 ghost use Rattle.cov_net.specs.Counted.{Counted};
 
-use crate::again::{read_again, write_again};
+use crate::again::{read_told, write_told};
+use crate::calls::{ReadCall, WriteCall};
 use cov_base::{Failed, Sink, Source};
-use std::io::{Read, Write};
 use std::marker::Model;
 
 /// A reader as a source. An interrupted read is made again.
@@ -39,7 +40,7 @@ impl<R> StdSource<R> {
     }
 }
 
-impl<R: Read> Source for StdSource<R> {
+impl<R: ReadCall> Source for StdSource<R> {
     ghost left = { λ s. None };
 
     ghost faults = { λ s. s.faults };
@@ -52,12 +53,14 @@ impl<R: Read> Source for StdSource<R> {
         ensures count { Counted self.old.faults self.new.faults result }
         ensures inner { ReadConsumes (R.remaining self.old.inner) (R.remaining self.new.inner)
             result into.new }
+        ensures answer { ReadsBy R.reads (self.old.inner, into.old) result
+            (self.new.inner, into.new) }
     {
-        match read_again(&mut self.inner, into) {
+        match read_told(&mut self.inner, into) {
             Ok(count) => Ok(count),
-            Err(_) => {
+            Err(failed) => {
                 self.faults = self.faults.saturating_add(1);
-                Err(Failed)
+                Err(failed)
             }
         }
     }
@@ -90,7 +93,7 @@ impl<W> StdSink<W> {
     }
 }
 
-impl<W: Write> Sink for StdSink<W> {
+impl<W: WriteCall> Sink for StdSink<W> {
     ghost written = { λ s. None };
 
     ghost faults = { λ s. s.faults };
@@ -103,12 +106,13 @@ impl<W: Write> Sink for StdSink<W> {
         ensures count { Counted self.old.faults self.new.faults result }
         ensures inner { WriteAppends (W.contents self.old.inner) (W.contents self.new.inner)
             result bytes.now }
+        ensures answer { WritesBy (W.writes bytes.now) self.old.inner result self.new.inner }
     {
-        match write_again(&mut self.inner, bytes) {
-            Ok(count) if count > 0 => Ok(count),
-            _ => {
+        match write_told(&mut self.inner, bytes) {
+            Ok(count) => Ok(count),
+            Err(failed) => {
                 self.faults = self.faults.saturating_add(1);
-                Err(Failed)
+                Err(failed)
             }
         }
     }

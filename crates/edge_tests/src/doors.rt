@@ -74,3 +74,24 @@ fn doors_pass_over_what_was_given_up(rt: HostRuntime) -> Result<(), Fail> {
     expect_text(&rt, &mut near);
     Ok(())
 }
+
+/// A listener that can't accept.
+#[derive(Drop)]
+struct Broken;
+
+impl OpenListener for Broken {
+    type Stream = TcpStream;
+
+    fn accept(&self) -> io::Result<(TcpStream, SocketAddr)> {
+        Err(Error::from(ErrorKind::InvalidInput))
+    }
+}
+
+#[test]
+fn doors_fail_where_the_listener_does(rt: HostRuntime) -> Result<(), Fail> {
+    let broken = Broken;
+    let mut door = TcpDoor::new(&broken);
+    let entered = enter(&mut door);
+    assert!(rt; entered.is_err());
+    Ok(())
+}
