@@ -4,3 +4,4 @@ mod GoingOn
 mod OneSession
 mod OneCut
 mod OneOutput
+mod Fitting

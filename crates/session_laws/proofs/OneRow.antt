@@ -17,7 +17,8 @@ use Rattle.upload_stage.specs.declared.fault.StageFault.{StageFault}
 use Rattle.upload_stage.specs.Uploads.{Upload, finish_fault, finished, bytes_of}
 use Rattle.cov_proto.specs.Request.{Request}
 use Rattle.cov_proto.specs.Request.TheVariants as request
-use Rattle.cov_session.specs.Contents.{Content, NoRecord, OtherShape, Fitting, Holds, IsContent, Text, LongText, NoDesign, OtherTables, Revising, Declaring, IsTextContent, tables_apart}
+use Rattle.cov_session.specs.Histories.{Declaring}
+use Rattle.cov_session.specs.Contents.{Content, NoRecord, OtherShape, Fitting, Holds, IsContent, Text, LongText, NoDesign, OtherTables, Revising, IsTextContent, tables_apart}
 use Rattle.cov_session.specs.Table.{Row, said_to, said_to_text, IsCommitRow, IsReviseRow, IsRow}
 
 -- ---- records

@@ -4,6 +4,7 @@
 #![tactic(auto)]
 
 ghost use Rattle.session_laws.specs.Laws.{AloneIsOne, AloneIsNeverLate};
+ghost use Rattle.session_laws.specs.Fitting.{AnswersHaveFrames};
 ghost use Rattle.session_laws.specs.Outputs.{OneOutput};
 
 /// The opening design, the history and the bodies decide the replies and the entries of a caller who is alone, where no
@@ -21,4 +22,10 @@ pub fn alone_is_never_late()
 /// these bytes are cut by reads, where the session came to an orderly end and no reply is Memory.
 pub fn one_output()
     ensures { OneOutput }
+{}
+
+/// Each answer at a legal history has a spelling that a frame can hold, where the paths of the design's nodes have one: so
+/// Memory is said in the place of no other answer.
+pub fn answers_have_frames()
+    ensures { AnswersHaveFrames }
 {}

@@ -1,5 +1,4 @@
 pub mod Growing
-pub mod Writing
 pub mod Wishing
 pub mod Rowing
 pub mod Saying

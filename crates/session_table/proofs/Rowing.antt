@@ -15,7 +15,8 @@ use Rattle.cov_proto.specs.declared.replies.Reply.{Reply}
 use Rattle.store_core.specs.declared.asks.Ask.{Ask as Call}
 use Rattle.store_core.specs.Asks.{asked, Meets}
 use Rattle.session_table.specs.Serves.{Place, Lacks, BySaid}
-use Rattle.session_table.specs.Says.{Rowed, IsWritable, IsKept, is_long}
+use Rattle.answer_frames.specs.Frames.{IsWritable, HasNoFrame, IsKept, is_long}
+use Rattle.session_table.specs.Says.{Rowed}
 use Rattle.session_table.proofs.Growing.{grown_then, grown_long}
 use Rattle.session_table.proofs.Wishing.{port_turned, since_high, long_makes_none, stopped_is_short, long_wants}
 
@@ -56,7 +57,7 @@ turn_by opening caller seen after from k stage may given kept added p reply m f 
     inr (record {
       stage = stage;
       may_be = wants w.may;
-      body = is ∙ ap body.Store (⊎_elim (λ x. x ∙ w.answer) (λ (x : (kept ≡ answer.Memory) × (is_long given ≡ true)). x.0) same);
+      body = is ∙ ap body.Store (⊎_elim (λ x. x ∙ w.answer) (λ (x : (kept ≡ answer.Memory) × (is_long given ≡ true) × HasNoFrame given). x.0) same);
       low = omega (arith, w.low, point);
       high = omega (arith, w.high, point);
       goes = ap (λ n. record { point = n; stage = stage }) (sym point);

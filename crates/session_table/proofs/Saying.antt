@@ -16,7 +16,8 @@ use Rattle.cov_proto.specs.Requests.{request_read, has_text, WantsMemory}
 use Rattle.session_table.specs.declared.bodies.Said.{Said}
 use Rattle.session_table.specs.Table.{Row, IsRow, lost, is_bye_request}
 use Rattle.session_table.specs.Serves.{Place, BySaid, Answered, Step}
-use Rattle.session_table.specs.Says.{Rowed, Local, Replies, Says, IsWritable}
+use Rattle.answer_frames.specs.Frames.{IsWritable}
+use Rattle.session_table.specs.Says.{Rowed, Local, Replies, Says}
 use Rattle.session_table.proofs.Growing.{grown_refl}
 
 pub rowed_replies : (opening : Design) (caller : ℕ) (seen : List Entry) (own : List (ℕ × Entry)) (after : List Entry) (own_after : List (ℕ × Entry)) (from : Place) (q : Result Request ℕ) (row : Row) (reply : Reply) (to : Place)

@@ -17,7 +17,8 @@ use Rattle.cov_proto.specs.declared.replies.Reply.{Reply}
 use Rattle.session_table.specs.Contents.{Content, Fitting, IsContent, Text, Revising, IsTextContent}
 use Rattle.session_table.specs.Table.{IsRow, IsCommitRow, IsReviseRow, lost, unless, stage_refusal, said_to, said_to_text}
 use Rattle.session_table.specs.Serves.{Place}
-use Rattle.session_table.specs.Says.{Rowed, Replies, IsWritable, FindsRecord, FindsText}
+use Rattle.answer_frames.specs.Frames.{IsWritable}
+use Rattle.session_table.specs.Says.{Rowed, Replies, FindsRecord, FindsText}
 use Rattle.session_table.proofs.Saying.{rowed_replies, told_replies, lacks_replies}
 
 -- said of a list and a design by other names

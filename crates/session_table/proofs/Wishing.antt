@@ -14,7 +14,7 @@ use Rattle.cov_history.specs.Turns.{wish_of, ask_of, since_of, made_by, Answers,
 use Rattle.store_core.specs.declared.asks.Ask.{Ask as Call}
 use Rattle.store_core.specs.declared.asks.Ask.TheVariants as call
 use Rattle.store_core.specs.Asks.{asked, Meets}
-use Rattle.session_table.specs.Says.{is_long}
+use Rattle.answer_frames.specs.Frames.{is_long}
 
 pub asked_again : (a : Ask) (at : ℕ) → ask_of (since_of a at) (wish_of a) ≡ a
 asked_again (ask.Admit since r) at = refl

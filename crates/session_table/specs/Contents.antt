@@ -9,9 +9,10 @@ use Rattle.record_codec.specs.Spelling.{fields_of}
 use Rattle.record_codec.specs.Reading.{HasFault, reading}
 use Rattle.sampler.specs.Shape.{Fits, IsWrongAt}
 use Rattle.cov_compile.specs.declared.fault.CompileFault.{CompileFault}
-use Rattle.cov_compile.specs.Compiling.{IsDesignFault, Compiles}
+use Rattle.cov_compile.specs.Compiling.{IsDesignFault}
 use Rattle.cov_history.specs.declared.entry.Revision.{Revision}
 use Rattle.cov_history.specs.Tables.{same_signal, same_instance}
+use Rattle.store_core.specs.Histories.{Declaring}
 
 -- ---- the tables of two designs
 
@@ -59,11 +60,6 @@ pub data Text : Type 0 where
   NoDesign : CompileFault → Text
   OtherTables : ℕ → Text
   Revising : Revision → Text
-
--- a text of at most 1,048,576 bytes declares the design
-pub record Declaring (text : List ℕ) (d : Design) : Type 0 where
-  pub short : length text ≤ longest_design
-  pub design : Compiles text (Ok d)
 
 abbrev pub IsTextContent : (opening : Design) → List ℕ → Text → Type 0
 IsTextContent opening text LongText = longest_design < length text

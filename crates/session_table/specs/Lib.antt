@@ -3,5 +3,6 @@ pub mod Table
 pub mod Serves
 pub mod Says
 pub mod Alone
-pub mod Writable
+pub use Rattle.answer_frames.specs.Frames
 pub use Rattle.cov_compile.specs.Faults
+pub use Rattle.store_core.specs.Histories

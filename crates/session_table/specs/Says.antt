@@ -1,9 +1,8 @@
 -- What one body leads to, over a history that grows.
-use Rattle.std.specs.Prelude.{◌≡◌, ◌⊎◌, ℕ, ◌+◌, ◌-◌, ◌≤◌, List, ◌++◌, length, Option, Some, Result, Ok, Err, Bool, true, false}
+use Rattle.std.specs.Prelude.{◌≡◌, ◌⊎◌, ℕ, ◌≤◌, List, ◌++◌, length, Option, Some, Result, Ok, Err}
 use Rattle.std.proofs.Common.{inl}
 use Rattle.design_data.specs.declared.design.Design.{Design}
 use Rattle.record_codec.specs.declared.record.Record.{Record}
-use Rattle.ucis_model.specs.declared.answers.Answer.{Answer}
 use Rattle.ucis_model.specs.declared.answers.Answer.TheVariants as answer
 use Rattle.cov_compile.specs.declared.fault.CompileFault.{CompileFault}
 use Rattle.cov_compile.specs.Compiling.{is_memory}
@@ -15,9 +14,7 @@ use Rattle.cov_proto.specs.Request.{Request}
 use Rattle.cov_proto.specs.declared.replies.Body.{Body}
 use Rattle.cov_proto.specs.declared.replies.Body.TheVariants as body
 use Rattle.cov_proto.specs.declared.replies.Reply.{Reply}
-use Rattle.cov_proto.specs.Limits.{IsReplyBody}
-use Rattle.cov_proto.specs.Frames.{longest_body}
-use Rattle.cov_proto.specs.Spelled.{body_fields}
+use Rattle.answer_frames.specs.Frames.{IsWritable}
 use Rattle.session_table.specs.declared.talk.Talk.{Talk}
 use Rattle.session_table.specs.declared.bodies.Said.{Said}
 use Rattle.cov_compile.specs.Faults.{fault_word, fault_place}
@@ -27,10 +24,6 @@ use Rattle.session_table.specs.Serves.{Place, BySaid, Lacks, Answered, Step}
 
 abbrev pub place_of : Talk → Place
 place_of t = record { point = t.point; stage = t.stage }
-
--- the reply has a spelling, and a frame can hold it behind its tag, which is one byte, and its point, which is eight
-unfoldable pub IsWritable : Body → Type 0
-IsWritable b = IsReplyBody b × (length (body_fields b) ≤ longest_body - (1 + 8))
 
 -- ---- over a history that grows
 
@@ -70,19 +63,6 @@ pub record Says (opening : Design) (caller : ℕ) (seen : List Entry) (own : Lis
   pub bye : said.bye ≡ is_bye body
 
 -- ---- what is found in an upload
-
--- an answer with rows, a text or bytes
-abbrev pub is_long : Answer → Bool
-is_long (answer.Rows total rows) = true
-is_long (answer.TestRows total rows) = true
-is_long (answer.RankRows rows) = true
-is_long (answer.PathIs path) = true
-is_long (answer.Chunk len bytes) = true
-is_long other = false
-
--- the answer itself, or Memory where it is too long to be written
-abbrev pub IsKept : (given kept : Answer) → Type 0
-IsKept given kept = (kept ≡ given) ⊎ ((kept ≡ answer.Memory) × (is_long given ≡ true))
 
 -- how a reply says that a text declares no design, or Memory
 abbrev pub IsFaultBody : CompileFault → Body → Type 0

@@ -4,7 +4,8 @@ ghost use Rattle.std.specs.Arc.{arc_value};
 ghost use Rattle.cov_ground.specs.Limits.{longest_design, longest_record};
 ghost use Rattle.cov_compile.specs.Compiling.{is_memory, IsDesignFault};
 ghost use Rattle.record_codec.specs.Reading.{HasFault};
-ghost use Rattle.session_table.specs.Says.{FindsRecord, FindsText, IsWritable, Refuses, IsFaultBody};
+ghost use Rattle.answer_frames.specs.Frames.{IsWritable};
+ghost use Rattle.session_table.specs.Says.{FindsRecord, FindsText, Refuses, IsFaultBody};
 ghost use Rattle.session_table.specs.Contents.{IsContent, IsTextContent};
 ghost use Rattle.session_table.specs.Table.{said_to, said_to_text, record_refusal};
 
@@ -20,7 +21,7 @@ use std::alloc::Global;
 use ucis_model::Answer;
 
 // How a reply says why bytes are no record.
-#[tactic(auto, unfolding(crate::specs::Says::IsWritable, cov_proto::specs::Spelled::body_fields, cov_proto::specs::Spelled::answer_fields))]
+#[tactic(auto, unfolding(answer_frames::specs::Frames::IsWritable, cov_proto::specs::Spelled::body_fields, cov_proto::specs::Spelled::answer_fields))]
 fn no_record(fault: RecordFault) -> Body
     ensures body { result ≡ record_refusal fault }
     ensures writable { IsWritable result }
@@ -49,7 +50,7 @@ fn no_record(fault: RecordFault) -> Body
 }
 
 /// The record that the bytes encode, whose tables are the opening design's; or what is replied instead.
-#[tactic(auto, unfolding(crate::specs::Says::IsWritable, cov_proto::specs::Spelled::body_fields, cov_proto::specs::Spelled::answer_fields))]
+#[tactic(auto, unfolding(answer_frames::specs::Frames::IsWritable, cov_proto::specs::Spelled::body_fields, cov_proto::specs::Spelled::answer_fields))]
 pub(crate) fn record_of(alloc: Global, opening: &Design, bytes: &[u8]) -> Result<Record, Body>
     requires { length bytes.now ≤ longest_record }
     ensures { FindsRecord opening.now bytes.now result }
@@ -65,7 +66,7 @@ pub(crate) fn record_of(alloc: Global, opening: &Design, bytes: &[u8]) -> Result
 }
 
 // How a reply says why a text declares no design.
-#[tactic(auto, unfolding(crate::specs::Says::IsWritable, cov_proto::specs::Spelled::body_fields, cov_proto::specs::Spelled::answer_fields))]
+#[tactic(auto, unfolding(answer_frames::specs::Frames::IsWritable, cov_proto::specs::Spelled::body_fields, cov_proto::specs::Spelled::answer_fields))]
 fn no_design(alloc: Global, fault: CompileFault) -> Body
     ensures body { IsFaultBody fault result }
     ensures writable { IsWritable result }
@@ -98,7 +99,7 @@ fn short_text_of(alloc: Global, opening: &Design, text: &[u8]) -> Result<Compile
 }
 
 /// The text with the design that it declares, whose tables are the opening design's; or what is replied instead.
-#[tactic(auto, unfolding(crate::specs::Says::IsWritable, cov_proto::specs::Spelled::body_fields, cov_proto::specs::Spelled::answer_fields))]
+#[tactic(auto, unfolding(answer_frames::specs::Frames::IsWritable, cov_proto::specs::Spelled::body_fields, cov_proto::specs::Spelled::answer_fields))]
 pub(crate) fn text_of(alloc: Global, opening: &Design, text: &[u8]) -> Result<Compiled, Body>
     ensures { FindsText opening.now text.now result }
 {

@@ -10,7 +10,6 @@ mod port;
 mod tables;
 mod talk;
 mod turning;
-mod writable;
 
 pub use alone::Alone;
 pub use bodies::{Said, answer};

@@ -1,10 +1,10 @@
 //! Where the turns of a session go.
-ghost use Rattle.std.specs.Prelude.{◌≡◌, ℕ, List, length, true, IfOk};
+ghost use Rattle.std.specs.Prelude.{◌≡◌, ℕ, List, length, IfOk};
 ghost use Rattle.std.specs.Thread.{IsSync};
 ghost use Rattle.design_data.specs.declared.design.Design.{Design};
 ghost use Rattle.cov_history.specs.declared.entry.Entry.{Entry};
-ghost use Rattle.cov_history.specs.History.{is_legal};
 ghost use Rattle.cov_history.specs.Turns.{PortTurn, Grown};
+ghost use Rattle.store_core.specs.Histories.{IsHistory};
 ghost use Rattle.store_core.specs.Asks.{asked, Meets};
 ghost use Rattle.store_core.specs.Bases.{IsBasis};
 
@@ -56,6 +56,6 @@ pub trait Port {
     fn point(&self) -> u64
         ensures { result ≡ length (seen self.now) };
 
-    /// What was seen is legal.
-    ghost lawful: { (port : Self) → is_legal (opening port) (seen port) ≡ true };
+    /// What was seen is legal, and each revision in it is of a text that declares its design.
+    ghost lawful: { (port : Self) → IsHistory (opening port) (seen port) };
 }

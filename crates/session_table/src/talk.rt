@@ -2,7 +2,7 @@
 ghost use Rattle.std.specs.Prelude.{◌≡◌, None};
 ghost use Rattle.ucis_model.specs.declared.answers.Answer.TheVariants as answers;
 ghost use Rattle.cov_proto.specs.declared.replies.Body.TheVariants as bodies;
-ghost use Rattle.session_table.specs.Says.{IsWritable};
+ghost use Rattle.answer_frames.specs.Frames.{IsWritable};
 
 use cov_proto::{Body, Reply};
 use ucis_model::Answer;
@@ -40,7 +40,7 @@ impl Talk {
     }
 
     /// Memory, at the point of the last reply.
-    #[tactic(auto, unfolding(crate::specs::Says::IsWritable, cov_proto::specs::Spelled::body_fields, cov_proto::specs::Spelled::answer_fields))]
+    #[tactic(auto, unfolding(answer_frames::specs::Frames::IsWritable, cov_proto::specs::Spelled::body_fields, cov_proto::specs::Spelled::answer_fields))]
     pub(crate) fn lacks(&self) -> Reply
         ensures point { result.point ≡ self.now.point }
         ensures body { result.body ≡ bodies.Store answers.Memory }
@@ -49,7 +49,7 @@ impl Talk {
         self.says(Body::Store(Answer::Memory))
     }
 
-    #[tactic(auto, unfolding(crate::specs::Says::IsWritable, cov_proto::specs::Spelled::body_fields, cov_proto::specs::Spelled::answer_fields))]
+    #[tactic(auto, unfolding(answer_frames::specs::Frames::IsWritable, cov_proto::specs::Spelled::body_fields, cov_proto::specs::Spelled::answer_fields))]
     pub(crate) fn done(&self) -> Reply
         ensures point { result.point ≡ self.now.point }
         ensures body { result.body ≡ bodies.Done }
@@ -58,7 +58,7 @@ impl Talk {
         self.says(Body::Done)
     }
 
-    #[tactic(auto, unfolding(crate::specs::Says::IsWritable, cov_proto::specs::Spelled::body_fields, cov_proto::specs::Spelled::answer_fields))]
+    #[tactic(auto, unfolding(answer_frames::specs::Frames::IsWritable, cov_proto::specs::Spelled::body_fields, cov_proto::specs::Spelled::answer_fields))]
     pub(crate) fn farewell(&self) -> Reply
         ensures point { result.point ≡ self.now.point }
         ensures body { result.body ≡ bodies.Farewell }
@@ -67,7 +67,7 @@ impl Talk {
         self.says(Body::Farewell)
     }
 
-    #[tactic(auto, unfolding(crate::specs::Says::IsWritable, cov_proto::specs::Spelled::body_fields, cov_proto::specs::Spelled::answer_fields))]
+    #[tactic(auto, unfolding(answer_frames::specs::Frames::IsWritable, cov_proto::specs::Spelled::body_fields, cov_proto::specs::Spelled::answer_fields))]
     pub(crate) fn bad_message(&self, at: u32) -> Reply
         ensures point { result.point ≡ self.now.point }
         ensures body { result.body ≡ bodies.BadMessage at }

@@ -8,14 +8,15 @@ ghost use Rattle.cov_proto.specs.Request.TheVariants as request;
 ghost use Rattle.cov_history.specs.Answers.{may_want};
 ghost use Rattle.cov_history.specs.Turns.{wish_of, IsFrom, Admit, Revise};
 ghost use Rattle.store_core.specs.Asks.{asked, Meets};
+ghost use Rattle.answer_frames.specs.Frames.{IsWritable};
 ghost use Rattle.session_table.specs.Contents.{tables_apart};
 ghost use Rattle.session_table.specs.Table.{begin_row, piece_row, unless, stage_refusal};
-ghost use Rattle.session_table.specs.Says.{Rowed, Local, Replies, IsWritable, place_of};
+ghost use Rattle.session_table.specs.Says.{Rowed, Local, Replies, place_of};
 
 use crate::Port;
 use crate::finding::{record_of, text_of};
 use crate::talk::Talk;
-use crate::writable::kept;
+use answer_frames::kept;
 use cov_base::Gate;
 use cov_compile::Compiled;
 use cov_proto::{Body, Reply, Request};
@@ -29,7 +30,7 @@ use ucis_model::Answer;
 use upload_stage::StageFault;
 
 // How a reply says why the stage refuses.
-#[tactic(auto, unfolding(crate::specs::Says::IsWritable, cov_proto::specs::Spelled::body_fields, cov_proto::specs::Spelled::answer_fields))]
+#[tactic(auto, unfolding(answer_frames::specs::Frames::IsWritable, cov_proto::specs::Spelled::body_fields, cov_proto::specs::Spelled::answer_fields))]
 fn refused(fault: StageFault) -> Body
     ensures body { result ≡ stage_refusal fault }
     ensures writable { IsWritable result }

@@ -1,5 +1,5 @@
 use Rattle.session_table.proofs.Found.{no_record_refuses, shape_refuses}
-use Rattle.session_table.proofs.Writing.{shape_writable}
+use Rattle.answer_frames.proofs.Writing.{shape_writable}
 use Rattle.session_table.proofs.finding.record_of.Goals as goal
 
 pub returns-in-Err : goal.returns-in-Err

@@ -1,6 +1,6 @@
 use Rattle.std.proofs.Common.{rules}
 use Rattle.session_table.proofs.Found.{fault_refuses, tables_refuse}
-use Rattle.session_table.proofs.Writing.{tables_writable}
+use Rattle.answer_frames.proofs.Writing.{tables_writable}
 use Rattle.session_table.proofs.finding.short_text_of.Goals as goal
 
 pub returns-in-Err : goal.returns-in-Err

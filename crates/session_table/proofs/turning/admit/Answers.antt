@@ -12,7 +12,7 @@ pub returns-in_default-prepare-clause-rowed : goal.returns-in_default-prepare-cl
 returns-in_default-prepare-clause-rowed g c = λ from. lacks_after (g.P.Port.opening c.args.port.now) (g.P.Port.caller c.args.port.now) (g.P.Port.seen c.args.port.now) (g.P.Port.own c.args.port.now) (g.P.Port.seen c.basis.new.self) (g.P.Port.own c.basis.new.self) (record { point = c.args.talk.now.point; stage = from }) _ c.args.talk.now.stage c.lacks-in_default-prepare.result c.requires.within c.basis.ensures.grown c.basis.ensures.own c.lacks-in_default-prepare.ensures.point c.lacks-in_default-prepare.ensures.body c.lacks-in_default-prepare.ensures.writable
 
 pub turn-requires-clause-meets : goal.turn-requires-clause-meets
-turn-requires-clause-meets g c = let h = prepared_meets (g.P.Port.opening c.basis.new.self) (g.P.Port.opening c.args.port.now) (g.P.Port.seen c.basis.new.self) c.in-Ok.basis c.in-Ok-prepare.prepared c.args.rec (g.met.P.Port.lawful c.basis.new.self) c.basis.ensures.opening c.in-Ok.ensures.basis c.in-Ok-prepare.ensures.design c.in-Ok-prepare.ensures.of c.requires.fits in search rules
+turn-requires-clause-meets g c = let h = prepared_meets (g.P.Port.opening c.basis.new.self) (g.P.Port.opening c.args.port.now) (g.P.Port.seen c.basis.new.self) c.in-Ok.basis c.in-Ok-prepare.prepared c.args.rec (g.met.P.Port.lawful c.basis.new.self).legal c.basis.ensures.opening c.in-Ok.ensures.basis c.in-Ok-prepare.ensures.design c.in-Ok-prepare.ensures.of c.requires.fits in search rules
 
 pub turn-requires-clause-from : goal.turn-requires-clause-from
 turn-requires-clause-from g c = let h = from_basis c.basis.ensures.grown c.in-Ok.ensures.basis c.requires.within in search rules

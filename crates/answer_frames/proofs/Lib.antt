@@ -1,0 +1,2 @@
+mod Bools
+pub mod Writing
