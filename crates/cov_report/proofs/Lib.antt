@@ -1,4 +1,1 @@
-pub mod Inside
 pub mod Mapped
-pub mod Pages
-pub mod Ranked

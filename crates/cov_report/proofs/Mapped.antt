@@ -6,7 +6,8 @@ use Rattle.ucis_model.specs.declared.answers.HistoryNode.{HistoryNode}
 use Rattle.cov_history.specs.History.{Test}
 use Rattle.cov_history.specs.Answers.{test_row}
 use Rattle.cov_report.specs.Lines.{merge_line, test_line}
-use Rattle.cov_report.specs.Report.{line_of_test, tests_text, ids_of}
+use Rattle.cov_report.specs.Report.{line_of_test, tests_text}
+use Rattle.store_views.specs.Views.{ids_of}
 
 -- the lines of rows
 abbrev pub rows_text : List HistoryNode → List ℕ

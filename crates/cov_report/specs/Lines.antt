@@ -1,8 +1,9 @@
 -- The lines of a report. Each ends with a newline, and numbers are decimal.
-use Rattle.std.specs.Prelude.{ℕ, ◌==◌, List, [], ◌∷◌, ◌++◌, codes, decimal, Bool, if◌then◌else◌}
+use Rattle.std.specs.Prelude.{ℕ, List, [], ◌∷◌, ◌++◌, codes, decimal, Bool, if◌then◌else◌}
 use Rattle.ucis_model.specs.declared.answers.CoverRow.{CoverRow}
 use Rattle.ucis_model.specs.declared.node.NodeKind.{NodeKind}
 use Rattle.ucis_model.specs.declared.node.NodeKind.TheVariants.{Root, CoverGroup, CoverInstance, CoverPoint, Cross, Bin}
+use Rattle.store_views.specs.Words.{status_word}
 
 abbrev pub newline : List ℕ
 newline = 10 ∷ []
@@ -10,10 +11,6 @@ newline = 10 ∷ []
 -- how many tests are merged
 abbrev pub merge_line : (tests : ℕ) → List ℕ
 merge_line tests = codes "MERGE tests " ++ (decimal tests ++ newline)
-
--- how a test ended
-abbrev pub status_word : ℕ → List ℕ
-status_word status = if status == 0 then codes "OK" else if status == 1 then codes "WARNING" else if status == 2 then codes "ERROR" else codes "FATAL"
 
 -- TEST POINT STATUS ID
 abbrev pub test_line : (point status : ℕ) → (id : List ℕ) → List ℕ

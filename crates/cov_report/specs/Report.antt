@@ -1,9 +1,7 @@
 -- The report of a history: how many tests it has and which, the coverage of all, of each type, of its instances and of
 -- their items, the illegal bins that were hit, and the ranking of the tests.
-use Rattle.std.specs.Prelude.{ℕ, List, [], ◌++◌, codes, length, map, Bool, ◌&&◌, if◌then◌else◌, nat_lt, bytes_eq}
+use Rattle.std.specs.Prelude.{ℕ, List, [], ◌++◌, codes, length, Bool, ◌&&◌, if◌then◌else◌, bytes_eq}
 use Rattle.std.specs.List.{flat_map, list_any}
-use Rattle.tally.specs.Rows.{rows_from}
-use Rattle.tally.specs.declared.ranked.Ranked.{Ranked}
 use Rattle.rank_report.specs.Lines.{rank_text}
 use Rattle.design_data.specs.declared.design.Design.{Design}
 use Rattle.design_data.specs.declared.infos.InstInfo.{InstInfo}
@@ -11,12 +9,11 @@ use Rattle.ucis_model.specs.declared.node.Node.{Node}
 use Rattle.ucis_model.specs.declared.answers.CoverRow.{CoverRow}
 use Rattle.ucis_model.specs.Paths.{node_at, path_of}
 use Rattle.cov_history.specs.declared.entry.Entry.{Entry}
-use Rattle.cov_history.specs.Tallies.{tally}
-use Rattle.cov_history.specs.Nodes.{children, bins_under, kind_of_bin, is_illegal}
+use Rattle.cov_history.specs.Nodes.{children, bins_under}
 use Rattle.cov_history.specs.Coverage.{count_at}
-use Rattle.cov_history.specs.Ranking.{ranking}
 use Rattle.cov_history.specs.History.{Test, design_of, tests_of, count_of}
-use Rattle.cov_history.specs.Answers.{cover_row, nodes_at, excluded_at, wanted_at}
+use Rattle.cov_history.specs.Answers.{nodes_at}
+use Rattle.store_views.specs.Views.{rows_at, is_illegal_hit, ids_of, ranked_at}
 use Rattle.cov_report.specs.Lines.{merge_line, test_line, overall_line, cover_line, item_line, item_word, illegal_line}
 
 -- ---- tests
@@ -51,9 +48,6 @@ coverage_text instances nodes row = overall_line (row 0).millionths ++ flat_map 
 
 -- ---- illegal bins
 
-abbrev pub is_illegal_hit : List Node → (count : ℕ → ℕ) → ℕ → Bool
-is_illegal_hit nodes count n = is_illegal (kind_of_bin nodes n) && nat_lt 0 (count_at nodes count n)
-
 abbrev pub line_of_illegal : List Node → (count : ℕ → ℕ) → ℕ → List ℕ
 line_of_illegal nodes count n = if is_illegal_hit nodes count n then illegal_line (count_at nodes count n) (path_of nodes n) else []
 
@@ -62,16 +56,6 @@ abbrev pub illegal_text : List Node → (count : ℕ → ℕ) → List ℕ
 illegal_text nodes count = flat_map (line_of_illegal nodes count) (bins_under nodes 0)
 
 -- ---- the whole
-
-abbrev pub ids_of : List Test → List (List ℕ)
-ids_of tests = map (λ t. t.content.id) tests
-
--- the ranking of the tests by the live bins that they cover
-abbrev pub ranked_at : (opening : Design) → List Entry → List Ranked
-ranked_at opening h = ranking (map (λ t. rows_from 0 (tally (design_of opening h) t.content)) (tests_of h)) (wanted_at opening h)
-
-abbrev pub rows_at : (opening : Design) → List Entry → ℕ → CoverRow
-rows_at opening h = cover_row (nodes_at opening h) (count_of opening h) (excluded_at opening h)
 
 unfoldable pub report_text : (opening : Design) → List Entry → List ℕ
 report_text opening h =

@@ -1,18 +1,19 @@
 //! The lines of coverage.
-ghost use Rattle.std.specs.Prelude.{◌≡◌, ◌<◌, ◌++◌, [], All, codes, length, IfOk, OnOk, if◌then◌else◌};
+ghost use Rattle.std.specs.Prelude.{◌≡◌, ◌<◌, ◌++◌, [], codes, length, IfOk, OnOk, if◌then◌else◌};
 ghost use Rattle.ucis_model.specs.Paths.{node_at, path_of};
-ghost use Rattle.cov_history.specs.Nodes.{children as children_meant};
 ghost use Rattle.cov_history.specs.History.{design_of};
 ghost use Rattle.merge_store.specs.Now.{nodes_now};
 ghost use Rattle.merge_store.specs.Stores.{opening_of, entries_of};
 ghost use Rattle.cov_report.specs.Lines.{overall_line, goal_word as goal_meant, bins_and_goal, cover_line, item_line, item_word as word_meant};
-ghost use Rattle.cov_report.specs.Report.{is_printed as is_printed_meant, line_of_item, lines_of_instance, lines_of_type, coverage_text, rows_at};
+ghost use Rattle.cov_report.specs.Report.{is_printed as is_printed_meant, line_of_item, lines_of_instance, lines_of_type, coverage_text};
+ghost use Rattle.store_views.specs.Views.{rows_at};
 
 use appending::{append, append_number};
 use cov_base::Memory;
 use cov_tree::Name;
 use design_data::InstInfo;
 use merge_store::Store;
+use store_views::children;
 use ucis_model::{CoverRow, NodeKind};
 
 fn goal_word(met: bool) -> &'static str
@@ -67,14 +68,6 @@ fn append_item(text: &mut Vec<u8>, word: &str, path: &[u8], row: CoverRow) -> Re
     append_number(text, row.millionths as u64)?;
     append(text, b" ")?;
     append_bins(text, row)
-}
-
-/// The nodes right below one.
-fn children(store: &Store, node: u32) -> &[u32]
-    ensures children { result.now ≡ children_meant (nodes_now store.now) node }
-    ensures inside { All (λ n. n < length (nodes_now store.now)) result.now }
-{
-    store.children(node)
 }
 
 /// The line of an item.

@@ -1,29 +1,18 @@
 //! The lines of the ranking.
-ghost use Rattle.std.specs.Prelude.{◌≡◌, ◌<◌, ◌++◌, All, length, IfOk, OnOk};
+ghost use Rattle.std.specs.Prelude.{◌≡◌, ◌++◌, length, OnOk};
 ghost use Rattle.cov_history.specs.History.{tests_of};
 ghost use Rattle.merge_store.specs.Stores.{opening_of, entries_of};
 ghost use Rattle.rank_report.specs.Lines.{rank_text};
-ghost use Rattle.cov_report.specs.Report.{ranked_at};
+ghost use Rattle.store_views.specs.Views.{ranked_at};
 
 use appending::append;
 use cov_base::Memory;
-use cov_tree::{List, Name};
+use cov_tree::Name;
 use merge_store::Store;
 use rank_report::rank_lines;
 use std::alloc::Global;
 use std::thread::Threads;
-use tally::Ranked;
-
-/// The ranking of the tests.
-fn ranked<R: Threads + Sync>(rt: &R, store: &Store) -> Result<List<Ranked>, Memory>
-    ensures ranked { IfOk result (λ rows. rows ≡ ranked_at (opening_of store.now) (entries_of store.now)) }
-    ensures inside { IfOk result (λ rows. All (λ row. row.test < length (tests_of (entries_of store.now))) rows) }
-{
-    match store.rank(rt) {
-        Ok(rows) => Ok(rows),
-        Err(_) => Err(Memory),
-    }
-}
+use store_views::ranked;
 
 /// A line for each test of the ranking.
 pub(crate) fn append_ranking<R: Threads + Sync>(

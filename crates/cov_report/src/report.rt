@@ -2,17 +2,19 @@
 ghost use Rattle.std.specs.Prelude.{◌≡◌, ◌++◌, length, map, IfOk, OnOk};
 ghost use Rattle.cov_history.specs.History.{tests_of};
 ghost use Rattle.merge_store.specs.Stores.{opening_of, entries_of};
-ghost use Rattle.cov_report.specs.Report.{tests_text, ids_of as ids_meant, report_text};
+ghost use Rattle.cov_report.specs.Report.{tests_text, report_text};
+ghost use Rattle.store_views.specs.Views.{ids_of as ids_meant};
 
 use crate::coverage::append_coverage;
 use crate::illegal::append_all_illegal;
 use crate::ranking::append_ranking;
-use crate::tests::{all_tests, append_tests, ids_of};
+use crate::tests::{append_tests, ids_of};
 use cov_base::Memory;
 use cov_tree::Name;
 use merge_store::Store;
 use std::alloc::Global;
 use std::thread::Threads;
+use store_views::all_tests;
 
 /// The lines of the tests; their ids.
 fn append_all_tests(alloc: Global, text: &mut Vec<u8>, store: &Store) -> Result<Vec<Name>, Memory>

@@ -4,7 +4,8 @@ use Rattle.cov_history.specs.Nodes.{children}
 use Rattle.cov_history.specs.History.{design_of}
 use Rattle.merge_store.specs.Now.{nodes_now}
 use Rattle.merge_store.specs.Stores.{opening_of, entries_of}
-use Rattle.cov_report.specs.Report.{lines_of_type, rows_at}
+use Rattle.cov_report.specs.Report.{lines_of_type}
+use Rattle.store_views.specs.Views.{rows_at}
 use Rattle.cov_report.proofs.coverage.append_coverage.Given as goal
 
 abbrev pub invariant-loop-group : goal.invariant-loop-group

@@ -3,7 +3,8 @@ use Rattle.std.specs.List.{flat_map}
 use Rattle.cov_history.specs.Nodes.{children}
 use Rattle.merge_store.specs.Now.{nodes_now}
 use Rattle.merge_store.specs.Stores.{opening_of, entries_of}
-use Rattle.cov_report.specs.Report.{line_of_item, rows_at}
+use Rattle.cov_report.specs.Report.{line_of_item}
+use Rattle.store_views.specs.Views.{rows_at}
 use Rattle.cov_report.proofs.coverage.append_instance.Given as goal
 
 abbrev pub invariant-loop-item : goal.invariant-loop-item

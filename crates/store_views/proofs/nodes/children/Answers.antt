@@ -1,8 +1,8 @@
 use Rattle.std.proofs.Common.{ℕ, ◌<◌, List, length, sym, subst}
 use Rattle.std.specs.Prelude.{All}
 use Rattle.merge_store.specs.Now.{nodes_now}
-use Rattle.cov_report.proofs.Inside.{children_inside}
-use Rattle.cov_report.proofs.coverage.children.Goals as goal
+use Rattle.store_views.proofs.Inside.{children_inside}
+use Rattle.store_views.proofs.nodes.children.Goals as goal
 
 pub returns-clause-inside : goal.returns-clause-inside
 returns-clause-inside c = subst (λ (ns : List ℕ). All (λ n. n < length (nodes_now c.args.store.now)) ns) (sym c.children.ensures) (children_inside (nodes_now c.args.store.now) c.args.node)

@@ -15,7 +15,7 @@ use Rattle.cov_history.specs.History.{Test as Kept, design_of, tests_of}
 use Rattle.cov_history.specs.Answers.{wanted_at, rank_at}
 use Rattle.cov_history.proofs.Rankings.{ranking_is}
 use Rattle.merge_store.specs.Told.{Reads}
-use Rattle.cov_report.specs.Report.{ranked_at}
+use Rattle.store_views.specs.Views.{ranked_at}
 
 greedy_inside : (tests : List Test) (wanted : List (ℕ × ℕ)) (ranked : List Ranked) → IsGreedy tests wanted ranked → All (λ row. row.test < length tests) ranked
 greedy_inside tests wanted _ none = All-nil (λ (row : Ranked). row.test < length tests)

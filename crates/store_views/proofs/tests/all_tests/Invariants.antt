@@ -3,7 +3,7 @@ use Rattle.std.specs.Prelude.{MatchOption}
 use Rattle.cov_history.specs.History.{tests_of}
 use Rattle.cov_history.specs.Answers.{test_row}
 use Rattle.merge_store.specs.Stores.{entries_of}
-use Rattle.cov_report.proofs.tests.all_tests.Given as goal
+use Rattle.store_views.proofs.tests.all_tests.Given as goal
 
 abbrev pub invariant-loop-next : goal.invariant-loop-next
 invariant-loop-next l =
