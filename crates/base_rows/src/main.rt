@@ -1,9 +1,10 @@
 //! Street: worked rows.
 //!
-//! Worked rows of `cov_base`, `cov_serve`, `text_place` and `cov_net`: each line of standard input is a call with its arguments, and is
-//! written again with its answer behind ` =`. The file `stdout` has the answers, written by hand.
+//! Worked rows of `cov_base`, `markup`, `cov_serve`, `text_place` and `cov_net`: each line of standard input is a call with its arguments,
+//! and is written again with its answer behind ` =`. The file `stdout` has the answers, written by hand.
 #![tactic(auto)]
 
+mod escaping;
 mod hints;
 mod links;
 mod outside;
@@ -45,6 +46,7 @@ fn answer<R: Print + Files>(rt: &R, alloc: Global, call: &str, rest: &str) {
         "serve" => said::serve(rt, alloc, rest),
         "early" => said::early(rt, alloc, rest),
         "hint" => hints::hint(rt, alloc, rest),
+        "escape" => escaping::escape(rt, alloc, rest),
         "script" => outside::script(rt, rest),
         "file" => outside::file(rt, alloc, rest),
         _ => answer_sets(rt, alloc, call, rest),
