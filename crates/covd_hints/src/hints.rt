@@ -43,7 +43,7 @@ fn declaring(kind: ElabKind) -> &'static str {
         ElabKind::DuplicateName => "this name is declared before",
         ElabKind::UnknownType => "no type or covergroup of this name is declared before",
         ElabKind::UnknownName => "no value of this name can be seen here",
-        ElabKind::TooWide => "a width is 1 to 64, and a span goes down to 0 at least",
+        ElabKind::TooWide => "a width is 1 to 64, and a span goes down to a number from 0 to 255",
         ElabKind::BadSelect => "this can't be selected from, or not these bits",
         ElabKind::BadConcat => "a number in a concatenation needs a size",
         ElabKind::UnknownLiteral => "a number with x, z or ? can't stand here",
@@ -61,7 +61,8 @@ fn declaring(kind: ElabKind) -> &'static str {
         ElabKind::TooManyValues => "with filters at most 1048576 numbers",
         ElabKind::TooManyRanges => "a set has at most 65536 intervals",
         ElabKind::TooLong => "these sequences have more than 120 cells",
-        ElabKind::TooManyBins => "a coverpoint or cross has at most 65536 bins",
+        ElabKind::TooManyBins =>
+            "a coverpoint or cross has at most 65536 bins, before any are ignored",
         ElabKind::UnknownPoint => "a cross is of earlier coverpoints and of variables, each once",
         ElabKind::NotCrossed => "the cross is not of this coverpoint",
         ElabKind::UnknownBin => "the coverpoint declares no bin of this name",
