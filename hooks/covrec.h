@@ -10,8 +10,8 @@
  *     if (covrec_end(rec, "t1.rec") != 0) { .. }
  *
  * Signals and instances are announced in the order of the design text, before the first event. Each call answers a
- * negative number where it is refused; covrec_error says why, and covrec_end refuses a record to which any call was
- * refused. The form of the bytes is that of docs/FORMATS.md, versions 1 and 2: a record is of version 2 where an
+ * negative number where it is refused; covrec_error says why, and covrec_end and covrec_flush refuse a record to which
+ * any call was refused. A signal is Unknown until it gets a value, so say the first values of all. The form of the bytes is that of docs/FORMATS.md, versions 1 and 2: a record is of version 2 where an
  * instance has arguments. Numbers are those of FORMATS: ids of 1 to 255 bytes, widths of 1 to 64 bits, at most 4,096
  * signals, 1,024 instances, 16 arguments, 1,048,576 events and 8,388,608 bytes.
  */
@@ -44,7 +44,8 @@ int covrec_instance(covrec *rec, const char *name, const char *group);
 /* The next argument of the function `sample` of an instance. Its place from 0. */
 int covrec_argument(covrec *rec, int instance, int width, int is_signed);
 
-/* A signal gets a value, of which the low bits count, or one with an x or z bit. */
+/* A signal gets a value, of which the low bits count, or one with an x or z bit. Where it has that value already, nothing
+ * is written. */
 int covrec_set(covrec *rec, int signal, uint64_t value);
 int covrec_set_unknown(covrec *rec, int signal);
 
@@ -59,6 +60,10 @@ int covrec_value_unknown(covrec *rec);
 
 /* Why the first refused call was refused, or NULL. */
 const char *covrec_error(const covrec *rec);
+
+/* Writes what there is up to now to a file, as a whole record, and goes on: a test that is killed later has left that. The
+ * file is written beside its place and put there when it is whole. Negative as for covrec_end. */
+int covrec_flush(covrec *rec, const char *path);
 
 /* Writes the record to a file and frees it. Negative where a call was refused or the file can't be written. */
 int covrec_end(covrec *rec, const char *path);
@@ -109,6 +114,8 @@ struct covrec {
     int signals, instances, has_args;
     char *signal_name[COVREC_MOST_SIGNALS];
     covrec_shape signal[COVREC_MOST_SIGNALS];
+    unsigned char is_known[COVREC_MOST_SIGNALS];
+    uint64_t value[COVREC_MOST_SIGNALS];
     covrec_row instance[COVREC_MOST_INSTANCES];
     uint32_t events;
     covrec_bytes body;
@@ -258,16 +265,22 @@ static int covrec_event(covrec *rec, int tag, int number) {
     return covrec_number(rec, &rec->body, 2, (uint64_t)number);
 }
 
+static uint64_t covrec_low_bits(int width, uint64_t value) {
+    return width < 64 ? value & ((UINT64_C(1) << width) - 1) : value;
+}
+
 static int covrec_known(covrec *rec, int known, int width, uint64_t value) {
     if (covrec_number(rec, &rec->body, 1, known ? 1u : 0u) != 0) return -1;
-    if (!known) return 0;
-    if (width < 64) value &= (UINT64_C(1) << width) - 1;
-    return covrec_number(rec, &rec->body, 8, value);
+    return known ? covrec_number(rec, &rec->body, 8, covrec_low_bits(width, value)) : 0;
 }
 
 static int covrec_change(covrec *rec, int signal, int known, uint64_t value) {
     if (signal < 0 || signal >= rec->signals) return covrec_refuse(rec, "there is no such signal");
+    value = known ? covrec_low_bits(rec->signal[signal].width, value) : 0;
+    if (known == rec->is_known[signal] && value == rec->value[signal]) return 0;
     if (covrec_event(rec, 1, signal) != 0) return -1;
+    rec->is_known[signal] = (unsigned char)known;
+    rec->value[signal] = value;
     return covrec_known(rec, known, rec->signal[signal].width, value);
 }
 
@@ -333,20 +346,39 @@ static void covrec_head(covrec *rec, covrec_bytes *head) {
     covrec_number(rec, head, 4, rec->events);
 }
 
-int covrec_end(covrec *rec, const char *path) {
+static int covrec_write(const char *path, const covrec_bytes *head, const covrec_bytes *body) {
+    FILE *file = fopen(path, "wb");
+    int is_whole;
+    if (file == NULL) return -1;
+    is_whole = fwrite(head->bytes, 1, head->len, file) == head->len && fwrite(body->bytes, 1, body->len, file) == body->len;
+    return fclose(file) == 0 && is_whole ? 0 : -1;
+}
+
+/* puts a file in the place of another */
+static int covrec_move(const char *from, const char *to) {
+    if (rename(from, to) == 0) return 0;
+    remove(to); /* (where a file can't be put over another) */
+    return rename(from, to) == 0 ? 0 : -1;
+}
+
+int covrec_flush(covrec *rec, const char *path) {
     covrec_bytes head = {NULL, 0, 0};
+    char *beside = (char *)malloc(strlen(path) + sizeof ".part");
     int done = -1;
+    if (beside == NULL) return covrec_refuse(rec, "no memory");
+    strcpy(beside, path);
+    strcat(beside, ".part");
     covrec_head(rec, &head);
     if (head.len + rec->body.len > COVREC_LONGEST) covrec_refuse(rec, "a record has at most 8388608 bytes");
-    if (rec->error == NULL) {
-        FILE *file = fopen(path, "wb");
-        if (file != NULL) {
-            int whole = fwrite(head.bytes, 1, head.len, file) == head.len
-                && fwrite(rec->body.bytes, 1, rec->body.len, file) == rec->body.len;
-            done = fclose(file) == 0 && whole ? 0 : -1;
-        }
-    }
+    if (rec->error == NULL && covrec_write(beside, &head, &rec->body) == 0) done = covrec_move(beside, path);
+    if (done != 0) remove(beside);
     free(head.bytes);
+    free(beside);
+    return done;
+}
+
+int covrec_end(covrec *rec, const char *path) {
+    int done = covrec_flush(rec, path);
     covrec_drop(rec);
     return done;
 }

@@ -150,8 +150,9 @@ class Picked:
 
 
 def parts_of(dump, path):
-    """The pieces of codes that a path names."""
-    name = path.split("[", 1)[0]
+    """The pieces of codes that a path names; a scope may have an index in its name, as one of a generate block."""
+    scopes, dot, last = path.rpartition(".")
+    name = scopes + dot + last.split("[", 1)[0]
     selects = SELECT.findall(path[len(name) :])
     variables = dump.variables.get(name)
     if variables is None:

@@ -52,6 +52,10 @@ def main():
         prepared(HEAD + body, *picks),
         ["#0\n0!\nb0000000000000101 \"\nb100 #\nb1x0 $\nx%\n#5\n1!\nb110 $\n1%\n#6\n"],
     )
+    # a scope with an index
+    indexed = HEAD.replace("module dut", "begin lane[0]")
+    same(prepared(indexed + "#0\n0!\nb101 a\n#1\n1!\n", "--scope", "s", "c=tb.clk", "m=tb.lane[0].ram[10][2:0]"),
+         ["#0\n0!\nb101 \"\n#1\n1!\n#1\n"])
     # nine values become four
     same(prepared(HEAD + "#0\nU!\nbUWLH- a\n#1\nH!\n", "--scope", "s", "c=tb.clk", "m=tb.dut.ram[10][4:0]"),
          ["#0\nx!\nbxx01x \"\n#1\n1!\n#1\n"])

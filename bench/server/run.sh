@@ -1,6 +1,7 @@
 #!/usr/bin/env bash
 # Prints what `covd serve` does in a second, beside a plain server of the same frames (echo.rs) where one can stand in for it:
-# round trips of Coverage over one connection and over four, and uploads of records of 1 MiB from one, two and four clients.
+# round trips of Coverage over one connection and over four, and uploads of records of 1 MiB from one, two and four clients; and
+# how long others wait while a large design is revised.
 # Needs rt, rustc and python3; COVD names a built covd in place of the one of this checkout. Each server is one of this
 # machine's, and ends with the script. Run it on a machine with nothing else to do.
 cd "$(dirname "$0")"
@@ -13,11 +14,12 @@ load=$room/load
 rustc --edition 2021 -O -C target-cpu=x86-64-v2 -o "$load" load.rs
 python3 -B requests.py "$room"
 
-# Starts a server on an address that is free, and sets `address` to it and `server` to its process.
+# Starts a server of the design in this file, or of the one above, on an address that is free, and sets `address` to it and
+# `server` to its process.
 start() {
     address=127.0.0.1:$(python3 -c 'import socket; print(socket.create_server(("127.0.0.1", 0)).getsockname()[1])')
     if [ "$on" = ours ]; then
-        "$ours" serve "$room/design.sv" --listen "$address" --seats 8 >"$room/listening" &
+        "$ours" serve "${1:-$room/design.sv}" --listen "$address" --seats 8 >"$room/listening" &
     else
         "$echo" "$address" >"$room/listening" &
     fi
@@ -58,3 +60,9 @@ for clients in 1 2 4; do
         printf "uploads, %d clients: %.1f records of 1 MiB a second, %.2f times one client\n", clients, 24 / took * 1e9, first / took
     }'
 done
+
+python3 -B turns.py --design >"$room/large.sv"
+start "$room/large.sv"
+python3 -B turns.py "$address"
+kill "$server"
+wait "$server" 2>/dev/null || true
