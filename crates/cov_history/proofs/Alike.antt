@@ -1,12 +1,15 @@
 -- What an answer reads of a history.
-use Rattle.std.proofs.Common.{◌≡◌, ℕ, zero, suc, true, false, ◌&&◌, List, [], ◌∷◌, length, map, refl, sym, ap, ◌∙◌, true≢false}
+use Rattle.std.proofs.Common.{◌≡◌, ℕ, zero, suc, true, false, ◌&&◌, List, [], ◌∷◌, length, map, refl, sym, ap, subst, ◌∙◌, true≢false}
 use Rattle.std.specs.Prelude.{Option, Some, None, option_map, find, slice_get, bytes_eq, if◌then◌else◌, take, drop}
+use Rattle.std.proofs.lemmas.List.{length-map}
+use Rattle.cov_ground.specs.Limits.{most_test_rows}
 use Rattle.design_data.specs.declared.design.Design.{Design}
 use Rattle.record_codec.specs.declared.record.Record.{Record}
 use Rattle.record_codec.specs.Spelling.{spelling}
 use Rattle.tally.specs.Rows.{rows_from}
 use Rattle.ucis_model.specs.declared.answers.Answer.{Answer}
 use Rattle.ucis_model.specs.declared.answers.Answer.TheVariants as answers
+use Rattle.ucis_model.specs.declared.answers.HistoryNode.{HistoryNode}
 use Rattle.ucis_model.specs.Nodes.{nodes_of}
 use Rattle.ucis_model.specs.Paths.{node_at, find_in, path_of}
 use Rattle.cov_history.specs.declared.entry.Entry.{Entry}
@@ -17,8 +20,8 @@ use Rattle.cov_history.specs.Nodes.{node_of_bin, bins_under}
 use Rattle.cov_history.specs.Coverage.{is_excluded, live_under}
 use Rattle.cov_history.specs.Ranking.{ranking}
 use Rattle.cov_history.specs.History.{Test, design_of, tests_of, contents, kept, hits, hits_of, count_of, out_of, has_stop}
-use Rattle.cov_history.specs.Answers.{excluded_at, rows, cover_row, illegal_hit, at_node, rows_at, test_counts_by, chunk, counts_at, test_counts_at, illegal_at, coverage_at, rank_at, name_at, fetch_at, is_made, table, unless_stopped, answer_at}
-use Rattle.cov_history.specs.Laws.{is_pointless}
+use Rattle.cov_history.specs.Answers.{excluded_at, rows, cover_row, illegal_hit, at_node, rows_at, test_counts_by, chunk, counts_at, test_counts_at, illegal_at, coverage_at, rank_at, name_at, fetch_at, test_row, tests_at, is_made, table, unless_stopped, answer_at}
+use Rattle.cov_history.specs.Laws.{is_pointless, without_point, AreRowsAlike}
 use Rattle.cov_history.proofs.Bools.{by_bool, and_false}
 
 -- ---- tests without their points
@@ -150,3 +153,25 @@ pub same_answer : (opening : Design) (a b : List Entry) → design_of opening a 
     → (caller other : ℕ) (query : Ask) → is_pointless query ≡ true → answer_at opening a caller query ≡ answer_at opening b other query
 same_answer opening a b d c o caller other query q =
     quiet a (table opening a caller query) (quiet_query opening a caller query q) ∙ same_table opening a b d c o caller other query q ∙ sym (quiet b (table opening b other query) (quiet_query opening b other query q))
+
+-- ---- rows of tests without their points
+
+-- the row of a record, without a point
+abbrev bare_row : Record → HistoryNode
+bare_row r = without_point (test_row (record { point = 0; content = r }))
+
+bare_rows : (most first : ℕ) (ts : List Test) → map without_point (map test_row (take most (drop first ts))) ≡ map bare_row (take most (drop first (map content ts)))
+bare_rows zero first ts = refl
+bare_rows (suc most) zero [] = refl
+bare_rows (suc most) (suc first) [] = refl
+bare_rows (suc most) zero (t ∷ ts) = ap (λ rest. bare_row t.content ∷ rest) (bare_rows most zero ts)
+bare_rows (suc most) (suc first) (t ∷ ts) = bare_rows (suc most) first ts
+
+pub rows_alike : (opening : Design) (a b : List Entry) → contents a ≡ contents b → (caller first : ℕ) → AreRowsAlike (answer_at opening a caller (ask.Tests first)) (answer_at opening b caller (ask.Tests first))
+unfolding table
+rows_alike opening a b c caller first =
+    subst (λ x. AreRowsAlike x (answer_at opening b caller (ask.Tests first))) (sym (quiet a (tests_at a first) refl))
+    (subst (λ x. AreRowsAlike (tests_at a first) x) (sym (quiet b (tests_at b first) refl)) (
+      sym (length-map (tests_of a) content) ∙ ap (λ (rs : List Record). length rs) c ∙ length-map (tests_of b) content,
+      bare_rows most_test_rows first (tests_of a) ∙ ap (λ (rs : List Record). map bare_row (take most_test_rows (drop first rs))) c ∙ sym (bare_rows most_test_rows first (tests_of b)),
+    ))

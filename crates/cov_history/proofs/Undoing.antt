@@ -21,7 +21,7 @@ use Rattle.cov_history.proofs.Bools.{by_bool, and_left, and_right, both, not_tru
 use Rattle.cov_history.proofs.Snoc.{design_snoc, contents_snoc, out_snoc, stop_snoc}
 use Rattle.cov_history.proofs.Legal.{none_passed, within_of, same_bytes, suits_of, free_of}
 use Rattle.cov_history.proofs.Filters.{filter_append, filter_swap, count_kept, any_kept, any_lost, any_part, filter_all, length_without, count_none}
-use Rattle.cov_history.proofs.Alike.{same_answer}
+use Rattle.cov_history.proofs.Alike.{same_answer, rows_alike}
 
 find_contents : (p : Record → Bool) (ts : List Test) → is_some (find (λ (t : Test). p t.content) ts) ≡ list_any p (map (λ (t : Test). t.content) ts)
 find_contents p [] = refl
@@ -209,5 +209,6 @@ include_undoes opening h es a b path s l =
     record {
       legal = legal_append opening [] h es ∙ both (is_legal opening h) (legal_from opening h es) before u.0;
       tests = tests;
+      rows = λ caller first. rows_alike opening (h ++ excluded_for a b path es) (h ++ es) tests caller first;
       answers = λ caller query q. same_answer opening (h ++ excluded_for a b path es) (h ++ es) design tests out caller caller query q;
     }

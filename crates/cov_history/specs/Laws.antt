@@ -9,7 +9,9 @@ use Rattle.record_codec.specs.declared.record.Record.{Record}
 use Rattle.record_codec.specs.Spelling.{spelling}
 use Rattle.cov_counting.specs.Tallies.{IsTally}
 use Rattle.ucis_model.specs.declared.node.Node.{Node}
+use Rattle.ucis_model.specs.declared.answers.Answer.{Answer}
 use Rattle.ucis_model.specs.declared.answers.Answer.TheVariants as answers
+use Rattle.ucis_model.specs.declared.answers.HistoryNode.{HistoryNode}
 use Rattle.ucis_model.specs.Nodes.{nodes_of}
 use Rattle.cov_history.specs.declared.entry.Event.{Event}
 use Rattle.cov_history.specs.declared.entry.Event.TheVariants.{Admit, Exclude, Include}
@@ -122,11 +124,34 @@ is_pointless (ask.NameOf bin) = true
 is_pointless (ask.Fetch place offset) = true
 is_pointless other = false
 
+-- a row of a test without its point
+abbrev pub without_point : HistoryNode → HistoryNode
+without_point row = record {
+  kind = row.kind;
+  point = 0;
+  status = row.status;
+  seed = row.seed;
+  time = row.time;
+  digest = row.digest;
+  id = row.id;
+  user = row.user;
+}
+
+-- both answers tell the same number of tests, and the same rows of them in the same order but for their points
+abbrev pub AreRowsAlike : (given other : Answer) → Type 0
+AreRowsAlike (answers.TestRows total rows) (answers.TestRows others more) =
+    (total ≡ others) × (map without_point rows ≡ map without_point more)
+AreRowsAlike given other = ⊥
+
 -- An Include undoes the Exclude before it, whatever came between that spares its path: the history without the two is
--- legal, has the same tests apart from their points, and the same answers.
+-- legal, has the same tests apart from their points, tells rows of them that are alike, and has the same answers to the
+-- asks whose answers don't name points.
 pub record Undoes (opening : Design) (h es : List Entry) (a b : ℕ) (path : List ℕ) : Type 0 where
   pub legal : is_legal opening (h ++ es) ≡ true
   pub tests : AreSameTests (tests_of (h ++ excluded_for a b path es)) (tests_of (h ++ es))
+  pub rows : (caller first : ℕ)
+      → AreRowsAlike (answer_at opening (h ++ excluded_for a b path es) caller (ask.Tests first))
+      (answer_at opening (h ++ es) caller (ask.Tests first))
   pub answers : (caller : ℕ) (query : Ask) → is_pointless query ≡ true → answer_at opening (h ++ excluded_for a b path es) caller query ≡ answer_at opening (h ++ es) caller query
 
 abbrev pub IncludeUndoes : Type 0
