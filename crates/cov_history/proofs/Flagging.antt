@@ -7,7 +7,7 @@ use Rattle.std.proofs.lemmas.Bool.{cases_lt}
 use Rattle.std.proofs.lemmas.Bool.Decides.{nat_tests}
 use Rattle.std.proofs.lemmas.List.{get_or-map, length-map}
 use Rattle.std.proofs.lemmas.List.FromFn.{get_or-range_with_len, length-range_with_len}
-use Rattle.exclusions.specs.Above as above
+use Rattle.ucis_model.specs.Above as above
 use Rattle.ucis_model.specs.declared.node.Node.{Node}
 use Rattle.ucis_model.specs.Nodes.{nodes_of}
 use Rattle.ucis_model.specs.Paths.{node_at, find_in}

@@ -3,7 +3,7 @@ use Rattle.std.specs.Prelude.{ℕ, max, List, [], ◌∷◌, ◌++◌, length, m
 use Rattle.std.specs.List.{list_any}
 use Rattle.std.specs.Option.{option_map_or}
 use Rattle.design_data.specs.Bins.{is_coverage}
-use Rattle.exclusions.specs.Above as above
+use Rattle.ucis_model.specs.Above as above
 use Rattle.percent.specs.Millionths.{full, mean}
 use Rattle.ucis_model.specs.declared.node.Node.{Node}
 use Rattle.ucis_model.specs.declared.node.NodeKind.{NodeKind}

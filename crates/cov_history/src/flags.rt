@@ -2,7 +2,7 @@
 ghost use Rattle.std.specs.Prelude.{◌≡◌, ℕ, ◌==◌, ◌<◌, ◌^◌, length, map, slice_index, false, IfOk};
 ghost use Rattle.std.specs.List.{range_with_len, list_any};
 ghost use Rattle.std.specs.Option.{option_map_or};
-ghost use Rattle.exclusions.specs.Above.{some_lineage};
+ghost use Rattle.ucis_model.specs.Above.{some_lineage};
 ghost use Rattle.ucis_model.specs.Paths.{find_in};
 ghost use Rattle.cov_history.specs.Nodes.{parents_of};
 ghost use Rattle.cov_history.specs.Coverage as meant;

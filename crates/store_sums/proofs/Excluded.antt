@@ -1,7 +1,7 @@
 -- Nodes that are excluded by the paths at nodes, and by paths.
 use Rattle.std.proofs.Common.{◌≡◌, ℕ, List, sym, Option, None, is_some}
 use Rattle.std.specs.Prelude.{slice_index_or}
-use Rattle.exclusions.specs.Above as above
+use Rattle.ucis_model.specs.Above as above
 use Rattle.ucis_model.specs.declared.node.Node.{Node}
 use Rattle.cov_history.specs.Nodes.{parents_of}
 use Rattle.cov_history.specs.Coverage.{is_out, is_excluded}

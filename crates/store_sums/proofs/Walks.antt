@@ -7,8 +7,8 @@ use Rattle.std.proofs.lemmas.List.Elements.{filter-append}
 use Rattle.std.proofs.lemmas.List.Sums.{sum_by-cons}
 use Rattle.std.proofs.Math.ListN.{get_or-eq_default}
 use Rattle.percent.specs.Millionths.{Sums, sums, mean}
-use Rattle.exclusions.specs.Above as above
-use Rattle.exclusions.proofs.Lineages.{excluded_from_above}
+use Rattle.ucis_model.specs.Above as above
+use Rattle.ucis_model.proofs.Lineages.{excluded_from_above}
 use Rattle.ucis_model.specs.declared.node.Node.{Node}
 use Rattle.ucis_model.specs.Nodes.{root_node}
 use Rattle.ucis_model.specs.Paths.{node_at, HasSmallerParents}
@@ -81,7 +81,7 @@ parent_at [] n = refl
 parent_at (x ∷ xs) zero = refl
 parent_at (x ∷ xs) (suc n) = parent_at xs n
 
-small_parents : (nodes : List Node) → HasSmallerParents nodes → above.HasSmallerParents (parents_of nodes)
+small_parents : (nodes : List Node) → HasSmallerParents nodes → above.AreSmallerParents (parents_of nodes)
 small_parents nodes small n some below =
     let l = length-map nodes (λ (m : Node). m.parent) in
     let s = small n some (omega (arith, below, l)) in

@@ -1,7 +1,7 @@
 -- What running sums say of a design's nodes.
 use Rattle.std.specs.Prelude.{ℕ, List, map, slice_index, slice_index_or, Option, None, option_map, is_some, Bool}
 use Rattle.std.specs.Arc.{arc_value}
-use Rattle.exclusions.specs.Above as above
+use Rattle.ucis_model.specs.Above as above
 use Rattle.ucis_model.specs.declared.node.Node.{Node}
 use Rattle.ucis_model.specs.Nodes.{nodes_of}
 use Rattle.cov_history.specs.Nodes.{parents_of}

@@ -1,9 +1,7 @@
 //! Street: worked rows.
 //!
-//! Worked rows of `exclusions` and `cov_history`, as tests of what these crates hand on.
+//! Worked rows of `cov_history`, as tests of what it hands on.
 #![tactic(auto)]
 
 #[cfg(test)]
 mod covering;
-#[cfg(test)]
-mod nodes;

@@ -4,7 +4,6 @@
 //! them (IEEE 1800-2017, clause 19).
 #![tactic(auto)]
 
-mod above;
 mod answers;
 mod building;
 mod growing;
