@@ -35,7 +35,8 @@ use Rattle.elab_members.specs.Counting.{bins_counted}
 use Rattle.elab_members.specs.Domains.{domain_of_point}
 use Rattle.elab_members.specs.Items.{no_items, has_room, with_item}
 use Rattle.elab_members.specs.Points.{point_name, point_item, point_decls, settings_of, with_point, head_of, bins_headed, named_point}
-use Rattle.elab_members.specs.Crosses.{label_unused, implicit_decl, Placed, placed, axis_placed, axes_placed, cross_head, cross_item, cross_decls, with_cross, headed_cross, bins_crossed, named_cross, placed_cross, around_cross, cross_name, cross}
+use Rattle.elab_members.specs.CrossNames.{around_cross, name_of_cross}
+use Rattle.elab_members.specs.Crosses.{implicit_decl, Placed, placed, axis_placed, axes_placed, cross_head, cross_item, cross_decls, with_cross, headed_cross, bins_crossed, named_cross, placed_cross, cross}
 use Rattle.elab_members.specs.Members.{member}
 use Rattle.elab_members.proofs.Counted.{length-infos}
 
@@ -106,8 +107,7 @@ headed_cross_few scope head c axes sizes s t e h =
 named_cross_few : (scope : Levels) (inside : Inside) (name : List ℕ) (c : CrossDecl) (axes : List ℕ) (s t : Items) → named_cross scope inside name c axes s ≡ Ok t → HaveFewBins s.items → HaveFewBins t.items
 unfolding named_cross bins_crossed
 named_cross_few scope inside name c axes s t e h =
-    let u = bind_ok (unused s.names name c.at) _ t e in
-    let z = bind_ok (sizes_fit s.items axes c.at) _ t u.2 in
+    let z = bind_ok (sizes_fit s.items axes c.at) _ t e in
     let n = bind_ok (has_room s.counts c.at) _ t z.2 in
     let x = bind_ok (cross_head scope inside name c) _ t n.2 in
     headed_cross_few scope x.0 c axes z.0 s t x.2 h
@@ -115,10 +115,10 @@ named_cross_few scope inside name c axes s t e h =
 cross_keeps_few : (outside : Outside) (inside : Inside) (c : CrossDecl) (s t : Items) → cross outside inside c s ≡ Ok t → HaveFewBins s.items → HaveFewBins t.items
 unfolding cross placed_cross
 cross_keeps_few outside inside c s t e h =
-    let l = bind_ok (label_unused s.names c.label c.at) _ t e in
+    let l = bind_ok (name_of_cross (around_cross outside inside s) c) _ t e in
     let a = bind_ok (axes_named (around_cross outside inside s) c.points c.at) _ t l.2 in
     let p = bind_ok (axes_placed outside inside c.at a.0 s) _ t a.2 in
-    named_cross_few outside.scope inside (cross_name c.label (length p.0.items.items)) c p.0.axes p.0.items t p.2 (axes_few outside inside c.at a.0 s p.0 p.1 h)
+    named_cross_few outside.scope inside l.0 c p.0.axes p.0.items t p.2 (axes_few outside inside c.at a.0 s p.0 p.1 h)
 
 pub member_few : (outside : Outside) (inside : Inside) (m : Member) (s t : Items) → member outside inside m s ≡ Ok t → HaveFewBins s.items → HaveFewBins t.items
 member_few outside inside (members.Point p) s t e h = point_few outside inside (point_name p (length s.items)) p s t e h

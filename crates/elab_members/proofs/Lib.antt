@@ -1,6 +1,7 @@
 pub mod Heads
 pub mod Counted
 pub mod Naming
+pub mod Implied
 pub mod Crossing
 pub mod Within
 pub mod Stops

@@ -1,6 +1,7 @@
 -- The scope of an instance on the way is that of its items so far, each name once.
-use Rattle.std.proofs.Common.{◌≡◌, ◌∙◌, ℕ, ◌+◌, List, [], ◌∷◌, ◌++◌, length, refl, sym, ap, subst, Bool, true, false, cond, arith, Ok}
+use Rattle.std.proofs.Common.{◌≡◌, ◌∙◌, ℕ, ◌+◌, List, [], ◌∷◌, ◌++◌, length, refl, sym, ap, subst, Bool, true, false, cond, None, arith, Ok}
 use Rattle.std.specs.Prelude.{not, is_some}
+use Rattle.std.specs.List.{AllByRecursion}
 use Rattle.name_map.specs.Names.{Pairs, meaning_of, with_name}
 use Rattle.cov_tree.specs.declared.groups.Member.{Member}
 use Rattle.cov_tree.specs.declared.groups.Member.TheVariants as members
@@ -14,7 +15,7 @@ use Rattle.design_data.specs.declared.infos.ItemInfo.{ItemInfo}
 use Rattle.elab_base.specs.declared.fault.ElabKind.TheVariants as kind
 use Rattle.elab_base.specs.declared.names.What.{What}
 use Rattle.elab_base.specs.declared.names.What.TheVariants as what
-use Rattle.elab_base.specs.Gives.{needs}
+use Rattle.elab_base.specs.Gives.{needs, each_at}
 use Rattle.elab_base.specs.Steps.{unused, bound_in, guard_in}
 use Rattle.elab_base.proofs.Keeps.{bind_ok, ok_is, each_keeps, needs_ok}
 use Rattle.elab_decls.specs.declared.outside.Outside.{Outside}
@@ -38,9 +39,11 @@ use Rattle.elab_members.specs.Counting.{bins_counted}
 use Rattle.elab_members.specs.Domains.{domain_of_point}
 use Rattle.elab_members.specs.Items.{no_items, has_room, with_item}
 use Rattle.elab_members.specs.Points.{point_name, settings_of, with_point, head_of, bins_headed, named_point}
-use Rattle.elab_members.specs.Crosses.{label_unused, implicit_decl, Placed, placed, axis_placed, axes_placed, cross_head, with_cross, headed_cross, bins_crossed, named_cross, placed_cross, around_cross, cross_name, cross}
+use Rattle.elab_members.specs.CrossNames.{around_cross, name_of_cross}
+use Rattle.elab_members.specs.Crosses.{implicit_decl, Placed, placed, axis_placed, axes_placed, cross_head, with_cross, headed_cross, bins_crossed, named_cross, placed_cross, cross}
 use Rattle.elab_members.specs.Members.{member, members_walked}
 use Rattle.elab_members.specs.Scopes.{scope_from}
+use Rattle.elab_members.proofs.Implied.{Differs, Apart, still_new, axes_apart, name_is_new}
 
 -- ---- one item more
 
@@ -101,6 +104,39 @@ named_scope outside inside name p s t e h =
     let same = head_name outside inside name p x.0 x.1 in
     headed_scope outside inside (domain_of_point outside inside.names p.expr (typ_of x.0.expr)) x.0 p s t x.2 (subst (λ (text : List ℕ). not (is_some (meaning_of s.names text)) ≡ true) same new) h
 
+-- ---- a name that is new stays so behind implicit points of other names
+
+point_names : (outside : Outside) (inside : Inside) (domain : Domain) (head : Head) (p : PointDecl) (s t : Items) → bins_headed outside inside domain head p s ≡ Ok t → with_name s.names head.name (what.Item (length s.items)) ≡ t.names
+unfolding bins_headed with_point with_item
+point_names outside inside domain head p s t e =
+    let b = bind_ok (bins_of_point outside.scope domain head.name (settings_of inside head) p.bins p.at) _ t e in
+    let c = bind_ok (bins_counted b.0.bins s.counts) _ t b.2 in
+    ap (λ (u : Items). u.names) (ok_is _ t c.2)
+
+named_new : (outside : Outside) (inside : Inside) (other name : List ℕ) (p : PointDecl) (s t : Items) → named_point outside inside other p s ≡ Ok t → Differs name other → meaning_of s.names name ≡ None → meaning_of t.names name ≡ None
+unfolding named_point
+named_new outside inside other name p s t e differs new =
+    let u = bind_ok (unused s.names other p.at) _ t e in
+    let n = bind_ok (has_room s.counts p.at) _ t u.2 in
+    let x = bind_ok (head_of outside inside other p) _ t n.2 in
+    let same = head_name outside inside other p x.0 x.1 in
+    let names = point_names outside inside (domain_of_point outside inside.names p.expr (typ_of x.0.expr)) x.0 p s t x.2 in
+    subst (λ (ns : Pairs What). meaning_of ns name ≡ None) names (still_new s.names x.0.name name (what.Item (length s.items)) new (subst (λ (text : List ℕ). Differs name text) same differs))
+
+axis_new : (outside : Outside) (inside : Inside) (at : ℕ) (name : List ℕ) (a : Axis) (p q : Placed) → axis_placed outside inside at a p ≡ Ok q → Apart name a → meaning_of p.items.names name ≡ None → meaning_of q.items.names name ≡ None
+unfolding axis_placed
+axis_new outside inside at name (axis.Item index) p q e apart new = subst (λ (r : Placed). meaning_of r.items.names name ≡ None) (ok_is (placed p.items (p.axes ++ index ∷ [])) q e) new
+axis_new outside inside at name (axis.Implicit other) p q e apart new =
+    let i = bind_ok (named_point outside inside other (implicit_decl other at) p.items) _ q e in
+    subst (λ (r : Placed). meaning_of r.items.names name ≡ None) (ok_is _ q i.2) (named_new outside inside other name (implicit_decl other at) p.items i.0 i.1 apart new)
+
+axes_new : (outside : Outside) (inside : Inside) (at k : ℕ) (name : List ℕ) (axes : List Axis) (p q : Placed) → each_at (λ i. axis_placed outside inside at) k axes p ≡ Ok q → AllByRecursion (Apart name) axes → meaning_of p.items.names name ≡ None → meaning_of q.items.names name ≡ None
+unfolding each_at
+axes_new outside inside at k name [] p q e apart new = subst (λ (r : Placed). meaning_of r.items.names name ≡ None) (ok_is p q e) new
+axes_new outside inside at k name (a ∷ axes) p q e apart new =
+    let b = bind_ok (axis_placed outside inside at a p) (each_at (λ i. axis_placed outside inside at) (k + 1) axes) q e in
+    axes_new outside inside at (k + 1) name axes b.0 q b.2 apart.1 (axis_new outside inside at name a p b.0 b.1 apart.0 new)
+
 -- ---- crosses
 
 PlacedScope : Placed → Type 0
@@ -127,25 +163,28 @@ headed_cross_scope scope head c axes sizes s t e new h =
     let n = bind_ok (bins_counted b.0 s.counts) _ t b.2 in
     subst IsScope (ok_is _ t n.2) (item_added s _ _ n.0 new h)
 
-named_cross_scope : (scope : Levels) (inside : Inside) (name : List ℕ) (c : CrossDecl) (axes : List ℕ) (s t : Items) → named_cross scope inside name c axes s ≡ Ok t → IsScope s → IsScope t
-unfolding named_cross bins_crossed unused
-named_cross_scope scope inside name c axes s t e h =
-    let u = bind_ok (needs (not (is_some (meaning_of s.names name))) kind.DuplicateName c.at) _ t e in
-    let z = bind_ok (sizes_fit s.items axes c.at) _ t u.2 in
+named_cross_scope : (scope : Levels) (inside : Inside) (name : List ℕ) (c : CrossDecl) (axes : List ℕ) (s t : Items) → named_cross scope inside name c axes s ≡ Ok t → meaning_of s.names name ≡ None → IsScope s → IsScope t
+unfolding named_cross bins_crossed
+named_cross_scope scope inside name c axes s t e absent h =
+    let z = bind_ok (sizes_fit s.items axes c.at) _ t e in
     let n = bind_ok (has_room s.counts c.at) _ t z.2 in
     let x = bind_ok (cross_head scope inside name c) _ t n.2 in
-    let new = needs_ok (not (is_some (meaning_of s.names name))) kind.DuplicateName c.at u.0 u.1 in
+    let new : not (is_some (meaning_of s.names name)) ≡ true = rw absent refl in
     let same = cross_head_name scope inside name c x.0 x.1 in
     headed_cross_scope scope x.0 c axes z.0 s t x.2 (subst (λ (text : List ℕ). not (is_some (meaning_of s.names text)) ≡ true) same new) h
 
 cross_scope : (outside : Outside) (inside : Inside) (c : CrossDecl) (s t : Items) → cross outside inside c s ≡ Ok t → IsScope s → IsScope t
 unfolding cross placed_cross axes_placed PlacedScope
 cross_scope outside inside c s t e h =
-    let l = bind_ok (label_unused s.names c.label c.at) _ t e in
-    let a = bind_ok (axes_named (around_cross outside inside s) c.points c.at) _ t l.2 in
+    let around = around_cross outside inside s in
+    let l = bind_ok (name_of_cross around c) _ t e in
+    let a = bind_ok (axes_named around c.points c.at) _ t l.2 in
     let p = bind_ok (axes_placed outside inside c.at a.0 s) _ t a.2 in
     let all = each_keeps (λ k. axis_placed outside inside c.at) PlacedScope (λ k a p q e h. axis_scope outside inside c.at a p q e h) 0 a.0 (placed s []) p.0 p.1 h in
-    named_cross_scope outside.scope inside (cross_name c.label (length p.0.items.items)) c p.0.axes p.0.items t p.2 all
+    let new = name_is_new around c l.0 l.1 in
+    let apart = axes_apart around c.points c.at l.0 a.0 a.1 new.1 in
+    let absent = axes_new outside inside c.at 0 l.0 a.0 (placed s []) p.0 p.1 apart new.0 in
+    named_cross_scope outside.scope inside l.0 c p.0.axes p.0.items t p.2 absent all
 
 -- ---- members
 

@@ -54,7 +54,8 @@ use Rattle.elab_members.specs.Counting.{bins_counted}
 use Rattle.elab_members.specs.Domains.{domain_of_point}
 use Rattle.elab_members.specs.Items.{no_items, has_room, with_item}
 use Rattle.elab_members.specs.Points.{point_name, point_item, point_decls, settings_of, with_point, head_of, bins_headed, named_point}
-use Rattle.elab_members.specs.Crosses.{label_unused, implicit_decl, Placed, placed, axis_placed, axes_placed, cross_head, cross_item, cross_decls, with_cross, headed_cross, bins_crossed, named_cross, placed_cross, around_cross, cross_name, cross}
+use Rattle.elab_members.specs.CrossNames.{around_cross, name_of_cross}
+use Rattle.elab_members.specs.Crosses.{implicit_decl, Placed, placed, axis_placed, axes_placed, cross_head, cross_item, cross_decls, with_cross, headed_cross, bins_crossed, named_cross, placed_cross, cross}
 use Rattle.elab_members.specs.Members.{member, members_walked}
 use Rattle.elab_members.proofs.Heads.{head_range}
 use Rattle.elab_members.proofs.Counted.{Counted, counted, length-infos, ranges-infos, point_rules}
@@ -274,8 +275,7 @@ named_cross_keeps : (scope : Levels) (inside : Inside) (name : List ℕ) (c : Cr
     → length c.points ≤ length axes → length axes ≤ most_points → AllByRecursion (IsPointIndex s.items) axes → AreItems start s → AreItems start t
 unfolding named_cross bins_crossed
 named_cross_keeps scope inside name c axes start s t e range names few points h =
-    let u = bind_ok (unused s.names name c.at) _ t e in
-    let z = bind_ok (sizes_fit s.items axes c.at) _ t u.2 in
+    let z = bind_ok (sizes_fit s.items axes c.at) _ t e in
     let n = bind_ok (has_room s.counts c.at) _ t z.2 in
     let x = bind_ok (cross_head scope inside name c) _ t n.2 in
     let room = needs_ok (nat_lt s.counts.items most_items) kind.DesignLimit c.at n.0 n.1 in
@@ -285,7 +285,7 @@ named_cross_keeps scope inside name c axes start s t e range names few points h 
 cross_keeps : (outside : Outside) (inside : Inside) (c : CrossDecl) (start : Counts) (s t : Items) → cross outside inside c s ≡ Ok t → AreInRange inside.options → AreItems start s → AreItems start t
 unfolding cross placed_cross axes_placed
 cross_keeps outside inside c start s t e range h =
-    let l = bind_ok (label_unused s.names c.label c.at) _ t e in
+    let l = bind_ok (name_of_cross (around_cross outside inside s) c) _ t e in
     let a = bind_ok (axes_named (around_cross outside inside s) c.points c.at) _ t l.2 in
     let p = bind_ok (axes_placed outside inside c.at a.0 s) _ t a.2 in
     let axes = cross_axes (around_cross outside inside s) c.points c.at a.0 a.1 in
@@ -293,7 +293,7 @@ cross_keeps outside inside c start s t e range h =
     let count = all.count in
     let same = axes.0 in
     let few = axes.1 in
-    named_cross_keeps outside.scope inside (cross_name c.label (length p.0.items.items)) c p.0.axes start p.0.items t p.2 range (omega (arith, count, same)) (omega (arith, count, few)) all.all.points all.all.items
+    named_cross_keeps outside.scope inside l.0 c p.0.axes start p.0.items t p.2 range (omega (arith, count, same)) (omega (arith, count, few)) all.all.points all.all.items
 
 -- ---- members
 

@@ -1,7 +1,5 @@
 -- The crosses of an instance, and the implicit points of their signals (IEEE 1800-2017, 19.6).
-use Rattle.std.specs.Prelude.{ℕ, List, [], ◌∷◌, ◌++◌, length, codes, Option, Some, None, Result, Ok}
-use Rattle.std.specs.Fmt.{decimal}
-use Rattle.name_map.specs.Names.{Pairs}
+use Rattle.std.specs.Prelude.{ℕ, List, [], ◌∷◌, ◌++◌, length, None, Result, Ok}
 use Rattle.cov_tree.specs.Exprs.{named}
 use Rattle.cov_tree.specs.declared.groups.PointDecl.{PointDecl}
 use Rattle.cov_tree.specs.declared.groups.CrossDecl.{CrossDecl}
@@ -9,16 +7,15 @@ use Rattle.const_eval.specs.Scopes.{Levels}
 use Rattle.cov_options.specs.declared.values.Level.TheVariants as levels
 use Rattle.design_data.specs.declared.infos.ItemInfo.{ItemInfo}
 use Rattle.design_data.specs.declared.infos.ItemShape.TheVariants.{Cross}
-use Rattle.elab_base.specs.declared.names.What.{What}
 use Rattle.elab_base.specs.Gives.{Refusal, ◌>>=◌, each}
-use Rattle.elab_base.specs.Steps.{unused, guard_in}
+use Rattle.elab_base.specs.Steps.{guard_in}
 use Rattle.elab_decls.specs.declared.outside.Outside.{Outside}
 use Rattle.elab_decls.specs.Options.{options_set, cross_defaults, remarks_of}
 use Rattle.elab_values.specs.declared.made.ItemDecls.{ItemDecls}
 use Rattle.elab_values.specs.declared.made.Made.{Made}
 use Rattle.elab_crosses.specs.declared.axes.Axis.{Axis}
 use Rattle.elab_crosses.specs.declared.axes.Axis.TheVariants as axis
-use Rattle.elab_crosses.specs.Axes.{Around, around, axes_named, sizes_fit}
+use Rattle.elab_crosses.specs.Axes.{axes_named, sizes_fit}
 use Rattle.elab_crosses.specs.Selections.{crossed}
 use Rattle.elab_crosses.specs.Removal.{infos, bins_of_cross}
 use Rattle.elab_members.specs.declared.counts.Counts.{Counts}
@@ -26,19 +23,9 @@ use Rattle.elab_members.specs.declared.items.Items.{Items}
 use Rattle.elab_members.specs.declared.items.Inside.{Inside}
 use Rattle.elab_members.specs.declared.crosses.CrossHead.{CrossHead}
 use Rattle.elab_members.specs.Counting.{bins_counted}
+use Rattle.elab_members.specs.CrossNames.{around_cross, name_of_cross}
 use Rattle.elab_members.specs.Items.{has_room, with_item}
 use Rattle.elab_members.specs.Points.{named_point}
-
--- ---- names
-
--- the label of a cross, or `cross_K` where so many items stand before it, its implicit points among them
-abbrev pub cross_name : Option (List ℕ) → ℕ → List ℕ
-cross_name (Some label) k = label
-cross_name None k = codes "cross_" ++ decimal k
-
-abbrev pub label_unused : Pairs What → Option (List ℕ) → ℕ → Result (Unit {0}) Refusal
-label_unused names (Some label) at = unused names label at
-label_unused names None at = Ok tt
 
 -- ---- implicit points
 
@@ -110,26 +97,22 @@ bins_crossed scope inside name c axes sizes s = do
   head ← cross_head scope inside name c
   headed_cross scope head c axes sizes s
 
--- a cross of this name, whose implicit points stand before it
+-- a cross whose implicit points stand before it
 unfoldable pub named_cross : Levels → Inside → List ℕ → CrossDecl → List ℕ → Items → Result Items Refusal
 named_cross scope inside name c axes s = do
-  _ ← unused s.names name c.at
   sizes ← sizes_fit s.items axes c.at
   _ ← has_room s.counts c.at
   bins_crossed scope inside name c axes sizes s
 
 -- a cross of these points, of which implicit ones are made
-unfoldable pub placed_cross : Outside → Inside → CrossDecl → List Axis → Items → Result Items Refusal
-placed_cross outside inside c axes s = do
+unfoldable pub placed_cross : Outside → Inside → List ℕ → CrossDecl → List Axis → Items → Result Items Refusal
+placed_cross outside inside name c axes s = do
   p ← axes_placed outside inside c.at axes s
-  named_cross outside.scope inside (cross_name c.label (length p.items.items)) c p.axes p.items
+  named_cross outside.scope inside name c p.axes p.items
 
--- what stands around a cross of a group
-abbrev pub around_cross : Outside → Inside → Items → Around
-around_cross outside inside s = around s.items s.names inside.points inside.names outside.names
-
+-- a cross: its name comes before its points, as DuplicateName comes before UnknownPoint
 unfoldable pub cross : Outside → Inside → CrossDecl → Items → Result Items Refusal
 cross outside inside c s = do
-  _ ← label_unused s.names c.label c.at
+  name ← name_of_cross (around_cross outside inside s) c
   axes ← axes_named (around_cross outside inside s) c.points c.at
-  placed_cross outside inside c axes s
+  placed_cross outside inside name c axes s

@@ -4,6 +4,7 @@ pub mod Domains
 pub mod Intersections
 pub mod Items
 pub mod Points
+pub mod CrossNames
 pub mod Crosses
 pub mod Members
 pub mod Scopes

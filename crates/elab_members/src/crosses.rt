@@ -11,9 +11,11 @@ ghost use Rattle.elab_crosses.specs.Axes.{axes_named, sizes_fit};
 ghost use Rattle.elab_crosses.specs.Selections.{crossed};
 ghost use Rattle.elab_crosses.specs.Removal.{bins_of_cross};
 ghost use Rattle.elab_members.specs.Points.{named_point};
-ghost use Rattle.elab_members.specs.Crosses.{cross_name as name_meant, label_unused, implicit_decl as decl_meant, placed, axis_placed, axes_placed, cross_head, cross_decls, with_cross, headed_cross, bins_crossed, named_cross, placed_cross, around_cross, cross as cross_meant};
+ghost use Rattle.elab_members.specs.CrossNames.{around_cross, name_of_cross};
+ghost use Rattle.elab_members.specs.Crosses.{implicit_decl as decl_meant, placed, axis_placed, axes_placed, cross_head, cross_decls, with_cross, headed_cross, bins_crossed, named_cross, placed_cross, cross as cross_meant};
 
 use crate::counts::{Counts, count_bins};
+use crate::cross_names::name_cross;
 use crate::defaults::DefaultNames;
 use crate::items::{Inside, Items, check_room, index_of, infos, keep_item};
 use crate::points::add_named;
@@ -22,7 +24,7 @@ use cov_ground::Memory;
 use cov_options::{Level, Options};
 use cov_tree::{CrossDecl, Expr, List, Name, PointDecl};
 use design_data::{BinInfo, ItemInfo, ItemShape, Remarks};
-use elab_base::{ElabFault, What, check_unused, guard_in};
+use elab_base::{ElabFault, guard_in};
 use elab_crosses::{Axis, Crossed, check_products, cross_bins, name_axes};
 use elab_decls::{Outside, cross_defaults, remarks, set_options};
 use elab_values::{ItemDecls, Made};
@@ -46,33 +48,6 @@ impl Drop for CrossHead {
         drop(name);
         drop(guard);
         drop(options);
-    }
-}
-
-// ---- names
-
-/// The name of a cross behind these items.
-fn name_of(
-    alloc: Global,
-    cross: &CrossDecl,
-    items: &Items,
-    defaults: &mut DefaultNames,
-) -> Result<Name, Memory>
-    ensures { IfOk result (λ name. name ≡ name_meant cross.now.label (length items.now.items)) }
-{
-    match &cross.label {
-        Some(label) => label.share(),
-        None => defaults.cross(alloc, items.items.as_slice().len()),
-    }
-}
-
-/// Refuses a label that an item has.
-fn check_label(names: &NameMap<What>, label: &Option<Name>, at: u32) -> Result<(), ElabFault>
-    ensures { Gives result (label_unused names.now label.now at) }
-{
-    match label {
-        Some(label) => check_unused(names, label, at),
-        None => Ok(()),
     }
 }
 
@@ -410,7 +385,6 @@ fn add_crossed(
     ensures gives { Makes result items.new (named_cross scope.old inside.now name cross.now axes items.old) }
     ensures same { scope.new ≡ scope.old }
 {
-    check_unused(&items.names, &name, cross.at)?;
     let sizes = sizes_of(alloc, items, axes.as_slice(), cross.at)?;
     check_room(&items.counts, cross.at)?;
     add_bins(
@@ -432,26 +406,25 @@ fn add_placed(
     alloc: Global,
     outside: &mut Outside,
     inside: &Inside,
+    name: Name,
     cross: &CrossDecl,
     points: &[Axis],
     items: &mut Items,
-    defaults: &mut DefaultNames,
 ) -> Result<(), ElabFault>
     requires range { AreInRange inside.now.options }
     requires few { HaveFewBins items.old.items }
     requires names { length cross.now.points ≤ most_points }
-    ensures gives { Makes result items.new (placed_cross outside.old inside.now cross.now points.now items.old) }
+    ensures gives { Makes result items.new (placed_cross outside.old inside.now name cross.now points.now items.old) }
     ensures same { outside.new ≡ outside.old }
 {
     let mut axes = List::new(alloc);
     place_points(alloc, outside, inside, cross.at, points, items, &mut axes)?;
-    let name = name_of(alloc, cross, items, defaults)?;
     add_crossed(alloc, &mut outside.scope, inside, name, cross, axes, items)?;
     Ok(())
 }
 
-/// Adds a cross: its label is tried first, then its points, of which implicit ones are added, the name, the number of
-/// products and the number of items; then follow its guard, its options and its bins, which are counted at last.
+/// Adds a cross: its name is tried first, then its points, of which implicit ones are added, the number of products and
+/// the number of items; then follow its guard, its options and its bins, which are counted at last.
 #[tactic(auto, unfolding(crate::specs::Crosses::cross))]
 pub(crate) fn add_cross(
     alloc: Global,
@@ -466,16 +439,16 @@ pub(crate) fn add_cross(
     ensures gives { Makes result items.new (cross_meant outside.old inside.now cross.now items.old) }
     ensures same { outside.new ≡ outside.old }
 {
-    check_label(&items.names, &cross.label, cross.at)?;
+    let name = name_cross(alloc, outside, inside, cross, items, defaults)?;
     let points = points_of(alloc, outside, inside, cross, items)?;
     add_placed(
         alloc,
         outside,
         inside,
+        name,
         cross,
         points.as_slice(),
         items,
-        defaults,
     )?;
     Ok(())
 }

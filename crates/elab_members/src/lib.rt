@@ -5,6 +5,7 @@
 #![tactic(auto)]
 
 mod counts;
+mod cross_names;
 mod crosses;
 mod defaults;
 mod domains;

@@ -1,4 +1,4 @@
-use Rattle.std.proofs.Common.{◌≡◌, ℕ, List, subst, Ok}
+use Rattle.std.proofs.Common.{◌≡◌, subst, Ok}
 use Rattle.std.proofs.lemmas.Result.{err_from_is_err_and}
 use Rattle.elab_base.specs.Gives.{Fails}
 use Rattle.elab_decls.specs.declared.outside.Outside.{Outside}
@@ -12,8 +12,7 @@ returns-in_err-add_crossed-clause-gives c =
     let fault = c.in_err-add_crossed.field-0.0 in
     let axes = c.place_points.new.axes in
     let items = c.place_points.new.items in
-    let scoped = subst (λ (o : Outside). Fails fault (named_cross o.scope c.args.inside.now c.in_ok-name.name c.args.cross.now axes items)) c.place_points.ensures.same c.in_err-add_crossed.ensures.gives in
-    let here = subst (λ (n : List ℕ). Fails fault (named_cross c.args.outside.now.scope c.args.inside.now n c.args.cross.now axes items)) c.in_ok-name.ensures scoped in
+    let here = subst (λ (o : Outside). Fails fault (named_cross o.scope c.args.inside.now c.args.name c.args.cross.now axes items)) c.place_points.ensures.same c.in_err-add_crossed.ensures.gives in
     rw (p.1, p.2, c.in_ok-place_points.ensures.gives) here
 
 pub returns-clause-gives : goal.returns-clause-gives
@@ -21,6 +20,5 @@ unfolding placed_cross
 returns-clause-gives c =
     let axes = c.place_points.new.axes in
     let items = c.place_points.new.items in
-    let scoped = subst (λ (o : Outside). named_cross o.scope c.args.inside.now c.in_ok-name.name c.args.cross.now axes items ≡ Ok c.add_crossed.new.items) c.place_points.ensures.same c.in_ok-add_crossed.ensures.gives in
-    let here = subst (λ (n : List ℕ). named_cross c.args.outside.now.scope c.args.inside.now n c.args.cross.now axes items ≡ Ok c.add_crossed.new.items) c.in_ok-name.ensures scoped in
+    let here = subst (λ (o : Outside). named_cross o.scope c.args.inside.now c.args.name c.args.cross.now axes items ≡ Ok c.add_crossed.new.items) c.place_points.ensures.same c.in_ok-add_crossed.ensures.gives in
     rw (c.in_ok-place_points.ensures.gives) here
