@@ -27,6 +27,9 @@ use Rattle.cov_design.specs.Groups.{group_info, named}
 
 -- ---- the text of a group
 
+-- No text reaches the cases of other declarations below, nor a place behind the text: a group's place is that of its
+-- declaration.
+
 abbrev pub formals_in : Decl → List Formal
 formals_in (decls.Group name formals event args ms at) = formals
 formals_in (decls.Enum name base names at) = []
@@ -59,6 +62,7 @@ members_at text place = option_map_or members_in (slice_get text place) []
 
 -- the place of a group in the text and among so many groups
 unfoldable pub group_meant : ℕ → Option What → ℕ → Result (ℕ × ℕ) Refusal
+-- no text reaches UnknownType here: the groups are counted as they are named
 group_meant groups (Some (what.Group place group)) at = do
   _ ← needs (nat_lt group groups) kind.UnknownType at
   Ok (place, group)

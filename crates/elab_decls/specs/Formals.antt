@@ -49,6 +49,7 @@ is_alike shape typ enumeration = nat_eq typ.width shape.typ.width && (is_same_si
 
 -- the variable that a name stands for, seen with the span of the formal
 abbrev pub variable_meant : Shape → Option Meaning → Option What → ℕ → Result Meaning Refusal
+-- no text reaches this: the argument was bound before, so its name is in scope
 variable_meant shape None named at = Err (kind.RefNotVariable, at)
 variable_meant shape (Some (Const value typ low)) named at = Err (kind.RefNotVariable, at)
 variable_meant shape (Some (Signal index typ low)) named at = do
@@ -86,6 +87,7 @@ argument_or (Some argument) default = Some argument
 argument_or None default = default
 
 abbrev pub given_meant : Outside → Bool → Shape → Option Expr → ℕ → Result Meaning Refusal
+-- no text reaches this: that each formal has an argument or a default was tried before (args_fit, below)
 given_meant outside by_ref shape None at = Err (kind.ArgCount, at)
 given_meant outside by_ref shape (Some e) at = formal_meant outside by_ref shape e
 

@@ -33,7 +33,9 @@ is_number typ v = int_le (lowest typ.width typ.signed) v && int_le v (highest ty
 
 -- the enumeration at a place, whose base is a type
 abbrev pub enumerated : ℕ → Option Enumeration → ℕ → Result Shape Refusal
+-- no text reaches this: a name is that of a type only where its enumeration is there
 enumerated place None at = Err (kind.UnknownType, at)
+-- no text reaches TooWide here: the base of an enumeration has 1 to 64 bits
 enumerated place (Some e) at = do
   _ ← needs (has_width e.typ.width) kind.TooWide at
   Ok (record { typ = e.typ; low = e.low; enumeration = Some place })

@@ -43,6 +43,7 @@ abbrev pub constants_in : Enumeration → List Constant
 constants_in e = map constant_of e.constants
 
 abbrev pub domain_of_enumeration : Typ → Option Enumeration → Domain
+-- no text reaches this: an enumeration by which something is declared stands at its place
 domain_of_enumeration typ None = domain_of_typ typ
 domain_of_enumeration typ (Some e) = domain_of_constants typ (constants_in e)
 

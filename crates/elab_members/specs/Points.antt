@@ -81,7 +81,8 @@ point_decls domain found = record {
 unfoldable pub with_point : Head → Domain → PointBins → Counts → Items → Items
 with_point head domain found counts s = with_item (point_item head found) (point_decls domain found) counts s
 
--- the expression, the guard and the options of a point; each point has 1 to 64 bits
+-- The expression, the guard and the options of a point; each point has 1 to 64 bits. No text reaches TooWide here, since
+-- what is bound has so many.
 unfoldable pub head_of : Outside → Inside → List ℕ → PointDecl → Result Head Refusal
 head_of outside inside name p = do
   expr ← bound_in outside.scope p.expr
