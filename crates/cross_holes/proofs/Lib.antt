@@ -1,0 +1,4 @@
+mod Names
+mod Counting
+mod Joining
+mod Taking

@@ -1,0 +1,3 @@
+pub mod Projected
+pub mod Counts
+pub mod Marks
