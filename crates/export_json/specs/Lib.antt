@@ -1,0 +1,4 @@
+pub mod Export
+pub mod Laws
+pub use Rattle.merge_store.specs.Now
+pub use Rattle.merge_store.specs.Stores

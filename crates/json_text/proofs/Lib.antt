@@ -1,0 +1,4 @@
+pub mod Encoded
+pub mod ReadBack
+pub mod Parts
+pub mod Within

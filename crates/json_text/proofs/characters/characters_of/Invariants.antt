@@ -1,0 +1,7 @@
+-- what is written is that of the bytes that were passed
+use Rattle.std.proofs.Common.{◌≡◌, string_bytes, take}
+use Rattle.std.specs.Str.{encode_utf8_all}
+use Rattle.json_text.proofs.characters.characters_of.Given as goal
+
+abbrev pub invariant-loop-byte : goal.invariant-loop-byte
+invariant-loop-byte l = string_bytes l.text ≡ encode_utf8_all (take l.byte-index l.bytes)
