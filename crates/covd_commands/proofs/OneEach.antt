@@ -1,4 +1,4 @@
--- Told files and a shelf that didn't fail leave one status and one text to `check`, `count` and `record`, and one record or
+-- Told files and a shelf that didn't fail leave one status and one text to `check`, `tables`, `count` and `record`, and one record or
 -- one refusal to where a record comes from.
 use Rattle.std.proofs.Common.{◌≡◌, ℕ, ◌<◌, ◌≤◌, List, length, Some, None, inl, inr, refl, sym, ap, subst, ◌∙◌, arith}
 use Rattle.std.specs.Prelude.{◌⊎◌, Result, Ok, Err}
@@ -19,10 +19,12 @@ use Rattle.cov_ground.specs.Limits.{longest_design, longest_record, most_events}
 use Rattle.cov_tree.specs.declared.declarations.DesignText.{DesignText}
 use Rattle.vcd_reader.specs.DumpFault.{DumpFault}
 use Rattle.vcd_reader.specs.Reading.{longest_dump}
-use Rattle.covd_commands.specs.Lines.{count_text, check_text, IsDesignFaultText, IsDumpFaultText, cannot_read_text, too_long_text}
+use Rattle.covd_commands.specs.Lines.{count_text, IsDesignFaultText, IsDumpFaultText, cannot_read_text, too_long_text}
 use Rattle.covd_commands.specs.Dumps.{HasText, HasMade, IsTextOf, made_of}
 use Rattle.covd_commands.specs.FromFiles.{NotLoaded, NoDesign, HasDesign, HasNoDesign, HasRecord, HasNoRecord, IsRefusedText}
-use Rattle.covd_commands.specs.Commands.{IsCountText, Checks, Counts, Records}
+use Rattle.covd_commands.specs.Commands.{IsCountText, Counts, Records}
+use Rattle.covd_commands.specs.declared.listing.Listing.{Listing}
+use Rattle.covd_commands.specs.Listings.{listing_text, Lists}
 use Rattle.record_codec.proofs.RecordLaws.{same_record}
 use Rattle.covd_commands.specs.Making.{made_fields, made_events, made_size}
 use Rattle.covd_commands.specs.Finding.{Origin, File, Made, Finds, FindsNone, IsTooMuch}
@@ -165,26 +167,26 @@ module _ (all : Told) where
       ]
     ]
 
--- ---- check
+-- ---- listings
 
-module _ (all : Told) where
-  record Lists (d : Design) (s : Status) (text : List ℕ) : Type 0 where
+module _ (all : Told) (listing : Listing) where
+  record IsListing (d : Design) (s : Status) (text : List ℕ) : Type 0 where
     is_status : s ≡ status.Done
-    is_text : text ≡ check_text d
+    is_text : text ≡ listing_text listing d
 
-  lists_one : (d : Design) (s s' : Status) (text text' : List ℕ) → Lists d s text → Lists d s' text' → (s ≡ s') × (text ≡ text')
+  lists_one : (d : Design) (s s' : Status) (text text' : List ℕ) → IsListing d s text → IsListing d s' text' → (s ≡ s') × (text ≡ text')
   lists_one d s s' text text' a b = (a.is_status ∙ sym b.is_status, a.is_text ∙ sym b.is_text)
 
   module _ (design : List ℕ) (before now : ℕ) (calm : Rose before now → ⊥) where
-    check_case : (s : Status) (text : List ℕ) → Checks (Some all) before now design s text → Case all Lists lists_one design s text
-    check_case status.Done text h = inr (inr (record { d = h.0; has = h.1; ends = record { is_status = refl; is_text = h.2 } }))
-    check_case status.DesignRefused text h = inr (inl (record { none = h; is_status = refl }))
-    check_case status.ShelfFault text h = inl (refused all design before now calm longest_design status.ShelfFault text h)
-    check_case status.FileTooLong text h = inl (refused all design before now calm longest_design status.FileTooLong text h)
-    check_case other text h = absurd h
+    list_case : (s : Status) (text : List ℕ) → Lists (Some all) before now listing design s text → Case all IsListing lists_one design s text
+    list_case status.Done text h = inr (inr (record { d = h.0; has = h.1; ends = record { is_status = refl; is_text = h.2 } }))
+    list_case status.DesignRefused text h = inr (inl (record { none = h; is_status = refl }))
+    list_case status.ShelfFault text h = inl (refused all design before now calm longest_design status.ShelfFault text h)
+    list_case status.FileTooLong text h = inl (refused all design before now calm longest_design status.FileTooLong text h)
+    list_case other text h = absurd h
 
-    pub check_one : (s s' : Status) (text text' : List ℕ) → Checks (Some all) before now design s text → Checks (Some all) before now design s' text' → (s ≡ s') × (text ≡ text')
-    check_one s s' text text' h k = case_one all Lists lists_one design s s' text text' (check_case s text h) (check_case s' text' k)
+    pub list_one : (s s' : Status) (text text' : List ℕ) → Lists (Some all) before now listing design s text → Lists (Some all) before now listing design s' text' → (s ≡ s') × (text ≡ text')
+    list_one s s' text text' h k = case_one all IsListing lists_one design s s' text text' (list_case s text h) (list_case s' text' k)
 
 -- ---- count
 

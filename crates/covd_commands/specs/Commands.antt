@@ -12,15 +12,11 @@ use Rattle.covd_commands.specs.declared.status.Status.{Status}
 use Rattle.covd_commands.specs.declared.status.Status.TheVariants as status
 use Rattle.vcd_reader.specs.DumpFault.{DumpFault}
 use Rattle.vcd_reader.specs.Reading.{longest_dump}
-use Rattle.covd_commands.specs.Lines.{count_text, check_text, IsDumpFaultText}
+use Rattle.covd_commands.specs.Lines.{count_text, IsDumpFaultText}
 use Rattle.covd_commands.specs.Dumps.{IsTestId, HasText, HasMade}
 use Rattle.covd_commands.specs.FromFiles.{Files, NotLoaded, HasDesign, HasNoDesign, HasRecord, HasNoRecord}
 
 -- ---- words
-
--- the words are `check` and the design's name
-abbrev pub IsCheckCommand : List (List ℕ) → List ℕ → Type 0
-IsCheckCommand words design = words ≡ codes "check" ∷ design ∷ []
 
 -- the words are `count`, the design's name and the record's
 abbrev pub IsCountCommand : List (List ℕ) → List ℕ → List ℕ → Type 0
@@ -29,9 +25,6 @@ IsCountCommand words design rec = words ≡ codes "count" ∷ design ∷ rec ∷
 -- the words are `record`, the names of the design, the dump and the scope, and the id of the test
 abbrev pub IsRecordCommand : List (List ℕ) → (design dump scope id : List ℕ) → Type 0
 IsRecordCommand words design dump scope id = (words ≡ codes "record" ∷ design ∷ dump ∷ scope ∷ id ∷ []) × IsTestId id
-
-abbrev pub IsNoCheck : List (List ℕ) → Type 0
-IsNoCheck words = (design : List ℕ) → IsCheckCommand words design → ⊥
 
 abbrev pub IsNoCount : List (List ℕ) → Type 0
 IsNoCount words = (design rec : List ℕ) → IsCountCommand words design rec → ⊥
@@ -44,14 +37,6 @@ IsNoRecord words = (design dump scope id : List ℕ) → IsRecordCommand words d
 -- the text of the counts of the record
 abbrev pub IsCountText : Design → Record → List ℕ → Type 0
 IsCountText d r text = (counts : List ℕ) × IsTally d r counts × (text ≡ count_text d r.id counts)
-
--- Status and text of `check DESIGN`: the cause of each status.
-abbrev pub Checks : Files → ℕ → ℕ → List ℕ → Status → List ℕ → Type 0
-Checks files before now design status.Done text = (d : Design) × HasDesign files design d × (text ≡ check_text d)
-Checks files before now design status.DesignRefused text = HasNoDesign files design text
-Checks files before now design status.ShelfFault text = NotLoaded files before now design longest_design status.ShelfFault text
-Checks files before now design status.FileTooLong text = NotLoaded files before now design longest_design status.FileTooLong text
-Checks files before now design other text = ⊥
 
 -- Status and text of `count DESIGN RECORD`: the cause of each status.
 abbrev pub Counts : Files → ℕ → ℕ → List ℕ → List ℕ → Status → List ℕ → Type 0

@@ -1,6 +1,8 @@
 -- The words of the commands that fill a store.
-use Rattle.std.specs.Prelude.{◌≡◌, ℕ, List, [], ◌∷◌, codes, Some}
+use Rattle.std.specs.Prelude.{◌≡◌, ℕ, List, [], ◌∷◌, codes, bytes_eq, Option, Some, None, if◌then◌else◌}
 use Rattle.cov_ground.specs.Limits.{most_tests}
+use Rattle.covd_commands.specs.declared.forms.Form.{Form}
+use Rattle.covd_commands.specs.declared.forms.Form.TheVariants.{Bins, Holes, Json}
 use Rattle.covd_commands.specs.Digits.{written, bounded}
 
 -- rounds of a test, at most
@@ -10,6 +12,20 @@ most_rounds = 1048576
 -- the words are `report`, the design's name and the names of one record or more
 pub record IsReportCommand (words : List (List ℕ)) (design : List ℕ) (names : List (List ℕ)) : Type 0 where
   pub are : words ≡ codes "report" ∷ design ∷ names
+  pub some : names ≡ [] → ⊥
+
+-- the form that a word of `export` names
+abbrev pub form_of : (word : List ℕ) → Option Form
+form_of word =
+    if bytes_eq word (codes "bins") then Some Bins
+    else (if bytes_eq word (codes "holes") then Some Holes
+    else (if bytes_eq word (codes "json") then Some Json else None))
+
+-- the words are `export`, the word of a form, the design's name and the names of one record or more
+pub record IsExportCommand (words : List (List ℕ)) (form : Form) (design : List ℕ) (names : List (List ℕ)) : Type 0 where
+  pub word : List ℕ
+  pub are : words ≡ codes "export" ∷ word ∷ design ∷ names
+  pub is_form : form_of word ≡ Some form
   pub some : names ≡ [] → ⊥
 
 -- The words are `make`, the design's name and three numbers: the seed in one digit to 20, of at most 64 bits; the rounds in
@@ -25,6 +41,9 @@ pub record IsMakeCommand (words : List (List ℕ)) (design : List ℕ) (seed rou
 
 abbrev pub IsNoReport : List (List ℕ) → Type 0
 IsNoReport words = (design : List ℕ) (names : List (List ℕ)) → IsReportCommand words design names → ⊥
+
+abbrev pub IsNoExport : List (List ℕ) → Type 0
+IsNoExport words = (form : Form) (design : List ℕ) (names : List (List ℕ)) → IsExportCommand words form design names → ⊥
 
 abbrev pub IsNoMake : List (List ℕ) → Type 0
 IsNoMake words = (design : List ℕ) (seed rounds tests : ℕ) → IsMakeCommand words design seed rounds tests → ⊥

@@ -1,12 +1,14 @@
 pub mod Ahead
 pub mod Columns
 pub mod Commands
+pub mod DesignTables
 pub mod Digits
 pub mod Dumps
 pub mod Finding
 pub mod Forms
 pub mod FromFiles
 pub mod Lines
+pub mod Listings
 pub mod Making
 pub mod Origins
 pub mod Statuses

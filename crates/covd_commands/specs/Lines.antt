@@ -6,9 +6,9 @@ use Rattle.record_codec.specs.declared.fault.RecordFault.TheVariants.{Short, Bad
 use Rattle.cov_compile.specs.declared.fault.CompileFault.{CompileFault}
 use Rattle.cov_compile.specs.Compiling.{is_memory}
 use Rattle.cov_compile.specs.Faults.{fault_word, fault_place}
+use Rattle.bin_words.specs.Words.{kind_word}
 use Rattle.design_data.specs.declared.design.Design.{Design}
 use Rattle.design_data.specs.declared.infos.BinKind.{BinKind}
-use Rattle.design_data.specs.declared.infos.BinKind.TheVariants.{CvgBin, IllegalBin, IgnoreBin, DefaultBin}
 use Rattle.ucis_model.specs.declared.node.Node.{Node}
 use Rattle.ucis_model.specs.declared.node.NodeKind.{NodeKind}
 use Rattle.ucis_model.specs.declared.node.NodeKind.TheVariants as node_kinds
@@ -19,13 +19,6 @@ use Rattle.vcd_reader.specs.DumpFault.TheVariants as dumping
 
 abbrev pub newline : List ℕ
 newline = 10 ∷ []
-
--- the word of a bin's kind
-abbrev pub kind_word : BinKind → List ℕ
-kind_word CvgBin = codes "CVGBIN"
-kind_word IllegalBin = codes "ILLEGALBIN"
-kind_word IgnoreBin = codes "IGNOREBIN"
-kind_word DefaultBin = codes "DEFAULTBIN"
 
 abbrev pub count_at : Option ℕ → ℕ
 count_at None = 0

@@ -2,7 +2,7 @@
 ghost use Rattle.std.specs.Prelude.{◌≡◌, ◌∷◌, [], ℕ, Some, List, map, string_bytes, codes, IfSome, MatchOption};
 ghost use Rattle.cov_ground.specs.Limits.{most_tests};
 ghost use Rattle.covd_commands.specs.Digits.{written as written_meant, bounded as bounded_meant};
-ghost use Rattle.covd_commands.specs.Forms.{most_rounds, IsReportCommand, IsNoReport, IsMakeCommand, IsNoMake};
+ghost use Rattle.covd_commands.specs.Forms.{form_of as form_meant, most_rounds, IsReportCommand, IsNoReport, IsExportCommand, IsNoExport, IsMakeCommand, IsNoMake};
 
 use crate::numbers::{rounds_of, seed_of, tests_of};
 
@@ -29,6 +29,51 @@ pub fn report_words(words: &[String]) -> Option<(&str, &[String])>
         return None;
     }
     Some((design, names))
+}
+
+/// The form in which a store is shown.
+#[derive(Clone, Copy, PartialEq, Eq)]
+pub enum Form {
+    /// The report: tests, coverage, illegal hits and the ranking.
+    Report,
+    /// A line for each bin.
+    Bins,
+    /// The bins that are not covered, item by item.
+    Holes,
+    /// One object of JSON (RFC 8259).
+    Json,
+}
+
+/// The form that a word of `export` names.
+fn form_of(word: &str) -> Option<Form>
+    ensures { result ≡ form_meant word.now }
+{
+    if word == "bins" {
+        return Some(Form::Bins);
+    }
+    if word == "holes" {
+        return Some(Form::Holes);
+    }
+    if word == "json" {
+        return Some(Form::Json);
+    }
+    None
+}
+
+/// The form, the design's name and the records' of `export`.
+pub fn export_words(words: &[String]) -> Option<(Form, &str, &[String])>
+    ensures { MatchOption result (IsNoExport (map string_bytes words.now))
+        (λ parts. IsExportCommand (map string_bytes words.now) parts.0 parts.1.now (map string_bytes parts.2.now)) }
+{
+    let (word, rest) = behind("export", words)?;
+    let (design, names) = rest.split_first()?;
+    if names.is_empty() {
+        return None;
+    }
+    match form_of(word) {
+        Some(form) => Some((form, design.as_str(), names)),
+        None => None,
+    }
 }
 
 /// What `make` is to make.

@@ -3,26 +3,16 @@ ghost use Rattle.std.specs.Prelude.{◌≡◌, ◌++◌, ◌+◌, ◌<◌, lengt
 ghost use Rattle.std.specs.List.{flat_map};
 ghost use Rattle.ucis_model.specs.Paths.{below};
 ghost use Rattle.covd_commands.specs.Columns.{counts_of};
-ghost use Rattle.covd_commands.specs.Lines.{kind_word, count_at, count_column, bin_line, design_lines, count_text, check_text, number_line};
+ghost use Rattle.covd_commands.specs.Lines.{count_at, count_column, bin_line, design_lines, count_text, check_text, number_line};
 ghost use Rattle.covd_commands.specs.Walks.{bin_lines, item_lines, instance_lines, lines_of_instance, group_lines, lines_from};
 
 use crate::texts::append_count;
 use appending::{append, append_number};
+use bin_words::kind_word;
 use cov_base::Memory;
 use cov_tree::Name;
-use design_data::{BinInfo, BinKind, Design, GroupInfo, InstInfo, ItemInfo};
+use design_data::{BinInfo, Design, GroupInfo, InstInfo, ItemInfo};
 use std::alloc::Global;
-
-fn kind_name(kind: BinKind) -> &'static str
-    ensures { result.now ≡ kind_word kind }
-{
-    match kind {
-        BinKind::CvgBin => "CVGBIN",
-        BinKind::IllegalBin => "ILLEGALBIN",
-        BinKind::IgnoreBin => "IGNOREBIN",
-        BinKind::DefaultBin => "DEFAULTBIN",
-    }
-}
 
 /// Whether a line has a count, and the counts of all bins.
 #[derive(Drop)]
@@ -86,7 +76,7 @@ fn append_bin(
     append(text, b"bin ")?;
     append_number(text, number)?;
     append(text, b" ")?;
-    append(text, kind_name(bin.kind).as_bytes())?;
+    append(text, kind_word(bin.kind).as_bytes())?;
     append_column(text, column, number)?;
     append(text, b" ")?;
     append_below(text, path, &bin.name)?;

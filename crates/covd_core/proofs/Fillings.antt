@@ -12,8 +12,10 @@ use Rattle.covd_commands.specs.declared.status.Status.TheVariants as status
 use Rattle.covd_core.specs.Admission.{behind}
 use Rattle.covd_commands.specs.FromFiles.{Files, NotLoaded, NoDesign}
 use Rattle.covd_commands.specs.Finding.{Origin, File, Made, Finds, FindsNone, IsFound}
-use Rattle.covd_core.specs.Command.{NotTaken, Fills, Reports, FillAnswers}
-use Rattle.covd_core.specs.Filling.{Admits, Takes, Leads, IsFilled}
+use Rattle.covd_commands.specs.declared.forms.Form.{Form}
+use Rattle.covd_commands.specs.declared.forms.Form.TheVariants as form
+use Rattle.covd_core.specs.Command.{Shown, form_text, NotTaken, Fills, Reports, FillAnswers}
+use Rattle.covd_core.specs.Filling.{Admits, Takes, Leads, IsFilled, IsStored}
 use Rattle.covd_commands.proofs.Unread.{not_loaded}
 
 -- ---- statuses that no text of these commands has
@@ -48,20 +50,23 @@ module _ {s : Status} (never : Never s) where
   none_never files before now d k (File name) text a = elim a [ inl b ↦ never.unloaded files before now name longest_record text b | inr b ↦ never.refused b.0 ]
   none_never files before now d k (Made seed rounds) text a = never.unadmitted a.0
 
-  fills_never : (files : Files) (before now : ℕ) (d : Design) (origins : List Origin) (k : ℕ) (h : List Entry) (text : List ℕ) → Fills files before now d k h origins s text → ⊥
-  fills_never files before now d [] k h text a = never.done a.0
-  fills_never files before now d (origin ∷ later) k h text a = elim a [
+  fills_never : (shown : Shown) (files : Files) (before now : ℕ) (d : Design) (origins : List Origin) (k : ℕ) (h : List Entry) (text : List ℕ) → Fills shown files before now d k h origins s text → ⊥
+  fills_never shown files before now d [] k h text a = never.done a.0
+  fills_never shown files before now d (origin ∷ later) k h text a = elim a [
     | inl x ↦ elim x [ inl b ↦ none_never files before now d k origin text b | inr b ↦ never.unadmitted b.2 ]
-    | inr x ↦ fills_never files before now d later (k + 1) (behind d h x.0) text x.3
+    | inr x ↦ fills_never shown files before now d later (k + 1) (behind d h x.0) text x.3
   ]
 
-  reports_never : (files : Files) (before now : ℕ) (design : List ℕ) (origins : List Origin) (text : List ℕ) → Reports files before now design origins s text → ⊥
-  reports_never files before now design origins text a = elim a [ inl b ↦ never.no_design files before now design text b | inr b ↦ fills_never files before now b.0 origins 1 [] text b.2 ]
+  reports_never : (files : Files) (before now : ℕ) (form : Form) (design : List ℕ) (origins : List Origin) (text : List ℕ) → Reports files before now form design origins s text → ⊥
+  reports_never files before now form design origins text a = elim a [ inl b ↦ never.no_design files before now design text b | inr b ↦ fills_never (form_text form b.1.text) files before now b.0 origins 1 [] text b.2 ]
 
   pub no_answer : (words : List (List ℕ)) (files : Files) (before now : ℕ) (text : List ℕ) → FillAnswers words files before now s text → ⊥
   no_answer words files before now text a = elim a [
-    | inl x ↦ reports_never files before now x.0 (map File x.1) text x.3
-    | inr x ↦ reports_never files before now x.0 (replicate x.3 (Made x.1 x.2)) text x.5
+    | inl x ↦ reports_never files before now form.Report x.0 (map File x.1) text x.3
+    | inr y ↦ elim y [
+      | inl x ↦ reports_never files before now x.0 x.1 (map File x.2) text x.4
+      | inr x ↦ reports_never files before now form.Report x.0 (replicate x.3 (Made x.1 x.2)) text x.5
+    ]
   ]
 
 -- ---- one record
@@ -88,36 +93,41 @@ not_taken_from : (files : Files) (before middle now : ℕ) (d : Design) (k : ℕ
 not_taken_from files before middle now d k h origin s text le n = elim n [ inl a ↦ inl (none_from files before middle now d k origin s text le a) | inr a ↦ inr a ]
 
 -- the answer where the count of faults is looked at from an earlier time
-pub fills_from : (files : Files) (before middle now : ℕ) (d : Design) (origins : List Origin) (k : ℕ) (h : List Entry) (s : Status) (text : List ℕ) → before ≤ middle → Fills files middle now d k h origins s text → Fills files before now d k h origins s text
-fills_from files before middle now d [] k h s text le f = f
-fills_from files before middle now d (origin ∷ later) k h s text le f = elim f [
+pub fills_from : (shown : Shown) (files : Files) (before middle now : ℕ) (d : Design) (origins : List Origin) (k : ℕ) (h : List Entry) (s : Status) (text : List ℕ) → before ≤ middle → Fills shown files middle now d k h origins s text → Fills shown files before now d k h origins s text
+fills_from shown files before middle now d [] k h s text le f = f
+fills_from shown files before middle now d (origin ∷ later) k h s text le f = elim f [
   | inl a ↦ inl (not_taken_from files before middle now d k h origin s text le a)
-  | inr a ↦ inr (a.0, a.1, a.2, fills_from files before middle now d later (k + 1) (behind d h a.0) s text le a.3)
+  | inr a ↦ inr (a.0, a.1, a.2, fills_from shown files before middle now d later (k + 1) (behind d h a.0) s text le a.3)
 ]
 
--- what becomes of the records from here on is the answer
+-- what becomes of the records from here on is the answer, whatever is shown at the end
 pub record SoFar (files : Files) (before : ℕ) (d : Design) (origins : List Origin) (k : ℕ) (h : List Entry) (rest : List Origin) : Type 0 where
-  pub leads : (now : ℕ) (s : Status) (text : List ℕ) → Fills files before now d k h rest s text → Fills files before now d 1 [] origins s text
+  pub leads : (shown : Shown) (now : ℕ) (s : Status) (text : List ℕ) → Fills shown files before now d k h rest s text → Fills shown files before now d 1 [] origins s text
 
 module _ (files : Files) (before : ℕ) (d : Design) (origins : List Origin) where
   pub begins : (h : List Entry) → h ≡ [] → SoFar files before d origins 1 h origins
-  begins h e = record { leads = λ now s text f. subst (λ (x : List Entry). Fills files before now d 1 x origins s text) e f }
+  begins h e = record { leads = λ shown now s text f. subst (λ (x : List Entry). Fills shown files before now d 1 x origins s text) e f }
 
   module _ (k : ℕ) (h : List Entry) (rest : List Origin) (so : SoFar files before d origins k h rest) where
     -- the next record is taken in
     pub goes_on : (middle now : ℕ) (after : List Entry) (origin : Origin) (later : List Origin) → rest ≡ origin ∷ later → Takes files middle now d k h origin after (Ok tt) → SoFar files before d origins (k + 1) after later
     goes_on middle now after origin later e t = record {
-      leads = λ last s text f.
-          let g : Fills files before last d (k + 1) (behind d h t.0) later s text = subst (λ (x : List Entry). Fills files before last d (k + 1) x later s text) t.3 f in
-          so.leads last s text (subst (λ (xs : List Origin). Fills files before last d k h xs s text) (sym e) (inr (t.0, t.1, t.2, g)));
+      leads = λ shown last s text f.
+          let g : Fills shown files before last d (k + 1) (behind d h t.0) later s text = subst (λ (x : List Entry). Fills shown files before last d (k + 1) x later s text) t.3 f in
+          so.leads shown last s text (subst (λ (xs : List Origin). Fills shown files before last d k h xs s text) (sym e) (inr (t.0, t.1, t.2, g)));
     }
 
     -- it isn't
     pub stops : (middle now : ℕ) (after : List Entry) (origin : Origin) (later : List Origin) → before ≤ middle → rest ≡ origin ∷ later → (stop : Stop) → Takes files middle now d k h origin after (Err stop) → (last : List Entry) → IsFilled files before now d origins last (Err stop)
-    stops middle now after origin later le e (Refused a) t last =
-        so.leads now a.status a.text.items (subst (λ (xs : List Origin). Fills files before now d k h xs a.status a.text.items) (sym e) (inl (not_taken_from files before middle now d k h origin a.status a.text.items le t)))
+    stops middle now after origin later le e (Refused a) t last = λ shown.
+        so.leads shown now a.status a.text.items (subst (λ (xs : List Origin). Fills shown files before now d k h xs a.status a.text.items) (sym e) (inl (not_taken_from files before middle now d k h origin a.status a.text.items le t)))
     stops middle now after origin later le e Memory t last = tt
 
     -- no record is left
     pub ends : rest ≡ [] → Leads files before d origins h
-    ends e = record { ends = λ now s text p. so.leads now s text (subst (λ (xs : List Origin). Fills files before now d k h xs s text) (sym e) p) }
+    ends e = record { ends = λ shown now s text p. so.leads shown now s text (subst (λ (xs : List Origin). Fills shown files before now d k h xs s text) (sym e) p) }
+
+-- a store that isn't filled isn't handed over
+pub unfilled : (files : Files) (before now : ℕ) (d : Design) (origins : List Origin) (after : List Entry) (stop : Stop) → IsFilled files before now d origins after (Err stop) → IsStored files before now d origins (Err stop)
+unfilled files before now d origins after (Refused a) f = f
+unfilled files before now d origins after Memory f = tt

@@ -6,4 +6,5 @@ pub mod Grown
 pub mod Leaving
 pub mod OneAnswer
 pub mod OneDesign
+pub mod Openings
 pub mod Unserved

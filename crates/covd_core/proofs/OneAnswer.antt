@@ -1,5 +1,5 @@
 -- Told files and a shelf that didn't fail leave one status and one text to the words.
-use Rattle.std.proofs.Common.{◌≡◌, ℕ, ◌+◌, List, [], ◌∷◌, length, map, Some, None, inl, inr, sym, ap, subst, ◌∙◌, arith}
+use Rattle.std.proofs.Common.{◌≡◌, ℕ, ◌+◌, List, [], ◌∷◌, length, map, Some, None, inl, inr, refl, sym, ap, subst, ◌∙◌, arith}
 use Rattle.std.specs.Prelude.{slice_index, replicate, codes}
 use Rattle.cov_spec.specs.Causes.{Rose}
 use Rattle.record_codec.specs.declared.record.Record.{Record}
@@ -8,16 +8,21 @@ use Rattle.covd_commands.specs.declared.status.Status.{Status}
 use Rattle.covd_commands.specs.declared.status.Status.TheVariants as status
 use Rattle.covd_commands.specs.Lines.{bad_words_text}
 use Rattle.covd_commands.specs.FromFiles.{Files}
-use Rattle.covd_commands.specs.Commands.{IsCheckCommand, IsCountCommand, IsRecordCommand, Checks, Counts, Records}
-use Rattle.covd_core.specs.Command.{IsNoCommand, Answers, HasOneAnswer, NotTaken, Fills, Reports}
+use Rattle.cov_spec.specs.Files.{file_of}
+use Rattle.covd_commands.specs.declared.forms.Form.{Form}
+use Rattle.covd_commands.specs.declared.forms.Form.TheVariants as form
+use Rattle.covd_commands.specs.declared.listing.Listing.{Listing}
+use Rattle.covd_commands.specs.Listings.{listing_of, IsListCommand, Lists}
+use Rattle.covd_commands.specs.Commands.{IsCountCommand, IsRecordCommand, Counts, Records}
+use Rattle.covd_core.specs.Command.{Shown, form_text, IsNoCommand, Answers, HasOneAnswer, NotTaken, Fills, Reports}
 use Rattle.cov_history.specs.declared.entry.Entry.{Entry}
 use Rattle.covd_commands.specs.Digits.{written, bounded}
-use Rattle.covd_commands.specs.Forms.{IsReportCommand, IsMakeCommand}
+use Rattle.covd_commands.specs.Forms.{form_of, IsReportCommand, IsExportCommand, IsMakeCommand}
 use Rattle.covd_core.specs.Admission.{admission, behind}
 use Rattle.covd_commands.specs.Unadmitted.{refusal_line}
 use Rattle.covd_commands.specs.Finding.{Origin, File, Made, Finds, FindsNone}
 use Rattle.covd_commands.proofs.Refusals.{IsReading}
-use Rattle.covd_commands.proofs.OneEach.{Told, Family, IsOne, AreApart, Either, either_one, apart_both, with_one, check_one, count_one, record_one_answer, unfound_one, found_one, found_or_not}
+use Rattle.covd_commands.proofs.OneEach.{Told, Family, IsOne, AreApart, Either, either_one, apart_both, WithDesign, with_one, list_one, count_one, record_one_answer, unfound_one, found_one, found_or_not}
 
 -- ---- records of a store
 
@@ -51,23 +56,40 @@ module _ (spells : IsReading) (all : Told) (before now : ℕ) (calm : Rose befor
           cc (e, f)
     ]
 
-  fills_one : (origins : List Origin) (k : ℕ) (h : List Entry) → IsOne (Fills (Some all) before now d k h origins)
-  fills_one [] k h s s' text text' a b = (a.0 ∙ sym b.0, a.1 ∙ sym b.1)
-  fills_one (origin ∷ later) k h s s' text text' a b = elim a [
+  fills_one : (shown : Shown) (origins : List Origin) (k : ℕ) (h : List Entry) → IsOne (Fills shown (Some all) before now d k h origins)
+  fills_one shown [] k h s s' text text' a b = (a.0 ∙ sym b.0, a.1 ∙ sym b.1)
+  fills_one shown (origin ∷ later) k h s s' text text' a b = elim a [
     | inl x ↦ elim b [ inl y ↦ not_taken_one k h origin s s' text text' x y | inr y ↦ absurd (taken k h origin s text y.0 y.1 y.2 x) ]
     | inr x ↦ elim b [
       | inl y ↦ absurd (taken k h origin s' text' x.0 x.1 x.2 y)
       | inr y ↦
           let same = found_one spells all before now calm d k origin y.0 x.0 y.1 x.1 in
-          fills_one later (k + 1) (behind d h x.0) s s' text text' x.3 (subst (λ (r : Record). Fills (Some all) before now d (k + 1) (behind d h r) later s' text') same y.3)
+          fills_one shown later (k + 1) (behind d h x.0) s s' text text' x.3 (subst (λ (r : Record). Fills shown (Some all) before now d (k + 1) (behind d h r) later s' text') same y.3)
     ]
   ]
 
--- ---- report and make
+-- ---- report, export and make
 
-module _ (spells : IsReading) (all : Told) (design : List ℕ) (before now : ℕ) (calm : Rose before now → ⊥) where
-  report_one : (origins : List Origin) → IsOne (Reports (Some all) before now design origins)
-  report_one origins = with_one all design before now calm (λ d s text. Fills (Some all) before now d 1 [] origins s text) (λ d. fills_one spells all before now calm d origins 1 [])
+module _ (spells : IsReading) (all : Told) (form : Form) (design : List ℕ) (before now : ℕ) (calm : Rose before now → ⊥) (origins : List Origin) where
+  -- how the command ends with the design, whose file is this text
+  pub record Shows (d : Design) (s : Status) (text : List ℕ) : Type 0 where
+    source : List ℕ
+    file : file_of all design ≡ Some source
+    fills : Fills (form_text form source) (Some all) before now d 1 [] origins s text
+
+  same_source : (a b : List ℕ) → file_of all design ≡ Some a → file_of all design ≡ Some b → a ≡ b
+  same_source a b e f = cc (e, f)
+
+  shows_one : (d : Design) → IsOne (Shows d)
+  shows_one d s s' text text' a b =
+      let fills = subst (λ (x : List ℕ). Fills (form_text form x) (Some all) before now d 1 [] origins s text) (same_source a.source b.source a.file b.file) a.fills in
+      fills_one spells all before now calm d (form_text form b.source) origins 1 [] s s' text text' fills b.fills
+
+  with_text : (s : Status) (text : List ℕ) → Reports (Some all) before now form design origins s text → WithDesign all design before now calm Shows shows_one s text
+  with_text s text h = elim h [ inl a ↦ inl a | inr a ↦ inr (a.0, a.1, record { source = a.1.text; file = a.1.file; fills = a.2 }) ]
+
+  report_one : IsOne (Reports (Some all) before now form design origins)
+  report_one s s' text text' h k = with_one all design before now calm Shows shows_one s s' text text' (with_text s text h) (with_text s' text' k)
 
 -- ---- the words
 
@@ -78,16 +100,31 @@ same_some m n e = cc
 no_report : codes "record" ≡ codes "report" → ⊥
 no_report e = let third : 99 ≡ 112 = ap (λ (word : List ℕ). slice_index word 2) e in omega (arith, third)
 
+-- and `export` begins otherwise than both
+no_export_record : codes "record" ≡ codes "export" → ⊥
+no_export_record e = let first : 114 ≡ 101 = ap (λ (word : List ℕ). slice_index word 0) e in omega (arith, first)
+
+no_export_report : codes "report" ≡ codes "export" → ⊥
+no_export_report e = let first : 114 ≡ 101 = ap (λ (word : List ℕ). slice_index word 0) e in omega (arith, first)
+
 -- words of two commands
 other_command : (a b : List ℕ) (xs ys words : List (List ℕ)) → (a ≡ b → ⊥) → words ≡ a ∷ xs → words ≡ b ∷ ys → ⊥
 other_command a b xs ys words apart e f = let same : a ≡ b = cc (e, f) in apart same
+
+-- a word that lists nothing begins no listing
+list_apart : (word : List ℕ) (rest words : List (List ℕ)) (listing : Listing) (design : List ℕ) → listing_of word ≡ None → IsListCommand words listing design → words ≡ word ∷ rest → ⊥
+list_apart word rest words listing design none l e =
+    let same : l.word ≡ word = cc (l.are, e) in
+    let lists = l.lists in
+    let given : listing_of l.word ≡ None = ap listing_of same ∙ none in
+    cc (lists, given)
 
 module _ (spells : IsReading) (words : List (List ℕ)) (all : Told) (before now : ℕ) (calm : Rose before now → ⊥) where
   abbrev NoCommand : Family
   NoCommand s text = IsNoCommand words × (s ≡ status.BadWords) × (text ≡ bad_words_text)
 
-  abbrev CheckCommand : Family
-  CheckCommand s text = (design : List ℕ) × IsCheckCommand words design × Checks (Some all) before now design s text
+  abbrev ListCommand : Family
+  ListCommand s text = (listing : Listing) × (design : List ℕ) × IsListCommand words listing design × Lists (Some all) before now listing design s text
 
   abbrev CountCommand : Family
   CountCommand s text = (design rec : List ℕ) × IsCountCommand words design rec × Counts (Some all) before now design rec s text
@@ -96,18 +133,30 @@ module _ (spells : IsReading) (words : List (List ℕ)) (all : Told) (before now
   RecordCommand s text = (design dump scope id : List ℕ) × IsRecordCommand words design dump scope id × Records (Some all) before now design dump scope id s text
 
   abbrev ReportCommand : Family
-  ReportCommand s text = (design : List ℕ) × (names : List (List ℕ)) × IsReportCommand words design names × Reports (Some all) before now design (map File names) s text
+  ReportCommand s text = (design : List ℕ) × (names : List (List ℕ)) × IsReportCommand words design names × Reports (Some all) before now form.Report design (map File names) s text
+
+  abbrev ExportCommand : Family
+  ExportCommand s text = (form : Form) × (design : List ℕ) × (names : List (List ℕ)) × IsExportCommand words form design names × Reports (Some all) before now form design (map File names) s text
 
   abbrev MakeCommand : Family
-  MakeCommand s text = (design : List ℕ) × (seed rounds tests : ℕ) × IsMakeCommand words design seed rounds tests × Reports (Some all) before now design (replicate tests (Made seed rounds)) s text
+  MakeCommand s text = (design : List ℕ) × (seed rounds tests : ℕ) × IsMakeCommand words design seed rounds tests × Reports (Some all) before now form.Report design (replicate tests (Made seed rounds)) s text
 
   none_one : IsOne NoCommand
   none_one s s' text text' a b = (a.1 ∙ sym b.1, a.2 ∙ sym b.2)
 
-  checks_one : IsOne CheckCommand
-  checks_one s s' text text' a b =
-      let same : b.0 ≡ a.0 = cc (a.1, b.1) in
-      check_one all a.0 before now calm s s' text text' a.2 (subst (λ (d : List ℕ). Checks (Some all) before now d s' text') same b.2)
+  lists_one : IsOne ListCommand
+  lists_one s s' text text' a b =
+      let l = a.2 in
+      let m = b.2 in
+      let e = l.are in
+      let f = m.are in
+      let lists = l.lists in
+      let word : m.word ≡ l.word = cc (e, f) in
+      let other : listing_of l.word ≡ Some b.0 = ap listing_of (sym word) ∙ m.lists in
+      let one : b.0 ≡ a.0 = cc (lists, other) in
+      let two : b.1 ≡ a.1 = cc (e, f) in
+      let k : Lists (Some all) before now a.0 a.1 s' text' = rw (sym one, sym two) b.3 in
+      list_one all a.0 a.1 before now calm s s' text text' a.3 k
 
   counts_one : IsOne CountCommand
   counts_one s s' text text' a b =
@@ -127,17 +176,17 @@ module _ (spells : IsReading) (words : List (List ℕ)) (all : Told) (before now
       let k : Records (Some all) before now a.0 a.1 a.2 a.3 s' text' = rw (sym one, sym two, sym three, sym four) b.5 in
       record_one_answer all a.0 a.1 a.2 a.3 before now calm s s' text text' a.5 k
 
-  check_or_count : AreApart CheckCommand CountCommand
-  check_or_count s s' text text' a b = let n : length words ≡ 2 = ap length a.1 in let m : length words ≡ 3 = ap length b.2 in omega arith
+  list_or_count : AreApart ListCommand CountCommand
+  list_or_count s s' text text' a b = list_apart (codes "count") (b.0 ∷ b.1 ∷ []) words a.0 a.1 refl a.2 b.2
 
-  check_or_record : AreApart CheckCommand RecordCommand
-  check_or_record s s' text text' a b = let n : length words ≡ 2 = ap length a.1 in let m : length words ≡ 5 = ap length b.4.0 in omega arith
+  list_or_record : AreApart ListCommand RecordCommand
+  list_or_record s s' text text' a b = list_apart (codes "record") (b.0 ∷ b.1 ∷ b.2 ∷ b.3 ∷ []) words a.0 a.1 refl a.2 b.4.0
 
   count_or_record : AreApart CountCommand RecordCommand
   count_or_record s s' text text' a b = let n : length words ≡ 3 = ap length a.2 in let m : length words ≡ 5 = ap length b.4.0 in omega arith
 
-  none_or_check : AreApart NoCommand CheckCommand
-  none_or_check s s' text text' a b = a.0.0 b.0 b.1
+  none_or_list : AreApart NoCommand ListCommand
+  none_or_list s s' text text' a b = a.0.0 b.0 b.1 b.2
 
   none_or_count : AreApart NoCommand CountCommand
   none_or_count s s' text text' a b = a.0.1 b.0 b.1 b.2
@@ -151,8 +200,23 @@ module _ (spells : IsReading) (words : List (List ℕ)) (all : Told) (before now
       let f = b.2.are in
       let one : b.0 ≡ a.0 = cc (e, f) in
       let two : b.1 ≡ a.1 = cc (e, f) in
-      let k : Reports (Some all) before now a.0 (map File a.1) s' text' = rw (sym one, sym two) b.3 in
-      report_one spells all a.0 before now calm (map File a.1) s s' text text' a.3 k
+      let k : Reports (Some all) before now form.Report a.0 (map File a.1) s' text' = rw (sym one, sym two) b.3 in
+      report_one spells all form.Report a.0 before now calm (map File a.1) s s' text text' a.3 k
+
+  exports_one : IsOne ExportCommand
+  exports_one s s' text text' a b =
+      let l = a.3 in
+      let m = b.3 in
+      let e = l.are in
+      let f = m.are in
+      let forms = l.is_form in
+      let word : m.word ≡ l.word = cc (e, f) in
+      let other : form_of l.word ≡ Some b.0 = ap form_of (sym word) ∙ m.is_form in
+      let one : b.0 ≡ a.0 = cc (forms, other) in
+      let two : b.1 ≡ a.1 = cc (e, f) in
+      let three : b.2 ≡ a.2 = cc (e, f) in
+      let k : Reports (Some all) before now a.0 a.1 (map File a.2) s' text' = rw (sym one, sym two, sym three) b.4 in
+      report_one spells all a.0 a.1 before now calm (map File a.2) s s' text text' a.4 k
 
   makes_one_report : IsOne MakeCommand
   makes_one_report s s' text text' a b =
@@ -167,23 +231,32 @@ module _ (spells : IsReading) (words : List (List ℕ)) (all : Told) (before now
       let two : b.1 ≡ a.1 = same_some _ _ (sym n.seed_is ∙ ap (written 20) seeds ∙ m.seed_is) in
       let three : b.2 ≡ a.2 = same_some _ _ (sym n.rounds_are ∙ ap (λ (word : List ℕ). bounded 0 1048576 (written 7 word)) rounds ∙ m.rounds_are) in
       let four : b.3 ≡ a.3 = same_some _ _ (sym n.tests_are ∙ ap (λ (word : List ℕ). bounded 1 4096 (written 4 word)) tests ∙ m.tests_are) in
-      let k : Reports (Some all) before now a.0 (replicate a.3 (Made a.1 a.2)) s' text' = rw (sym one, sym two, sym three, sym four) b.5 in
-      report_one spells all a.0 before now calm (replicate a.3 (Made a.1 a.2)) s s' text text' a.5 k
+      let k : Reports (Some all) before now form.Report a.0 (replicate a.3 (Made a.1 a.2)) s' text' = rw (sym one, sym two, sym three, sym four) b.5 in
+      report_one spells all form.Report a.0 before now calm (replicate a.3 (Made a.1 a.2)) s s' text text' a.5 k
 
   none_or_report : AreApart NoCommand ReportCommand
   none_or_report s s' text text' a b = a.0.3 b.0 b.1 b.2
 
+  none_or_export : AreApart NoCommand ExportCommand
+  none_or_export s s' text text' a b = a.0.4 b.0 b.1 b.2 b.3
+
   none_or_make : AreApart NoCommand MakeCommand
-  none_or_make s s' text text' a b = a.0.4 b.0 b.1 b.2 b.3 b.4
+  none_or_make s s' text text' a b = a.0.5 b.0 b.1 b.2 b.3 b.4
 
-  check_or_report : AreApart CheckCommand ReportCommand
-  check_or_report s s' text text' a b = other_command (codes "check") (codes "report") (a.0 ∷ []) _ words (λ e. absurd (cc e)) a.1 b.2.are
+  list_or_report : AreApart ListCommand ReportCommand
+  list_or_report s s' text text' a b = list_apart (codes "report") (b.0 ∷ b.1) words a.0 a.1 refl a.2 b.2.are
 
-  check_or_make : AreApart CheckCommand MakeCommand
-  check_or_make s s' text text' a b = other_command (codes "check") (codes "make") (a.0 ∷ []) _ words (λ e. absurd (cc e)) a.1 b.4.are
+  list_or_export : AreApart ListCommand ExportCommand
+  list_or_export s s' text text' a b = list_apart (codes "export") (b.3.word ∷ b.1 ∷ b.2) words a.0 a.1 refl a.2 b.3.are
+
+  list_or_make : AreApart ListCommand MakeCommand
+  list_or_make s s' text text' a b = list_apart (codes "make") (b.0 ∷ b.4.seed_word ∷ b.4.rounds_word ∷ b.4.tests_word ∷ []) words a.0 a.1 refl a.2 b.4.are
 
   count_or_report : AreApart CountCommand ReportCommand
   count_or_report s s' text text' a b = other_command (codes "count") (codes "report") (a.0 ∷ a.1 ∷ []) _ words (λ e. absurd (cc e)) a.2 b.2.are
+
+  count_or_export : AreApart CountCommand ExportCommand
+  count_or_export s s' text text' a b = other_command (codes "count") (codes "export") (a.0 ∷ a.1 ∷ []) _ words (λ e. absurd (cc e)) a.2 b.3.are
 
   count_or_make : AreApart CountCommand MakeCommand
   count_or_make s s' text text' a b = other_command (codes "count") (codes "make") (a.0 ∷ a.1 ∷ []) _ words (λ e. absurd (cc e)) a.2 b.4.are
@@ -191,36 +264,54 @@ module _ (spells : IsReading) (words : List (List ℕ)) (all : Told) (before now
   record_or_report : AreApart RecordCommand ReportCommand
   record_or_report s s' text text' a b = other_command (codes "record") (codes "report") (a.0 ∷ a.1 ∷ a.2 ∷ a.3 ∷ []) _ words no_report a.4.0 b.2.are
 
+  record_or_export : AreApart RecordCommand ExportCommand
+  record_or_export s s' text text' a b = other_command (codes "record") (codes "export") (a.0 ∷ a.1 ∷ a.2 ∷ a.3 ∷ []) _ words no_export_record a.4.0 b.3.are
+
   record_or_make : AreApart RecordCommand MakeCommand
   record_or_make s s' text text' a b = other_command (codes "record") (codes "make") (a.0 ∷ a.1 ∷ a.2 ∷ a.3 ∷ []) _ words (λ e. absurd (cc e)) a.4.0 b.4.are
+
+  report_or_export : AreApart ReportCommand ExportCommand
+  report_or_export s s' text text' a b = other_command (codes "report") (codes "export") (a.0 ∷ a.1) _ words no_export_report a.2.are b.3.are
 
   report_or_make : AreApart ReportCommand MakeCommand
   report_or_make s s' text text' a b = other_command (codes "report") (codes "make") (a.0 ∷ a.1) _ words (λ e. absurd (cc e)) a.2.are b.4.are
 
+  export_or_make : AreApart ExportCommand MakeCommand
+  export_or_make s s' text text' a b = other_command (codes "export") (codes "make") (a.3.word ∷ a.1 ∷ a.2) _ words (λ e. absurd (cc e)) a.3.are b.4.are
+
+  abbrev Exporting : Family
+  Exporting = Either ExportCommand MakeCommand
+
   abbrev Filling : Family
-  Filling = Either ReportCommand MakeCommand
+  Filling = Either ReportCommand Exporting
 
   filling_one : IsOne Filling
-  filling_one = either_one ReportCommand MakeCommand reports_one makes_one_report report_or_make
+  filling_one =
+      either_one ReportCommand Exporting reports_one (either_one ExportCommand MakeCommand exports_one makes_one_report export_or_make)
+      (apart_both ReportCommand ExportCommand MakeCommand report_or_export report_or_make)
+
+  -- what is apart from each command that fills a store
+  apart_filling : (F : Family) → AreApart F ReportCommand → AreApart F ExportCommand → AreApart F MakeCommand → AreApart F Filling
+  apart_filling F r e m = apart_both F ReportCommand Exporting r (apart_both F ExportCommand MakeCommand e m)
 
   record_and_more : IsOne (Either RecordCommand Filling)
-  record_and_more = either_one RecordCommand Filling records_one filling_one (apart_both RecordCommand ReportCommand MakeCommand record_or_report record_or_make)
+  record_and_more = either_one RecordCommand Filling records_one filling_one (apart_filling RecordCommand record_or_report record_or_export record_or_make)
 
   count_and_more : IsOne (Either CountCommand (Either RecordCommand Filling))
   count_and_more =
       either_one CountCommand (Either RecordCommand Filling) counts_one record_and_more
-      (apart_both CountCommand RecordCommand Filling count_or_record (apart_both CountCommand ReportCommand MakeCommand count_or_report count_or_make))
+      (apart_both CountCommand RecordCommand Filling count_or_record (apart_filling CountCommand count_or_report count_or_export count_or_make))
 
-  check_and_more : IsOne (Either CheckCommand (Either CountCommand (Either RecordCommand Filling)))
-  check_and_more =
-      either_one CheckCommand (Either CountCommand (Either RecordCommand Filling)) checks_one count_and_more
-      (apart_both CheckCommand CountCommand (Either RecordCommand Filling) check_or_count (apart_both CheckCommand RecordCommand Filling check_or_record (apart_both CheckCommand ReportCommand MakeCommand check_or_report check_or_make)))
+  list_and_more : IsOne (Either ListCommand (Either CountCommand (Either RecordCommand Filling)))
+  list_and_more =
+      either_one ListCommand (Either CountCommand (Either RecordCommand Filling)) lists_one count_and_more
+      (apart_both ListCommand CountCommand (Either RecordCommand Filling) list_or_count (apart_both ListCommand RecordCommand Filling list_or_record (apart_filling ListCommand list_or_report list_or_export list_or_make)))
 
   answer_one : IsOne (Answers words (Some all) before now)
   answer_one =
-      either_one NoCommand (Either CheckCommand (Either CountCommand (Either RecordCommand Filling))) none_one check_and_more
-      (apart_both NoCommand CheckCommand (Either CountCommand (Either RecordCommand Filling)) none_or_check
-      (apart_both NoCommand CountCommand (Either RecordCommand Filling) none_or_count (apart_both NoCommand RecordCommand Filling none_or_record (apart_both NoCommand ReportCommand MakeCommand none_or_report none_or_make))))
+      either_one NoCommand (Either ListCommand (Either CountCommand (Either RecordCommand Filling))) none_one list_and_more
+      (apart_both NoCommand ListCommand (Either CountCommand (Either RecordCommand Filling)) none_or_list
+      (apart_both NoCommand CountCommand (Either RecordCommand Filling) none_or_count (apart_both NoCommand RecordCommand Filling none_or_record (apart_filling NoCommand none_or_report none_or_export none_or_make))))
 
 pub has_one_answer : IsReading → (words : List (List ℕ)) (files : Files) (before now : ℕ) → HasOneAnswer words files before now
 has_one_answer spells words files before now all told calm s s' text text' h k =

@@ -1,7 +1,7 @@
 -- What a command answers: a status and a text, from its words and the files of a shelf. The steps are: words, load of
--- the design, compiling; for `count` load of the record, decoding and shape; for `report` the same and admission, record
--- by record; for `make` the making and the admission of each; for `record` load of the dump, reading it and making its
--- record; then printing. The first step that refuses decides.
+-- the design, compiling; for `count` load of the record, decoding and shape; for `report` and `export` the same and
+-- admission, record by record; for `make` the making and the admission of each; for `record` load of the dump, reading it
+-- and making its record; then printing. The first step that refuses decides.
 use Rattle.std.specs.Prelude.{◌≡◌, ◌⊎◌, ℕ, List, [], ◌∷◌, map, replicate, Option, Some, ◌+◌, None}
 use Rattle.cov_spec.specs.Causes.{Rose}
 use Rattle.cov_spec.specs.Told.{Grows, GrowsByFront, Stays}
@@ -11,18 +11,26 @@ use Rattle.covd_commands.specs.declared.status.Status.{Status}
 use Rattle.covd_commands.specs.declared.status.Status.TheVariants as status
 use Rattle.cov_history.specs.declared.entry.Entry.{Entry}
 use Rattle.cov_report.specs.Report.{report_text}
-use Rattle.covd_commands.specs.Forms.{IsReportCommand, IsMakeCommand, IsNoReport, IsNoMake}
+use Rattle.sha2.specs.Sha256.{sha256}
+use Rattle.export_lists.specs.Bins.{bins_text}
+use Rattle.export_lists.specs.Holes.{holes_text}
+use Rattle.export_json.specs.Export.{json_of}
+use Rattle.covd_commands.specs.declared.forms.Form.{Form}
+use Rattle.covd_commands.specs.declared.forms.Form.TheVariants as form
+use Rattle.covd_commands.specs.declared.listing.Listing.{Listing}
+use Rattle.covd_commands.specs.Forms.{IsReportCommand, IsExportCommand, IsMakeCommand, IsNoReport, IsNoExport, IsNoMake}
 use Rattle.covd_core.specs.Admission.{admission, behind}
 use Rattle.covd_commands.specs.Unadmitted.{refusal_line}
 use Rattle.covd_commands.specs.Lines.{bad_words_text}
 pub use Rattle.covd_commands.specs.FromFiles.{Files, IsUnread, NotLoaded, HasDesign, HasNoDesign, NoDesign, HasRecord, IsRefusedText, HasNoRecord}
-pub use Rattle.covd_commands.specs.Commands.{IsCheckCommand, IsCountCommand, IsRecordCommand, IsNoCheck, IsNoCount, IsNoRecord, IsCountText, Checks, Counts, Records}
+pub use Rattle.covd_commands.specs.Listings.{IsListCommand, IsNoList, Lists}
+pub use Rattle.covd_commands.specs.Commands.{IsCountCommand, IsRecordCommand, IsNoCount, IsNoRecord, IsCountText, Counts, Records}
 pub use Rattle.covd_commands.specs.Finding.{Origin, File, Made, Finds, IsTooMuch, FindsNone}
 
 -- ---- words
 
 abbrev pub IsNoCommand : List (List ℕ) → Type 0
-IsNoCommand words = IsNoCheck words × IsNoCount words × IsNoRecord words × IsNoReport words × IsNoMake words
+IsNoCommand words = IsNoList words × IsNoCount words × IsNoRecord words × IsNoReport words × IsNoExport words × IsNoMake words
 
 -- ---- filling a store, which has the history `h` so far
 
@@ -32,34 +40,48 @@ NotTaken files before now d k h origin s text =
     FindsNone files before now d k origin s text
     ⊎ ((r : Record) × Finds files d k origin r × (s ≡ status.AdmitRefused) × (refusal_line k (admission d h r) ≡ Some text))
 
--- the report of a history
-abbrev pub Prints : Design → (h : List Entry) → Status → List ℕ → Type 0
-Prints d h s text = (s ≡ status.Done) × (text ≡ report_text d h)
+-- a text for each history over a design
+abbrev pub Shown : Type 0
+Shown = Design → List Entry → List ℕ
 
--- The records that come from there are taken in one after the other, the first of them being the k-th, and the report is
--- printed; or the first that isn't taken in decides.
-abbrev pub Fills : Files → ℕ → ℕ → Design → (k : ℕ) → (h : List Entry) → List Origin → Status → List ℕ → Type 0
-Fills files before now d k h [] s text = Prints d h s text
-Fills files before now d k h (origin ∷ later) s text =
+-- the text of a history in a form; `source` is the text of the design
+abbrev pub form_text : Form → (source : List ℕ) → Shown
+form_text form.Report source = report_text
+form_text form.Bins source = bins_text
+form_text form.Holes source = holes_text
+form_text form.Json source = λ d h. json_of d h (sha256 source)
+
+-- what is shown of a history
+abbrev pub Prints : Shown → Design → (h : List Entry) → Status → List ℕ → Type 0
+Prints shown d h s text = (s ≡ status.Done) × (text ≡ shown d h)
+
+-- The records that come from there are taken in one after the other, the first of them being the k-th, and what is shown of
+-- their history is printed; or the first that isn't taken in decides.
+abbrev pub Fills : Shown → Files → ℕ → ℕ → Design → (k : ℕ) → (h : List Entry) → List Origin → Status → List ℕ → Type 0
+Fills shown files before now d k h [] s text = Prints shown d h s text
+Fills shown files before now d k h (origin ∷ later) s text =
     NotTaken files before now d k h origin s text
-    ⊎ ((r : Record) × Finds files d k origin r × (refusal_line k (admission d h r) ≡ None) × Fills files before now d (k + 1) (behind d h r) later s text)
+    ⊎ ((r : Record) × Finds files d k origin r × (refusal_line k (admission d h r) ≡ None) × Fills shown files before now d (k + 1) (behind d h r) later s text)
 
--- Status and text of a command that fills a store over this design with the records that come from there.
-abbrev pub Reports : Files → ℕ → ℕ → (design : List ℕ) → List Origin → Status → List ℕ → Type 0
-Reports files before now design origins s text =
-    NoDesign files before now design s text ⊎ ((d : Design) × HasDesign files design d × Fills files before now d 1 [] origins s text)
+-- Status and text of a command that fills a store over this design with the records that come from there, and shows it in
+-- this form.
+abbrev pub Reports : Files → ℕ → ℕ → Form → (design : List ℕ) → List Origin → Status → List ℕ → Type 0
+Reports files before now form design origins s text =
+    NoDesign files before now design s text
+    ⊎ ((d : Design) × (has : HasDesign files design d) × Fills (form_text form has.text) files before now d 1 [] origins s text)
 
--- Status and text of `report DESIGN RECORD ..`, and of `make DESIGN SEED EVENTS TESTS`.
+-- Status and text of `report DESIGN RECORD ..`, of `export FORM DESIGN RECORD ..`, and of `make DESIGN SEED EVENTS TESTS`.
 abbrev pub FillAnswers : List (List ℕ) → Files → ℕ → ℕ → Status → List ℕ → Type 0
 FillAnswers words files before now s text =
-    ((design : List ℕ) × (names : List (List ℕ)) × IsReportCommand words design names × Reports files before now design (map File names) s text)
-    ⊎ ((design : List ℕ) × (seed rounds tests : ℕ) × IsMakeCommand words design seed rounds tests × Reports files before now design (replicate tests (Made seed rounds)) s text)
+    ((design : List ℕ) × (names : List (List ℕ)) × IsReportCommand words design names × Reports files before now form.Report design (map File names) s text)
+    ⊎ (((form : Form) × (design : List ℕ) × (names : List (List ℕ)) × IsExportCommand words form design names × Reports files before now form design (map File names) s text)
+    ⊎ ((design : List ℕ) × (seed rounds tests : ℕ) × IsMakeCommand words design seed rounds tests × Reports files before now form.Report design (replicate tests (Made seed rounds)) s text))
 
 -- Status and text of any words; `before` and `now` are the counts of the shelf's faults.
 abbrev pub Answers : List (List ℕ) → Files → ℕ → ℕ → Status → List ℕ → Type 0
 Answers words files before now s text =
     (IsNoCommand words × (s ≡ status.BadWords) × (text ≡ bad_words_text))
-    ⊎ (((design : List ℕ) × IsCheckCommand words design × Checks files before now design s text)
+    ⊎ (((listing : Listing) × (design : List ℕ) × IsListCommand words listing design × Lists files before now listing design s text)
     ⊎ (((design rec : List ℕ) × IsCountCommand words design rec × Counts files before now design rec s text)
     ⊎ (((design dump scope id : List ℕ) × IsRecordCommand words design dump scope id × Records files before now design dump scope id s text)
     ⊎ FillAnswers words files before now s text)))

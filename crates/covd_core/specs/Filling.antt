@@ -16,7 +16,7 @@ use Rattle.covd_core.specs.Admission.{admission, behind}
 use Rattle.covd_commands.specs.Unadmitted.{refusal_line}
 use Rattle.covd_commands.specs.FromFiles.{Files}
 use Rattle.covd_commands.specs.Finding.{Origin, Finds}
-use Rattle.covd_core.specs.Command.{NotTaken, Prints, Fills}
+use Rattle.covd_core.specs.Command.{Shown, NotTaken, Prints, Fills}
 
 -- a store over this design, which no entry has changed
 pub record IsPlain (d : Design) (s : Store) : Type 0 where
@@ -44,11 +44,17 @@ Takes files before now d k h origin after (Err Memory) = Unit {0}
 
 -- ---- all of them
 
--- what is printed of this history is the answer
+-- whatever is shown of this history is the answer
 pub record Leads (files : Files) (before : ℕ) (d : Design) (origins : List Origin) (h : List Entry) : Type 0 where
-  pub ends : (now : ℕ) (s : Status) (text : List ℕ) → Prints d h s text → Fills files before now d 1 [] origins s text
+  pub ends : (shown : Shown) (now : ℕ) (s : Status) (text : List ℕ) → Prints shown d h s text → Fills shown files before now d 1 [] origins s text
 
 abbrev pub IsFilled : Files → ℕ → ℕ → Design → List Origin → (after : List Entry) → Result (Unit {0}) Stop → Type 0
 IsFilled files before now d origins after (Ok done) = Leads files before d origins after
-IsFilled files before now d origins after (Err (Refused a)) = Fills files before now d 1 [] origins a.status a.text.items
+IsFilled files before now d origins after (Err (Refused a)) = (shown : Shown) → Fills shown files before now d 1 [] origins a.status a.text.items
 IsFilled files before now d origins after (Err Memory) = Unit {0}
+
+-- a store over the design that took the records that come from there in, or why one wasn't taken in
+abbrev pub IsStored : Files → ℕ → ℕ → Design → List Origin → Result Store Stop → Type 0
+IsStored files before now d origins (Ok store) = IsPlain d store × Leads files before d origins (entries_of store)
+IsStored files before now d origins (Err (Refused a)) = (shown : Shown) → Fills shown files before now d 1 [] origins a.status a.text.items
+IsStored files before now d origins (Err Memory) = Unit {0}

@@ -11,6 +11,7 @@ mod report;
 mod running;
 mod session;
 mod starting;
+mod storing;
 mod writing;
 
 pub use cov_serve::{ServeWords, serve_words};

@@ -1,23 +1,23 @@
 //! The commands that print.
 ghost use Rattle.std.specs.Prelude.{◌≡◌, ◌≤◌, map, string_bytes, IfOk, IfNone, MatchOption};
 ghost use Rattle.covd_core.specs.Command.{FillAnswers, Answers, ends_of, Leaves, HasOneAnswer};
-ghost use Rattle.covd_commands.specs.Forms.{IsNoReport, IsNoMake};
+ghost use Rattle.covd_commands.specs.Forms.{IsNoReport, IsNoExport, IsNoMake};
 
 use crate::report::report;
 use crate::writing::write_all;
 use cov_base::{Link, Memory, Shelf};
 use covd_commands::Status;
 use covd_commands::answer::Answer;
-use covd_commands::check::{check, check_words};
 use covd_commands::count::{count, count_words};
-use covd_commands::forms::{make_words, report_words};
+use covd_commands::forms::{Form, export_words, make_words, report_words};
+use covd_commands::listing::{list, list_words};
 use covd_commands::origins::Origins;
 use covd_commands::record::{record_dump, record_words};
 use covd_commands::texts::bad_words;
 use std::alloc::Global;
 use std::thread::Threads;
 
-// The answer of a command that fills a store; None where the words are none.
+/// The answer of a command that fills a store; None where the words are none.
 fn filled<R: Threads + Sync, F: Shelf>(
     rt: &R,
     alloc: Global,
@@ -26,19 +26,29 @@ fn filled<R: Threads + Sync, F: Shelf>(
 ) -> Option<Result<Answer, Memory>>
     ensures same { F.files shelf.new ≡ F.files shelf.old }
     ensures later { F.faults shelf.old ≤ F.faults shelf.new }
-    ensures answer { MatchOption result (IsNoReport (map string_bytes words.now) × IsNoMake (map string_bytes words.now))
+    ensures answer { MatchOption result (IsNoReport (map string_bytes words.now) × IsNoExport (map string_bytes words.now)
+        × IsNoMake (map string_bytes words.now))
         (λ done. IfOk done (λ a. FillAnswers (map string_bytes words.now) (F.files shelf.old) (F.faults shelf.old) (F.faults shelf.new) a.status a.text.items)) }
     ensures untouched { IfNone result (shelf.new ≡ shelf.old) }
 {
     if let Some((design, names)) = report_words(words) {
-        return Some(report(rt, alloc, design, Origins::Files(names), shelf));
+        let files = Origins::Files(names);
+        return Some(report(rt, alloc, Form::Report, design, files, shelf));
+    }
+    if let Some((form, design, names)) = export_words(words) {
+        let files = Origins::Files(names);
+        return Some(report(rt, alloc, form, design, files, shelf));
     }
     match make_words(words) {
-        Some((design, numbers)) => Some(report(rt, alloc, design, Origins::Made(numbers), shelf)),
+        Some((design, numbers)) => {
+            let made = Origins::Made(numbers);
+            Some(report(rt, alloc, Form::Report, design, made, shelf))
+        }
         None => None,
     }
 }
 
+/// The status and the text of the words.
 fn answer<R: Threads + Sync, F: Shelf>(
     rt: &R,
     alloc: Global,
@@ -52,8 +62,8 @@ fn answer<R: Threads + Sync, F: Shelf>(
     if let Some(done) = filled(rt, alloc, words, shelf) {
         return done;
     }
-    if let Some(design) = check_words(words) {
-        return check(alloc, design, shelf);
+    if let Some((listing, design)) = list_words(words) {
+        return list(alloc, listing, design, shelf);
     }
     if let Some(words) = record_words(words) {
         return record_dump(alloc, words, shelf);

@@ -1,102 +1,71 @@
-//! The commands `report` and `make`, which fill a store and print its report.
-ghost use Rattle.std.specs.Prelude.{◌≡◌, ◌≤◌, [], IfOk};
-ghost use Rattle.std.specs.Arc.{arc_value};
-ghost use Rattle.sampler.specs.Plans.{IsDesignPlan};
-ghost use Rattle.merge_store.specs.Stores.{entries_of};
-ghost use Rattle.covd_core.specs.Command.{Fills, Prints, Reports};
+//! The commands `report`, `export` and `make`, which fill a store and show it.
+ghost use Rattle.std.specs.Prelude.{◌≡◌, ◌≤◌, IfOk};
+ghost use Rattle.design_data.specs.declared.design.Design.{Design};
+ghost use Rattle.merge_store.specs.Stores.{opening_of, entries_of};
+ghost use Rattle.covd_core.specs.Command.{form_text, Prints, Reports};
 ghost use Rattle.covd_core.specs.Filling.{IsPlain};
 ghost use Rattle.covd_commands.specs.Origins.{origins_of};
 
-use crate::filling::fill;
+use crate::starting::{HadCompiled, had_compiled};
+use crate::storing::stored;
 use cov_base::{Memory, Shelf};
 use cov_report::report_lines;
 use covd_commands::Status;
 use covd_commands::answer::Answer;
-use covd_commands::loading::{HadDesign, had_design};
+use covd_commands::forms::Form;
 use covd_commands::origins::Origins;
-use design_data::Design;
+use export_json::json_lines;
+use export_lists::{bins_lines, holes_lines};
 use merge_store::Store;
-use sampler::{Plan, Planned};
+use sha2::{Digest, Sha256};
 use std::alloc::Global;
-use std::sync::Arc;
 use std::thread::Threads;
 
-/// A design with its plan, and a store over it without entries.
-fn opened(alloc: Global, design: Design) -> Result<(Planned, Store), Memory>
-    ensures design { IfOk result (λ parts. parts.0 ≡ design) }
-    ensures plain { IfOk result (λ parts. IsPlain design parts.1) }
-    ensures fresh { IfOk result (λ parts. entries_of parts.1 ≡ []) }
+/// The text of a store in a form; the text of its design is given.
+fn shown<R: Threads + Sync>(
+    rt: &R,
+    alloc: Global,
+    form: Form,
+    source: &[u8],
+    store: &Store,
+) -> Result<Vec<u8>, Memory>
+    ensures { IfOk result (λ text. text.items ≡ form_text form source.now (opening_of store.now)
+        (entries_of store.now)) }
 {
-    let design = Arc::new(alloc, design)?;
-    let store = Store::new(alloc, design)?;
-    let planned = store.planned().share()?;
-    Ok((planned, store))
+    match form {
+        Form::Report => report_lines(rt, alloc, store),
+        Form::Bins => bins_lines(alloc, store),
+        Form::Holes => holes_lines(alloc, store),
+        Form::Json => {
+            let digest = Sha256::digest(source);
+            json_lines(rt, alloc, store, &digest)
+        }
+    }
 }
 
 /// The answer of a store that is filled.
-fn printed<R: Threads + Sync>(rt: &R, alloc: Global, store: &Store) -> Result<Answer, Memory>
-    ensures { (d : Design) → IsPlain d store.now → IfOk result (λ a. Prints d (entries_of store.now) a.status a.text.items) }
+fn printed<R: Threads + Sync>(
+    rt: &R,
+    alloc: Global,
+    form: Form,
+    source: &[u8],
+    store: &Store,
+) -> Result<Answer, Memory>
+    ensures { (d : Design) → IsPlain d store.now
+        → IfOk result (λ a. Prints (form_text form source.now) d (entries_of store.now) a.status a.text.items) }
 {
-    let text = report_lines(rt, alloc, store)?;
+    let text = shown(rt, alloc, form, source, store)?;
     Ok(Answer {
         status: Status::Done,
         text,
     })
 }
 
-/// The answer of a store that takes in the records that come from there.
-fn filled_into<R: Threads + Sync, F: Shelf>(
-    rt: &R,
-    alloc: Global,
-    design: &Arc<Design>,
-    plan: &Plan,
-    store: &mut Store,
-    origins: Origins,
-    shelf: &mut F,
-) -> Result<Answer, Memory>
-    requires plain { IsPlain (arc_value design.now) store.old }
-    requires planned { IsDesignPlan (arc_value design.now).instances plan.now }
-    requires fresh { entries_of store.old ≡ [] }
-    ensures same { F.files shelf.new ≡ F.files shelf.old }
-    ensures later { F.faults shelf.old ≤ F.faults shelf.new }
-    ensures answer { IfOk result (λ a. Fills (F.files shelf.old) (F.faults shelf.old) (F.faults shelf.new)
-        (arc_value design.now) 1 [] (origins_of origins.entry) a.status a.text.items) }
-{
-    match fill(rt, alloc, design, plan, store, origins, shelf) {
-        Ok(()) => printed(rt, alloc, store),
-        Err(stop) => stop.into_answer(),
-    }
-}
-
-/// The answer to the records that come from there.
-fn filled<R: Threads + Sync, F: Shelf>(
-    rt: &R,
-    alloc: Global,
-    design: Design,
-    origins: Origins,
-    shelf: &mut F,
-) -> Result<Answer, Memory>
-    ensures same { F.files shelf.new ≡ F.files shelf.old }
-    ensures later { F.faults shelf.old ≤ F.faults shelf.new }
-    ensures answer { IfOk result (λ a. Fills (F.files shelf.old) (F.faults shelf.old) (F.faults shelf.new)
-        design 1 [] (origins_of origins.entry) a.status a.text.items) }
-{
-    let (planned, mut store) = opened(alloc, design)?;
-    filled_into(
-        rt,
-        alloc,
-        planned.design(),
-        planned.plan(),
-        &mut store,
-        origins,
-        shelf,
-    )
-}
-
-/// Loads, compiles, takes the records that come from there in and prints the report.
+/// Loads, compiles, takes the records that come from there in and prints the store in this form.
 pub(crate) fn report<R: Threads + Sync, F: Shelf>(
     rt: &R,
     alloc: Global,
+    form: Form,
     design: &str,
     origins: Origins,
     shelf: &mut F,
@@ -104,10 +73,14 @@ pub(crate) fn report<R: Threads + Sync, F: Shelf>(
     ensures same { F.files shelf.new ≡ F.files shelf.old }
     ensures later { F.faults shelf.old ≤ F.faults shelf.new }
     ensures answer { IfOk result (λ a. Reports (F.files shelf.old) (F.faults shelf.old) (F.faults shelf.new)
-        design.now (origins_of origins.entry) a.status a.text.items) }
+        form design.now (origins_of origins.entry) a.status a.text.items) }
 {
-    match had_design(alloc, design, shelf)? {
-        HadDesign::Compiled(design) => filled(rt, alloc, design, origins, shelf),
-        HadDesign::Refused(answer) => Ok(answer),
+    let compiled = match had_compiled(alloc, design, shelf)? {
+        HadCompiled::Compiled(compiled) => compiled,
+        HadCompiled::Refused(answer) => return Ok(answer),
+    };
+    match stored(rt, alloc, compiled.design(), origins, shelf) {
+        Ok(store) => printed(rt, alloc, form, compiled.text(), &store),
+        Err(stop) => stop.into_answer(),
     }
 }

@@ -13,10 +13,11 @@ use std::thread::Threads;
 /// Does what the words say over the files of the shelf and the link.
 ///
 /// The words are those after the program's name. The commands that print are `check DESIGN`, which prints the bins of the
-/// design; `count DESIGN RECORD`, which prints how often the record hits each of them; `report DESIGN RECORD ..` and
-/// `make DESIGN SEED EVENTS TESTS`, which print the report of a store that is filled with the records of files or of a
-/// generator; and `record DESIGN DUMP SCOPE ID`, which writes the bytes of the record of a value change dump. What they
-/// write is built whole before its first byte is written, and nothing is read. `session DESIGN` answers the requests that
+/// design; `tables DESIGN`, which prints what a writer of its records has to announce; `count DESIGN RECORD`, which prints
+/// how often the record hits each bin; `report DESIGN RECORD ..` and `make DESIGN SEED EVENTS TESTS`, which print the report
+/// of a store that is filled with the records of files or of a generator; `export FORM DESIGN RECORD ..`, which prints such
+/// a store in the form `bins`, `holes` or `json`; and `record DESIGN DUMP SCOPE ID`, which writes the bytes of the
+/// record of a value change dump. What they write is built whole before its first byte is written, and nothing is read. `session DESIGN` answers the requests that
 /// come over the link, over a store that begins without tests, until a Bye or the end of what comes. Threads are started to
 /// bin records and to rank tests.
 pub fn run<R: Threads + Sync, F: Shelf, L: Link>(

@@ -26,7 +26,11 @@ pub(crate) enum Begun {
 }
 
 /// Loads and compiles, and keeps the text.
-fn had_compiled<F: Shelf>(alloc: Global, name: &str, shelf: &mut F) -> Result<HadCompiled, Memory>
+pub(crate) fn had_compiled<F: Shelf>(
+    alloc: Global,
+    name: &str,
+    shelf: &mut F,
+) -> Result<HadCompiled, Memory>
     ensures same { F.files shelf.new ≡ F.files shelf.old }
     ensures later { F.faults shelf.old ≤ F.faults shelf.new }
     ensures had { IfOk result (IsHadCompiled (F.files shelf.old) (F.faults shelf.old)

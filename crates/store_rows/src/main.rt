@@ -6,10 +6,12 @@
 //! samples instance I; `revise TEXT` asks to take the design of a text; the other asks are questions and exclusions.
 //! `late ASK <- OTHER` makes an ask ready, then puts the other, and then that one. `many N STEPS` admits the records n0, n1
 //! and so on to both stores, of which the plain one works no answers out meanwhile; `again N PATH` asks so often for a
-//! coverage, and `random N SEED` puts N times 100 random asks, each time over a history of their own. Each line is written
-//! again, and behind it what the store answers; where the plain store answers otherwise, a line says so.
+//! coverage, and `random N SEED` puts N times 100 random asks, each time over a history of their own. `export FORM` shows
+//! the store in the form `bins`, `holes` or `json`. Each line is written again, and behind it what the store answers;
+//! where the plain store answers otherwise, a line says so.
 #![tactic(auto)]
 
+mod exports;
 mod many;
 mod random;
 mod serving;
@@ -17,6 +19,7 @@ mod stores;
 mod twins;
 
 use ask_rows::{say, say_count, say_number, split};
+use exports::export;
 use many::{again, many};
 use random::random;
 use serving::{Told, late, served};
@@ -58,6 +61,7 @@ fn call<R: Threads + Sync + Print>(rt: &R, alloc: Global, stores: &mut Stores, l
         "many" => say_count(rt, many(rt, alloc, stores, words), "new"),
         "again" => say_count(rt, again(&stores.store, words), "alike"),
         "point" => say_number(rt, stores.store.point()),
+        "export" => export(rt, alloc, &stores.store, words),
         _ => write_if_told(rt, &served(rt, alloc, stores, line)),
     }
 }

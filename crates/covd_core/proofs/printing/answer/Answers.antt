@@ -1,19 +1,21 @@
 use Rattle.std.proofs.Common.{inl, inr, subst}
 use Rattle.std.proofs.lemmas.Result.{IfOk-weaker}
-use Rattle.covd_commands.specs.Commands.{Checks, Counts, Records}
+use Rattle.covd_commands.specs.Commands.{Counts, Records}
+use Rattle.covd_commands.specs.Listings.{Lists}
 use Rattle.covd_core.proofs.printing.answer.Goals as goal
 
 pub returns-in-Some-clause-answer : goal.returns-in-Some-clause-answer
 returns-in-Some-clause-answer g c = IfOk-weaker c.in-Some.done _ _ (λ a h. inr (inr (inr (inr h)))) c.in-Some.ensures.answer
 
-pub returns-in-Some-check_words-clause-answer : goal.returns-in-Some-check_words-clause-answer
-returns-in-Some-check_words-clause-answer g c =
+pub returns-in-Some-list_words-clause-answer : goal.returns-in-Some-list_words-clause-answer
+returns-in-Some-list_words-clause-answer g c =
     let same = c.in_default.ensures.untouched in
     let files = g.F.Shelf.files in
     let faults = g.F.Shelf.faults in
-    let now = faults c.check.new.shelf in
-    let name = c.in-Some-check_words.design.now in
-    IfOk-weaker c.check.result _ _ (λ a h. inr (inl (name, c.in-Some-check_words.ensures, subst (λ x. Checks (files x) (faults x) now name a.status a.text.items) same h))) c.check.ensures.answer
+    let now = faults c.list.new.shelf in
+    let listing = c.in-Some-list_words.listing in
+    let name = c.in-Some-list_words.design.now in
+    IfOk-weaker c.list.result _ _ (λ a h. inr (inl (listing, name, c.in-Some-list_words.ensures, subst (λ x. Lists (files x) (faults x) now listing name a.status a.text.items) same h))) c.list.ensures.answer
 
 pub returns-in-Some-record_words-clause-answer : goal.returns-in-Some-record_words-clause-answer
 returns-in-Some-record_words-clause-answer g c =
