@@ -3,18 +3,21 @@ ghost use Rattle.std.specs.Prelude.{◌≤◌, length};
 ghost use Rattle.cov_ground.specs.Limits.{longest_design};
 ghost use Rattle.vcd_reader.specs.Reading.{longest_dump};
 
-use cov_base::Shelf;
+use crate::file_hints::{read_again, stream_hint};
+use crate::kind_hints::{Wanted, kind_hint};
 use cov_ground::limits::LONGEST_DESIGN;
-use cov_net::FileShelf;
 use covd_core::{LONGEST_DUMP, compile, dump_fault};
 use design_data::Signal;
 use std::alloc::{AllocError, Global};
 use std::rt::Files;
-use text_place::{Fault, place_hint};
+use text_place::{Fault, kind_of, place_hint};
 use vcd_reader::{DumpFault, DumpVar, read_dump};
 
 /// The most scopes that are shown.
 const SHOWN: usize = 8;
+
+/// How many bytes of a dump show of which kind it is.
+const FRONT: usize = 65_536;
 
 /// What `record` was given: the names of the files with what stands in them, and the scope.
 #[derive(Drop)]
@@ -179,17 +182,48 @@ fn large_hint(alloc: Global, given: &Given<'_>) -> Option<String> {
     .ok()
 }
 
+/// Whether the program GHDL wrote the dump: whether its `$version`, or another word before its first `$scope`, says so.
+fn is_of_ghdl(front: &[u8]) -> bool {
+    for at in 0..front.len() {
+        let rest = &front[at..];
+        if rest.starts_with(b"$scope") {
+            return false;
+        }
+        if rest.starts_with(b"GHDL") {
+            return true;
+        }
+    }
+    false
+}
+
+/// What a word is that a dump can't have there.
+fn syntax_meaning(front: &[u8]) -> &'static str {
+    if is_of_ghdl(front) {
+        "this word can't stand here in a dump of four values; GHDL needs --vcd-4states"
+    } else {
+        "this word can't stand here in a dump of four values"
+    }
+}
+
+/// The hint on a word that a dump can't have there, or on a file that is no dump.
+fn syntax_hint(alloc: Global, given: &Given<'_>, at: u32) -> Option<String>
+    requires { length given.now.bytes.now ≤ longest_dump }
+{
+    let front = &given.bytes[..given.bytes.len().min(FRONT)];
+    let hint = kind_hint(alloc, given.dump, kind_of(front), Wanted::Dump);
+    if hint.is_some() {
+        return hint;
+    }
+    word_hint(alloc, given, "Syntax", at, syntax_meaning(front))
+}
+
 /// The hint on a dump that is refused so.
 fn fault_hint(alloc: Global, given: &Given<'_>, fault: DumpFault) -> Option<String>
     requires text { length given.now.text.now ≤ longest_design }
     requires dump { length given.now.bytes.now ≤ longest_dump }
 {
     match fault {
-        DumpFault::Syntax { at } => {
-            let meaning =
-                "this word can't stand here in a dump of four values; GHDL needs --vcd-4states";
-            word_hint(alloc, given, "Syntax", at, meaning)
-        }
+        DumpFault::Syntax { at } => syntax_hint(alloc, given, at),
         DumpFault::TimeBack { at } => {
             word_hint(
                 alloc,
@@ -216,6 +250,18 @@ fn fault_hint(alloc: Global, given: &Given<'_>, fault: DumpFault) -> Option<Stri
     }
 }
 
+/// The hint on what was given, of which no record is made.
+fn given_hint(alloc: Global, given: &Given<'_>, id: &str) -> Option<String>
+    requires text { length given.now.text.now ≤ longest_design }
+    requires dump { length given.now.bytes.now ≤ longest_dump }
+{
+    let scope = given.scope.as_bytes();
+    match dump_fault(alloc, given.text, given.bytes, scope, id.as_bytes()) {
+        Some(fault) => fault_hint(alloc, given, fault),
+        None => None,
+    }
+}
+
 /// The hint on a dump under a design text, of these names.
 pub(crate) fn on_dump<R: Files + AllocGlobal>(
     rt: &R,
@@ -224,12 +270,11 @@ pub(crate) fn on_dump<R: Files + AllocGlobal>(
     scope: &str,
     id: &str,
 ) -> Option<String> {
-    let alloc = rt.alloc();
-    let Ok(text) = FileShelf::new(rt).load(alloc, design, LONGEST_DESIGN) else {
-        return None;
+    let Some(text) = read_again(rt, design, LONGEST_DESIGN) else {
+        return stream_hint(rt.alloc(), design);
     };
-    let Ok(bytes) = FileShelf::new(rt).load(alloc, dump, LONGEST_DUMP) else {
-        return None;
+    let Some(bytes) = read_again(rt, dump, LONGEST_DUMP) else {
+        return stream_hint(rt.alloc(), dump);
     };
     let given = Given {
         design,
@@ -238,8 +283,5 @@ pub(crate) fn on_dump<R: Files + AllocGlobal>(
         bytes: &bytes,
         scope,
     };
-    match dump_fault(alloc, &text, &bytes, scope.as_bytes(), id.as_bytes()) {
-        Some(fault) => fault_hint(alloc, &given, fault),
-        None => None,
-    }
+    given_hint(rt.alloc(), &given, id)
 }

@@ -9,6 +9,8 @@ covd counts the functional coverage of SystemVerilog designs.
 Usage:
   covd check DESIGN          prints how many signals, instances and bins the
                              design has, and a line a bin: covd check bus.sv
+  covd tables DESIGN         prints the signals, instances and arguments that a
+                             writer of records announces: covd tables bus.sv
   covd count DESIGN RECORD   counts how often the record hits each bin of the
                              design, and prints a line a bin:
                              covd count bus.sv t1.rec
@@ -16,6 +18,10 @@ Usage:
                              merges the records of tests and prints the coverage
                              and the ranking of the tests:
                              covd report bus.sv t1.rec t2.rec
+  covd export FORM DESIGN RECORD ..
+                             prints the merge as lines of bins or of holes, as
+                             JSON:
+                             covd export holes bus.sv t1.rec
   covd make DESIGN SEED EVENTS TESTS
                              the same for TESTS made-up tests of EVENTS rounds of
                              random values: covd make bus.sv 7 20000 3
@@ -37,6 +43,7 @@ Files:
   DUMP     a value change dump (VCD), at most 33,554,432 bytes
 
 Words:
+  FORM     bins, holes or json
   SCOPE    the scope of the dump whose variables are the design's: tb, TOP.tb
   ID       the test's name, 1 to 255 letters, digits and signs without blanks
   SEED     1 to 20 digits, at most 18446744073709551615

@@ -1,16 +1,19 @@
 //! Street: program.
 //!
-//! Texts for a person: help, and hints on faults by their line, with where a byte of a text stands as editors say it.
+//! Texts for a person: help, and hints on faults by their line, with where a byte of a text stands as editors say it; and
+//! what a file is, by its first bytes.
 #![tactic(auto)]
 
 mod help;
 mod hint;
+mod kinds;
 
 ghost use Rattle.std.specs.Prelude.{◌≡◌, ◌+◌, ◌≤◌, ◌<◌, ◌^◌, length};
 ghost use Rattle.text_place.specs.Places.{IsLine, IsLineEnd};
 
 pub use help::{HELP, VERSION, early_text};
 pub use hint::{Fault, place_hint};
+pub use kinds::{FileKind, kind_of};
 
 /// A line of a text: its number from 1, and the place of its first byte.
 #[derive(Clone, Copy, PartialEq, Eq)]

@@ -1,0 +1,60 @@
+//! What the words of a command stand for.
+
+/// The first word; none where there is none.
+pub(crate) fn command_of(words: &[String]) -> &str {
+    match words.first() {
+        Some(word) => word.as_str(),
+        None => "",
+    }
+}
+
+/// The words that a command takes.
+pub(crate) fn form_of(command: &str) -> &'static str {
+    match command {
+        "check" => "covd check DESIGN",
+        "tables" => "covd tables DESIGN",
+        "count" => "covd count DESIGN RECORD",
+        "report" => "covd report DESIGN RECORD .., with one record or more",
+        "export" => "covd export FORM DESIGN RECORD .., where FORM is bins, holes or json",
+        "make" =>
+            "covd make DESIGN SEED EVENTS TESTS, three numbers in digits: up to 18446744073709551615, 1048576 and 4096",
+        "record" => "covd record DESIGN DUMP SCOPE ID, where ID has 1 to 255 signs from ! to ~",
+        "session" => "covd session DESIGN",
+        "serve" => "covd serve DESIGN --listen ADDR, or with --seats N behind it, N from 1 to 256",
+        _ =>
+            "covd check, tables, count, report, export, make, record, session or serve, and what each of them takes, all in UTF-8",
+    }
+}
+
+/// The words from the design's name on, which stands behind the form of `export`.
+fn from_design(words: &[String]) -> &[String] {
+    let behind = if command_of(words) == "export" { 2 } else { 1 };
+    match words.get(behind..) {
+        Some(rest) => rest,
+        None => &[],
+    }
+}
+
+/// The name of the design text.
+pub(crate) fn design_of(words: &[String]) -> Option<&str> {
+    match from_design(words).first() {
+        Some(design) => Some(design.as_str()),
+        None => None,
+    }
+}
+
+/// The names of the records; none where the command takes none.
+pub(crate) fn records_of(words: &[String]) -> &[String] {
+    match (command_of(words), from_design(words)) {
+        ("count" | "report" | "export", [_, records @ ..]) => records,
+        _ => &[],
+    }
+}
+
+/// The name of the dump.
+pub(crate) fn dump_of(words: &[String]) -> Option<&str> {
+    match (command_of(words), from_design(words)) {
+        ("record", [_, dump, ..]) => Some(dump.as_str()),
+        _ => None,
+    }
+}
