@@ -10,8 +10,8 @@ TABLES, or standard input where it is `-`, has a line for each of them, numbered
     instance N GROUP NAME
     argument N K WIDTH SIGN NAME        argument K of the instance N
 
-SIGN is 0 or 1, or `unsigned` or `signed`. `svcover.py --tables FILE` writes such lines for the design text that it writes. What is
-written has the numbers as constants, and a function that announces all of it:
+SIGN is 0 or 1, or `unsigned` or `signed`. `covd tables DESIGN` prints such lines of a design text, and `svcover.py --tables FILE`
+writes them for the one that it writes. What is written has the numbers as constants, and a function that announces all of it:
 
     C               NAME_tables.h: NAME_signal_v, NAME_instance_i, and int NAME_announce(covrec *rec)
     SystemVerilog   package NAME_tables: signal_v, instance_i, and function int announce(chandle rec)
