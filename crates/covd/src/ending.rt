@@ -1,31 +1,11 @@
 //! How the program begins and ends beside its commands.
-ghost use Rattle.std.specs.Prelude.{◌≡◌, ◌≢◌, [], drop, Ok, Err, IfOk, IfErr, OnOk};
+ghost use Rattle.std.specs.Prelude.{◌≡◌, ◌≢◌, [], Ok, Err, IfOk, IfErr, OnOk};
 ghost use Rattle.std.specs.IoError.{error_kind};
-ghost use Rattle.std.specs.Process.{exit_status};
-ghost use Rattle.covd_commands.specs.Statuses.{number_of};
 
 use covd_core::Status;
 use std::alloc::Global;
 use std::io;
 use std::io::ErrorKind;
-use std::process::ExitCode;
-
-/// The words behind the first, which is the program's name.
-pub fn behind_name(words: &[String]) -> &[String]
-    ensures { result.now ≡ drop 1 words.now }
-{
-    match words.split_first() {
-        Some((_, rest)) => rest,
-        None => &[],
-    }
-}
-
-/// The exit code of a status.
-pub fn code_of(status: Status) -> ExitCode
-    ensures { exit_status result ≡ number_of status }
-{
-    ExitCode::from(status.number())
-}
 
 /// The status of a text that was printed in place of a command.
 pub fn ended(printed: &io::Result<()>) -> Status
@@ -38,8 +18,7 @@ pub fn ended(printed: &io::Result<()>) -> Status
     }
 }
 
-/// The words that were given, with the program's name. Words of which one is no text of UTF-8 are no command, as no words
-/// are.
+/// The words of a command. Words of which one is no text of UTF-8 are no command, as no words are.
 pub fn given(alloc: Global, words: io::Result<Vec<String>>) -> Result<Vec<String>, Status>
     ensures read { IfOk words (λ all. result ≡ Ok all) }
     ensures memory { IfErr words

@@ -5,14 +5,13 @@ ghost use Rattle.cov_workers.specs.Sound.{IsSound};
 ghost use Rattle.cov_workers.specs.Stores.{opening_of};
 ghost use Rattle.cov_workers.specs.Shares.{HasSeat};
 ghost use Rattle.covd_core.specs.Starts.{IsServable};
-ghost use Rattle.covd.specs.Running.{Begins, EndsServed, IsServed};
 ghost use Rattle.covd.specs.Serving.{is_serve, built};
 
 use cov_base::Pair;
 use cov_net::{FileShelf, StdSink, StdSource};
 use cov_workers::{Shared, Store, open, serve_store};
 use covd_core::{Compiled, ServeWords, Status, serve_start, serve_words};
-use covd_hints::print_address_hint;
+use covd_hints::{print_address_hint, print_hint};
 use std::alloc::Global;
 use std::io;
 use std::net::{Net, TcpListener, TcpStream};
@@ -47,7 +46,6 @@ fn begun<R: Files + Print>(
     alloc: Global,
     words: &[String],
 ) -> Result<(ServeWords, Compiled), Status>
-    ensures begins { Begins (map string_bytes words.now) result }
     ensures servable { IfOk result (λ p. IsServable (length words.now) p.0) }
 {
     let mut shelf = FileShelf::new(rt);
@@ -71,7 +69,6 @@ fn listen<R: Threads + Wait + Sync + Print + AllocGlobal>(
 ) -> Status
     requires seat { HasSeat opening_of IsSound shared.now seat.old }
     requires room { (workers ≤ free seat.old) × (workers ≤ left seat.old) }
-    ensures { IsServed result }
 {
     if println!(rt; "listening {address}").is_err() {
         return Status::WriteFault;
@@ -79,35 +76,6 @@ fn listen<R: Threads + Wait + Sync + Print + AllocGlobal>(
     match serve_store(rt, rt.alloc(), listener, shared, seat, workers, u64::MAX) {
         Ok(()) => Status::NoWorker,
         Err(_) => Status::Memory,
-    }
-}
-
-/// Listens on the address and serves, or says why it can't be listened on.
-fn listen_on<R>(
-    rt: &R,
-    address: &str,
-    shared: &Shared<Store>,
-    seat: &mut Seat<Store>,
-    workers: u32,
-) -> Status
-where
-    R: Threads
-        + Wait
-        + Sync
-        + Net<Listener = TcpListener, Stream = TcpStream>
-        + Print
-        + Eprint
-        + AllocGlobal,
-    requires seat { HasSeat opening_of IsSound shared.now seat.old }
-    requires room { (workers ≤ free seat.old) × (workers ≤ left seat.old) }
-    ensures { IsServed result }
-{
-    match TcpListener::bind(rt, address) {
-        Ok(listener) => listen(rt, &listener, address, shared, seat, workers),
-        Err(error) => {
-            print_address_hint(rt, address, &error);
-            Status::NoWorker
-        }
     }
 }
 
@@ -122,12 +90,14 @@ where
         + Print
         + Eprint
         + AllocGlobal,
-    ensures { EndsServed (map string_bytes words.now) result }
 {
     let asked = built(words);
     let (said, compiled) = match begun(rt, rt.alloc(), asked) {
         Ok(begun) => begun,
-        Err(status) => return status,
+        Err(status) => {
+            print_hint(rt, words, status);
+            return status;
+        }
     };
     let Ok(design) = compiled.design().clone() else {
         return Status::Memory;
@@ -137,7 +107,13 @@ where
         return Status::Memory;
     };
     let address = asked[said.listen as usize].as_str();
-    let status = listen_on(rt, address, &shared, &mut seat, said.seats);
+    let status = match TcpListener::bind(rt, address) {
+        Ok(listener) => listen(rt, &listener, address, &shared, &mut seat, said.seats),
+        Err(error) => {
+            print_address_hint(rt, address, &error);
+            Status::NoWorker
+        }
+    };
     shared.leave(seat);
     status
 }
