@@ -6,3 +6,4 @@ pub mod Code
 pub mod Scopes
 pub mod Binding
 pub mod Fronts
+pub mod Forms

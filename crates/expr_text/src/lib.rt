@@ -3,10 +3,8 @@
 //! Expressions as text of SystemVerilog, for those who read what a coverpoint samples.
 #![tactic(auto)]
 
-mod form;
 mod names;
 mod operators;
 mod walk;
 
-pub use form::{Form, Formed};
 pub use walk::append_expr;

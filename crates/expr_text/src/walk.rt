@@ -4,35 +4,35 @@ ghost use Rattle.expr_text.specs.Expressions.{expr_text, text_of};
 
 use crate::names::{Names, append_bits};
 use crate::operators::{binary_text, unary_text};
-use crate::{Form, Formed};
 use appending::append;
+use const_eval::{Form, Look};
 use cov_ground::Memory;
 use design_data::Signal;
 
 /// Adds an expression as SystemVerilog, each operation in parentheses (IEEE 1800-2017, clause 11). `signals` are those of
 /// the design, and `arguments` those of the sample function of the group that the expression stands in; a name that is
 /// none of them is left out.
-pub fn append_expr<E: Formed>(
+pub fn append_expr(
     text: &mut Vec<u8>,
     signals: &[Signal],
     arguments: &[Signal],
-    expr: E,
+    expr: Look<'_>,
 ) -> Result<(), Memory>
-    ensures { OnOk result (text.new.items ≡ text.old.items ++ expr_text signals.now arguments.now (E.term expr)) }
+    ensures { OnOk result (text.new.items ≡ text.old.items ++ expr_text signals.now arguments.now expr) }
 {
     let names = Names { signals, arguments };
     append_parts(text, &names, expr, true)
 }
 
 /// Adds an expression. The parts of a concatenation that others follow have no braces of their own.
-fn append_parts<E: Formed>(
+fn append_parts(
     text: &mut Vec<u8>,
     names: &Names<'_>,
-    expr: E,
+    expr: Look<'_>,
     with_braces: bool,
 ) -> Result<(), Memory>
     ensures { OnOk result (text.new.items
-        ≡ text.old.items ++ text_of names.now.signals.now names.now.arguments.now (E.term expr) with_braces) }
+        ≡ text.old.items ++ text_of names.now.signals.now names.now.arguments.now expr with_braces) }
 {
     match expr.form() {
         Form::Number { bits, typ } => append_bits(text, typ, bits),
