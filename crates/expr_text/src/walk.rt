@@ -18,7 +18,7 @@ pub fn append_expr(
     arguments: &[Signal],
     expr: Look<'_>,
 ) -> Result<(), Memory>
-    ensures { OnOk result (text.new.items ≡ text.old.items ++ expr_text signals.now arguments.now expr) }
+    ensures { OnOk result (text.new.items ≡ text.old.items ++ expr_text signals.now arguments.now expr.entry) }
 {
     let names = Names { signals, arguments };
     append_parts(text, &names, expr, true)
@@ -32,7 +32,7 @@ fn append_parts(
     with_braces: bool,
 ) -> Result<(), Memory>
     ensures { OnOk result (text.new.items
-        ≡ text.old.items ++ text_of names.now.signals.now names.now.arguments.now expr with_braces) }
+        ≡ text.old.items ++ text_of names.now.signals.now names.now.arguments.now expr.entry with_braces) }
 {
     match expr.form() {
         Form::Number { bits, typ } => append_bits(text, typ, bits),

@@ -2,4 +2,4 @@ use Rattle.expr_text.proofs.Sizes.{size}
 use Rattle.expr_text.proofs.walk.+append_parts.Given as goal
 
 abbrev pub decreases-append_parts : goal.decreases-append_parts
-decreases-append_parts g l = size l.expr
+decreases-append_parts l = size l.expr
