@@ -3,7 +3,7 @@ use crate::words::{show, show_number};
 use cov_serve::{ServeWords, serve_words};
 use std::alloc::Global;
 use std::io::Print;
-use text_place::{HELP, VERSION, early_text};
+use text_place::{HELP, VERSION, text_of, topic_of};
 
 /// Adds a word.
 fn add_word(alloc: Global, words: &mut Vec<String>, word: &str) {
@@ -48,18 +48,21 @@ pub(crate) fn serve<R: Print>(rt: &R, alloc: Global, row: &str) {
     }
 }
 
-/// Which text it is.
-fn name_of(text: Option<&str>) -> &'static str {
+/// Which text it is: a page by its first line.
+fn name_of(text: &'static str) -> &'static str {
     match text {
-        Some(HELP) => " help",
-        Some(VERSION) => " version",
-        Some(_) => " another text",
-        None => " none",
+        HELP => "help",
+        VERSION => "version",
+        page => page.split_once('\n').unwrap_or((page, "")).0,
     }
 }
 
 /// WORDS: the text that is asked for before any command.
 pub(crate) fn early<R: Print>(rt: &R, alloc: Global, row: &str) {
     let words = words_of(alloc, row);
-    show(rt, name_of(early_text(&words)));
+    show(rt, " ");
+    match topic_of(&words) {
+        Some(topic) => show(rt, name_of(text_of(topic))),
+        None => show(rt, "none"),
+    }
 }

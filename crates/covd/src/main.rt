@@ -16,7 +16,7 @@ use std::process::ExitCode;
 use std::rt::Files;
 use std::thread::Threads;
 use std::{env, io};
-use text_place::early_text;
+use text_place::{text_of, topic_of};
 
 /// The words after the program's name.
 fn words_of(rt: &HostRuntime) -> io::Result<Vec<String>> {
@@ -46,8 +46,8 @@ fn run_words<R: Threads + Sync + Files + Input + Print + Eprint + AllocGlobal>(
 
 fn main(rt: HostRuntime) -> ExitCode {
     let number = match given(rt.alloc(), words_of(&rt)) {
-        Ok(words) => match early_text(&words) {
-            Some(text) => ended(&rt.print(text)).number(),
+        Ok(words) => match topic_of(&words) {
+            Some(topic) => ended(&rt.print(text_of(topic))).number(),
             None if is_serve(&words) => serve(&rt, &words).number(),
             None => run_words(&rt, &words).number(),
         },

@@ -7,11 +7,12 @@
 mod help;
 mod hint;
 mod kinds;
+mod pages;
 
 ghost use Rattle.std.specs.Prelude.{◌≡◌, ◌+◌, ◌≤◌, ◌<◌, ◌^◌, length};
 ghost use Rattle.text_place.specs.Places.{IsLine, IsLineEnd};
 
-pub use help::{HELP, VERSION, early_text};
+pub use help::{Command, HELP, Topic, VERSION, text_of, topic_of};
 pub use hint::{Fault, place_hint};
 pub use kinds::{FileKind, kind_of};
 
