@@ -63,3 +63,10 @@ report_text opening h =
     ++ (coverage_text (design_of opening h).instances (nodes_at opening h) (rows_at opening h)
     ++ (illegal_text (nodes_at opening h) (count_of opening h)
     ++ rank_text 1 (ranked_at opening h) (ids_of (tests_of h))))
+
+-- the same without a line for each test, and without their ranking
+unfoldable pub short_text : (opening : Design) → List Entry → List ℕ
+short_text opening h =
+    merge_line (length (tests_of h))
+    ++ (coverage_text (design_of opening h).instances (nodes_at opening h) (rows_at opening h)
+    ++ illegal_text (nodes_at opening h) (count_of opening h))

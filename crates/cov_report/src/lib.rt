@@ -9,4 +9,4 @@ mod ranking;
 mod report;
 mod tests;
 
-pub use report::report_lines;
+pub use report::{report_lines, short_lines};

@@ -2,13 +2,14 @@
 ghost use Rattle.std.specs.Prelude.{◌≡◌, ◌++◌, length, map, IfOk, OnOk};
 ghost use Rattle.cov_history.specs.History.{tests_of};
 ghost use Rattle.merge_store.specs.Stores.{opening_of, entries_of};
-ghost use Rattle.cov_report.specs.Report.{tests_text, report_text};
+ghost use Rattle.cov_report.specs.Lines.{merge_line};
+ghost use Rattle.cov_report.specs.Report.{tests_text, report_text, short_text};
 ghost use Rattle.store_views.specs.Views.{ids_of as ids_meant};
 
 use crate::coverage::append_coverage;
 use crate::illegal::append_all_illegal;
 use crate::ranking::append_ranking;
-use crate::tests::{append_tests, ids_of};
+use crate::tests::{append_merge, append_tests, ids_of};
 use cov_base::Memory;
 use cov_tree::Name;
 use merge_store::Store;
@@ -44,5 +45,25 @@ pub fn report_lines<R: Threads + Sync>(
     append_coverage(&mut text, store)?;
     append_all_illegal(&mut text, store)?;
     append_ranking(rt, alloc, &mut text, store, ids.as_slice())?;
+    Ok(text)
+}
+
+/// How many tests a store has.
+fn append_number_of_tests(alloc: Global, text: &mut Vec<u8>, store: &Store) -> Result<(), Memory>
+    ensures { OnOk result (text.new.items ≡ text.old.items ++ merge_line (length (tests_of (entries_of store.now)))) }
+{
+    let tests = all_tests(alloc, store)?;
+    append_merge(text, tests.len())
+}
+
+/// The same without a line for each test and without their ranking, which isn't worked out.
+#[tactic(auto, unfolding(crate::specs::Report::short_text))]
+pub fn short_lines(alloc: Global, store: &Store) -> Result<Vec<u8>, Memory>
+    ensures { IfOk result (λ text. text.items ≡ short_text (opening_of store.now) (entries_of store.now)) }
+{
+    let mut text = Vec::new(alloc);
+    append_number_of_tests(alloc, &mut text, store)?;
+    append_coverage(&mut text, store)?;
+    append_all_illegal(&mut text, store)?;
     Ok(text)
 }

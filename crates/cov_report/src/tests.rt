@@ -22,13 +22,20 @@ fn append_test(text: &mut Vec<u8>, point: u64, status: u8, id: &[u8]) -> Result<
     append(text, b"\n")
 }
 
+/// How many tests there are.
+pub(crate) fn append_merge(text: &mut Vec<u8>, tests: usize) -> Result<(), Memory>
+    ensures { OnOk result (text.new.items ≡ text.old.items ++ merge_line tests) }
+{
+    append(text, b"MERGE tests ")?;
+    append_number(text, tests as u64)?;
+    append(text, b"\n")
+}
+
 /// How many tests there are, and a line for each.
 pub(crate) fn append_tests(text: &mut Vec<u8>, tests: &[HistoryNode]) -> Result<(), Memory>
     ensures { OnOk result (text.new.items ≡ text.old.items ++ (merge_line (length tests.now) ++ flat_map (λ row. test_line row.point row.status row.id) tests.now)) }
 {
-    append(text, b"MERGE tests ")?;
-    append_number(text, tests.len() as u64)?;
-    append(text, b"\n")?;
+    append_merge(text, tests.len())?;
     for test in tests {
         append_test(text, test.point, test.status, test.id.as_slice())?;
     }

@@ -7,6 +7,7 @@ pub mod Items
 pub mod NoForm
 pub mod OneEach
 pub mod Parsing
+pub mod Percent
 pub mod Printed
 pub mod ReadOn
 pub mod Records

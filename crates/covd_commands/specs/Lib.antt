@@ -10,6 +10,7 @@ pub mod FromFiles
 pub mod Lines
 pub mod Listings
 pub mod Making
+pub mod Options
 pub mod Origins
 pub mod Statuses
 pub mod Steps

@@ -2,33 +2,35 @@
 ghost use Rattle.std.specs.Prelude.{◌≡◌, ◌∷◌, [], ℕ, Some, List, map, string_bytes, codes, IfSome, MatchOption};
 ghost use Rattle.cov_ground.specs.Limits.{most_tests};
 ghost use Rattle.covd_commands.specs.Digits.{written as written_meant, bounded as bounded_meant};
-ghost use Rattle.covd_commands.specs.Forms.{form_of as form_meant, most_rounds, IsReportCommand, IsNoReport, IsExportCommand, IsNoExport, IsMakeCommand, IsNoMake};
+ghost use Rattle.covd_commands.specs.Forms.{form_of as form_meant, most_rounds, Asks, NoneAsked, IsReportCommand, IsNoReport, IsExportCommand, IsNoExport, IsMakeCommand, IsNoMake};
 
 use crate::numbers::{rounds_of, seed_of, tests_of};
+use crate::options::{Options, options_of};
 
-/// The words behind a command's own and the design's; None where this is another command, or too short.
-fn behind<'w>(command: &str, words: &'w [String]) -> Option<(&'w str, &'w [String])>
-    ensures { MatchOption result
-        ((design : List ℕ) (rest : List (List ℕ)) → map string_bytes words.now ≡ command.now ∷ design ∷ rest → ⊥)
-        (λ parts. map string_bytes words.now ≡ command.now ∷ parts.0.now ∷ map string_bytes parts.1.now) }
+/// The options and the words behind a command's own, the first of them apart; None where this is another command, where the
+/// options aren't such, or no word is behind them.
+fn behind<'w>(command: &str, words: &'w [String]) -> Option<(Options, &'w str, &'w [String])>
+    ensures { MatchOption result (NoneAsked command.now (map string_bytes words.now))
+        (λ parts. Asks command.now (map string_bytes words.now) parts.0 (parts.1.now ∷ map string_bytes parts.2.now)) }
 {
     let (first, rest) = words.split_first()?;
-    let (design, rest) = rest.split_first()?;
     if first.as_str() != command {
         return None;
     }
-    Some((design.as_str(), rest))
+    let (options, rest) = options_of(rest)?;
+    let (word, rest) = rest.split_first()?;
+    Some((options, word.as_str(), rest))
 }
 
-/// The design's name and the records' of `report`.
-pub fn report_words(words: &[String]) -> Option<(&str, &[String])>
-    ensures { MatchOption result (IsNoReport (map string_bytes words.now)) (λ parts. IsReportCommand (map string_bytes words.now) parts.0.now (map string_bytes parts.1.now)) }
+/// The options, the design's name and the records' of `report`.
+pub fn report_words(words: &[String]) -> Option<(Options, &str, &[String])>
+    ensures { MatchOption result (IsNoReport (map string_bytes words.now)) (λ parts. IsReportCommand (map string_bytes words.now) parts.0 parts.1.now (map string_bytes parts.2.now)) }
 {
-    let (design, names) = behind("report", words)?;
+    let (options, design, names) = behind("report", words)?;
     if names.is_empty() {
         return None;
     }
-    Some((design, names))
+    Some((options, design, names))
 }
 
 /// The form in which a store is shown.
@@ -60,18 +62,21 @@ fn form_of(word: &str) -> Option<Form>
     None
 }
 
-/// The form, the design's name and the records' of `export`.
-pub fn export_words(words: &[String]) -> Option<(Form, &str, &[String])>
+/// The options, the form, the design's name and the records' of `export`.
+pub fn export_words(words: &[String]) -> Option<(Options, Form, &str, &[String])>
     ensures { MatchOption result (IsNoExport (map string_bytes words.now))
-        (λ parts. IsExportCommand (map string_bytes words.now) parts.0 parts.1.now (map string_bytes parts.2.now)) }
+        (λ parts. IsExportCommand (map string_bytes words.now) parts.0 parts.1 parts.2.now (map string_bytes parts.3.now)) }
 {
-    let (word, rest) = behind("export", words)?;
+    let (options, word, rest) = behind("export", words)?;
+    if options.short {
+        return None;
+    }
     let (design, names) = rest.split_first()?;
     if names.is_empty() {
         return None;
     }
     match form_of(word) {
-        Some(form) => Some((form, design.as_str(), names)),
+        Some(form) => Some((options, form, design.as_str(), names)),
         None => None,
     }
 }
@@ -118,14 +123,15 @@ fn numbers_of(seed: &str, rounds: &str, tests: &str) -> Option<Numbers>
     })
 }
 
-/// The design's name and the numbers of `make`.
-pub fn make_words(words: &[String]) -> Option<(&str, Numbers)>
-    ensures { MatchOption result (IsNoMake (map string_bytes words.now)) (λ parts. IsMakeCommand (map string_bytes words.now) parts.0.now parts.1.seed parts.1.rounds parts.1.tests) }
+/// The options, the design's name and the numbers of `make`.
+pub fn make_words(words: &[String]) -> Option<(Options, &str, Numbers)>
+    ensures { MatchOption result (IsNoMake (map string_bytes words.now))
+        (λ parts. IsMakeCommand (map string_bytes words.now) parts.0 parts.1.now parts.2.seed parts.2.rounds parts.2.tests) }
 {
-    let (design, rest) = behind("make", words)?;
+    let (options, design, rest) = behind("make", words)?;
     let (seed, rounds, tests) = three(rest)?;
     match numbers_of(seed, rounds, tests) {
-        Some(numbers) => Some((design, numbers)),
+        Some(numbers) => Some((options, design, numbers)),
         None => None,
     }
 }

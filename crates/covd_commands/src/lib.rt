@@ -13,6 +13,7 @@ mod lines;
 pub mod listing;
 pub mod loading;
 mod numbers;
+pub mod options;
 pub mod origins;
 pub mod record;
 mod status;

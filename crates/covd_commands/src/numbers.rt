@@ -1,5 +1,5 @@
 //! Decimal numbers in words.
-ghost use Rattle.std.specs.Prelude.{◌≡◌};
+ghost use Rattle.std.specs.Prelude.{◌≡◌, ◌≤◌, IfSome};
 ghost use Rattle.cov_ground.specs.Limits.{most_tests};
 ghost use Rattle.covd_commands.specs.Forms.{most_rounds};
 ghost use Rattle.covd_commands.specs.Digits.{with_digit as with_digit_meant, written as written_meant, bounded as bounded_meant};
@@ -25,7 +25,7 @@ fn with_digit(number: u64, byte: u8) -> Option<u64>
 
 /// The number of at most 64 bits that one digit to so many digits write; None for every other word.
 #[tactic(auto, using(crate::proofs::Digits::one_more, crate::proofs::Digits::stops, crate::proofs::Digits::all_read), unfolding(crate::specs::Digits::written))]
-fn written(digits: usize, word: &[u8]) -> Option<u64>
+pub(crate) fn written(digits: usize, word: &[u8]) -> Option<u64>
     ensures { result ≡ written_meant digits word.now }
 {
     if word.is_empty() {
@@ -44,8 +44,9 @@ fn written(digits: usize, word: &[u8]) -> Option<u64>
 }
 
 /// It, where it is not less than the least and not more than the most.
-fn bounded(least: u64, most: u64, number: Option<u64>) -> Option<u64>
-    ensures { result ≡ bounded_meant least most number }
+pub(crate) fn bounded(least: u64, most: u64, number: Option<u64>) -> Option<u64>
+    ensures is { result ≡ bounded_meant least most number }
+    ensures within { IfSome result (λ bounded. bounded ≤ most) }
 {
     let number = number?;
     if number < least {

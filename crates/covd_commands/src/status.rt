@@ -35,6 +35,8 @@ pub enum Status {
     DumpRefused,
     /// The server's address can't be listened on, or all its workers have ended.
     NoWorker,
+    /// The text was printed whole, and coverage overall is below the goal.
+    BelowGoal,
 }
 
 impl Status {
@@ -58,6 +60,7 @@ impl Status {
             Status::FileTooLong => 12,
             Status::DumpRefused => 13,
             Status::NoWorker => 14,
+            Status::BelowGoal => 19,
         }
     }
 }

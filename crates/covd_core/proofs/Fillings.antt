@@ -1,6 +1,6 @@
 -- The steps of filling a store, one after the other.
-use Rattle.std.proofs.Common.{◌≡◌, ℕ, ◌+◌, ◌≤◌, List, [], ◌∷◌, map, Ok, Err, inl, inr, sym, subst}
-use Rattle.std.specs.Prelude.{replicate}
+use Rattle.std.proofs.Common.{◌≡◌, ℕ, ◌+◌, ◌≤◌, List, [], ◌∷◌, map, Bool, true, false, Option, Some, None, Ok, Err, inl, inr, sym, subst}
+use Rattle.std.specs.Prelude.{replicate, nat_lt, if◌then◌else◌}
 use Rattle.cov_ground.specs.Limits.{longest_record}
 use Rattle.design_data.specs.declared.design.Design.{Design}
 use Rattle.record_codec.specs.declared.record.Record.{Record}
@@ -12,9 +12,11 @@ use Rattle.covd_commands.specs.declared.status.Status.TheVariants as status
 use Rattle.covd_core.specs.Admission.{behind}
 use Rattle.covd_commands.specs.FromFiles.{Files, NotLoaded, NoDesign}
 use Rattle.covd_commands.specs.Finding.{Origin, File, Made, Finds, FindsNone, IsFound}
+use Rattle.store_views.specs.Views.{rows_at}
+use Rattle.covd_commands.specs.declared.options.Options.{Options}
 use Rattle.covd_commands.specs.declared.forms.Form.{Form}
 use Rattle.covd_commands.specs.declared.forms.Form.TheVariants as form
-use Rattle.covd_core.specs.Command.{Shown, form_text, NotTaken, Fills, Reports, FillAnswers}
+use Rattle.covd_core.specs.Command.{Shown, reached, shown_by, NotTaken, Fills, Reports, FillAnswers}
 use Rattle.covd_core.specs.Filling.{Admits, Takes, Leads, IsFilled, IsStored}
 use Rattle.covd_commands.proofs.Unread.{not_loaded}
 
@@ -22,6 +24,7 @@ use Rattle.covd_commands.proofs.Unread.{not_loaded}
 
 pub record Never (s : Status) : Type 0 where
   pub done : s ≡ status.Done → ⊥
+  pub below : s ≡ status.BelowGoal → ⊥
   pub refused : s ≡ status.RecordRefused → ⊥
   pub unadmitted : s ≡ status.AdmitRefused → ⊥
   pub unloaded : (files : Files) (before now : ℕ) (name : List ℕ) (most : ℕ) (text : List ℕ) → NotLoaded files before now name most s text → ⊥
@@ -30,6 +33,7 @@ pub record Never (s : Status) : Type 0 where
 pub never_memory : Never status.Memory
 never_memory = record {
   done = λ e. absurd (cc e);
+  below = λ e. absurd (cc e);
   refused = λ e. absurd (cc e);
   unadmitted = λ e. absurd (cc e);
   unloaded = λ files before now name most text h. h;
@@ -39,6 +43,7 @@ never_memory = record {
 pub never_write_fault : Never status.WriteFault
 never_write_fault = record {
   done = λ e. absurd (cc e);
+  below = λ e. absurd (cc e);
   refused = λ e. absurd (cc e);
   unadmitted = λ e. absurd (cc e);
   unloaded = λ files before now name most text h. h;
@@ -46,26 +51,37 @@ never_write_fault = record {
 }
 
 module _ {s : Status} (never : Never s) where
+  not_reached : (overall : ℕ) (goal : Option ℕ) → s ≡ reached overall goal → ⊥
+  not_reached overall None e = never.done e
+  not_reached overall (Some goal) e = by_test (nat_lt overall goal) e
+    where
+      by_test : (below : Bool) → s ≡ (if below then status.BelowGoal else status.Done) → ⊥
+      by_test true e = never.below e
+      by_test false e = never.done e
+
   none_never : (files : Files) (before now : ℕ) (d : Design) (k : ℕ) (origin : Origin) (text : List ℕ) → FindsNone files before now d k origin s text → ⊥
   none_never files before now d k (File name) text a = elim a [ inl b ↦ never.unloaded files before now name longest_record text b | inr b ↦ never.refused b.0 ]
   none_never files before now d k (Made seed rounds) text a = never.unadmitted a.0
 
-  fills_never : (shown : Shown) (files : Files) (before now : ℕ) (d : Design) (origins : List Origin) (k : ℕ) (h : List Entry) (text : List ℕ) → Fills shown files before now d k h origins s text → ⊥
-  fills_never shown files before now d [] k h text a = never.done a.0
-  fills_never shown files before now d (origin ∷ later) k h text a = elim a [
+  fills_never : (shown : Shown) → ((d : Design) (h : List Entry) → s ≡ (shown d h).0 → ⊥) → (files : Files) (before now : ℕ) (d : Design) (origins : List Origin) (k : ℕ) (h : List Entry) (text : List ℕ) → Fills shown files before now d k h origins s text → ⊥
+  fills_never shown apart files before now d [] k h text a = apart d h a.0
+  fills_never shown apart files before now d (origin ∷ later) k h text a = elim a [
     | inl x ↦ elim x [ inl b ↦ none_never files before now d k origin text b | inr b ↦ never.unadmitted b.2 ]
-    | inr x ↦ fills_never shown files before now d later (k + 1) (behind d h x.0) text x.3
+    | inr x ↦ fills_never shown apart files before now d later (k + 1) (behind d h x.0) text x.3
   ]
 
-  reports_never : (files : Files) (before now : ℕ) (form : Form) (design : List ℕ) (origins : List Origin) (text : List ℕ) → Reports files before now form design origins s text → ⊥
-  reports_never files before now form design origins text a = elim a [ inl b ↦ never.no_design files before now design text b | inr b ↦ fills_never (form_text form b.1.text) files before now b.0 origins 1 [] text b.2 ]
+  reports_never : (files : Files) (before now : ℕ) (options : Options) (form : Form) (design : List ℕ) (origins : List Origin) (text : List ℕ) → Reports files before now options form design origins s text → ⊥
+  reports_never files before now options form design origins text a = elim a [
+    | inl b ↦ never.no_design files before now design text b
+    | inr b ↦ fills_never (shown_by options form b.1.text) (λ d h e. not_reached (rows_at d h 0).millionths options.goal e) files before now b.0 origins 1 [] text b.2
+  ]
 
   pub no_answer : (words : List (List ℕ)) (files : Files) (before now : ℕ) (text : List ℕ) → FillAnswers words files before now s text → ⊥
   no_answer words files before now text a = elim a [
-    | inl x ↦ reports_never files before now form.Report x.0 (map File x.1) text x.3
+    | inl x ↦ reports_never files before now x.0 form.Report x.1 (map File x.2) text x.4
     | inr y ↦ elim y [
-      | inl x ↦ reports_never files before now x.0 x.1 (map File x.2) text x.4
-      | inr x ↦ reports_never files before now form.Report x.0 (replicate x.3 (Made x.1 x.2)) text x.5
+      | inl x ↦ reports_never files before now x.0 x.1 x.2 (map File x.3) text x.5
+      | inr x ↦ reports_never files before now x.0 form.Report x.1 (replicate x.4 (Made x.2 x.3)) text x.6
     ]
   ]
 

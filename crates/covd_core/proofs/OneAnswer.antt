@@ -9,18 +9,20 @@ use Rattle.covd_commands.specs.declared.status.Status.TheVariants as status
 use Rattle.covd_commands.specs.Lines.{bad_words_text}
 use Rattle.covd_commands.specs.FromFiles.{Files}
 use Rattle.cov_spec.specs.Files.{file_of}
+use Rattle.covd_commands.specs.declared.options.Options.{Options}
 use Rattle.covd_commands.specs.declared.forms.Form.{Form}
 use Rattle.covd_commands.specs.declared.forms.Form.TheVariants as form
 use Rattle.covd_commands.specs.declared.listing.Listing.{Listing}
 use Rattle.covd_commands.specs.Listings.{listing_of, IsListCommand, Lists}
 use Rattle.covd_commands.specs.Commands.{IsCountCommand, IsRecordCommand, Counts, Records}
-use Rattle.covd_core.specs.Command.{Shown, form_text, IsNoCommand, Answers, HasOneAnswer, NotTaken, Fills, Reports}
+use Rattle.covd_core.specs.Command.{Shown, shown_by, IsNoCommand, Answers, HasOneAnswer, NotTaken, Fills, Reports}
 use Rattle.cov_history.specs.declared.entry.Entry.{Entry}
 use Rattle.covd_commands.specs.Digits.{written, bounded}
 use Rattle.covd_commands.specs.Forms.{form_of, IsReportCommand, IsExportCommand, IsMakeCommand}
 use Rattle.covd_core.specs.Admission.{admission, behind}
 use Rattle.covd_commands.specs.Unadmitted.{refusal_line}
 use Rattle.covd_commands.specs.Finding.{Origin, File, Made, Finds, FindsNone}
+use Rattle.covd_commands.proofs.NoForm.{asked_once}
 use Rattle.covd_commands.proofs.Refusals.{IsReading}
 use Rattle.covd_commands.proofs.OneEach.{Told, Family, IsOne, AreApart, Either, either_one, apart_both, WithDesign, with_one, list_one, count_one, record_one_answer, unfound_one, found_one, found_or_not}
 
@@ -70,25 +72,25 @@ module _ (spells : IsReading) (all : Told) (before now : ℕ) (calm : Rose befor
 
 -- ---- report, export and make
 
-module _ (spells : IsReading) (all : Told) (form : Form) (design : List ℕ) (before now : ℕ) (calm : Rose before now → ⊥) (origins : List Origin) where
+module _ (spells : IsReading) (all : Told) (options : Options) (form : Form) (design : List ℕ) (before now : ℕ) (calm : Rose before now → ⊥) (origins : List Origin) where
   -- how the command ends with the design, whose file is this text
   pub record Shows (d : Design) (s : Status) (text : List ℕ) : Type 0 where
     source : List ℕ
     file : file_of all design ≡ Some source
-    fills : Fills (form_text form source) (Some all) before now d 1 [] origins s text
+    fills : Fills (shown_by options form source) (Some all) before now d 1 [] origins s text
 
   same_source : (a b : List ℕ) → file_of all design ≡ Some a → file_of all design ≡ Some b → a ≡ b
   same_source a b e f = cc (e, f)
 
   shows_one : (d : Design) → IsOne (Shows d)
   shows_one d s s' text text' a b =
-      let fills = subst (λ (x : List ℕ). Fills (form_text form x) (Some all) before now d 1 [] origins s text) (same_source a.source b.source a.file b.file) a.fills in
-      fills_one spells all before now calm d (form_text form b.source) origins 1 [] s s' text text' fills b.fills
+      let fills = subst (λ (x : List ℕ). Fills (shown_by options form x) (Some all) before now d 1 [] origins s text) (same_source a.source b.source a.file b.file) a.fills in
+      fills_one spells all before now calm d (shown_by options form b.source) origins 1 [] s s' text text' fills b.fills
 
-  with_text : (s : Status) (text : List ℕ) → Reports (Some all) before now form design origins s text → WithDesign all design before now calm Shows shows_one s text
+  with_text : (s : Status) (text : List ℕ) → Reports (Some all) before now options form design origins s text → WithDesign all design before now calm Shows shows_one s text
   with_text s text h = elim h [ inl a ↦ inl a | inr a ↦ inr (a.0, a.1, record { source = a.1.text; file = a.1.file; fills = a.2 }) ]
 
-  report_one : IsOne (Reports (Some all) before now form design origins)
+  report_one : IsOne (Reports (Some all) before now options form design origins)
   report_one s s' text text' h k = with_one all design before now calm Shows shows_one s s' text text' (with_text s text h) (with_text s' text' k)
 
 -- ---- the words
@@ -133,13 +135,13 @@ module _ (spells : IsReading) (words : List (List ℕ)) (all : Told) (before now
   RecordCommand s text = (design dump scope id : List ℕ) × IsRecordCommand words design dump scope id × Records (Some all) before now design dump scope id s text
 
   abbrev ReportCommand : Family
-  ReportCommand s text = (design : List ℕ) × (names : List (List ℕ)) × IsReportCommand words design names × Reports (Some all) before now form.Report design (map File names) s text
+  ReportCommand s text = (options : Options) × (design : List ℕ) × (names : List (List ℕ)) × IsReportCommand words options design names × Reports (Some all) before now options form.Report design (map File names) s text
 
   abbrev ExportCommand : Family
-  ExportCommand s text = (form : Form) × (design : List ℕ) × (names : List (List ℕ)) × IsExportCommand words form design names × Reports (Some all) before now form design (map File names) s text
+  ExportCommand s text = (options : Options) × (form : Form) × (design : List ℕ) × (names : List (List ℕ)) × IsExportCommand words options form design names × Reports (Some all) before now options form design (map File names) s text
 
   abbrev MakeCommand : Family
-  MakeCommand s text = (design : List ℕ) × (seed rounds tests : ℕ) × IsMakeCommand words design seed rounds tests × Reports (Some all) before now form.Report design (replicate tests (Made seed rounds)) s text
+  MakeCommand s text = (options : Options) × (design : List ℕ) × (seed rounds tests : ℕ) × IsMakeCommand words options design seed rounds tests × Reports (Some all) before now options form.Report design (replicate tests (Made seed rounds)) s text
 
   none_one : IsOne NoCommand
   none_one s s' text text' a b = (a.1 ∙ sym b.1, a.2 ∙ sym b.2)
@@ -196,88 +198,91 @@ module _ (spells : IsReading) (words : List (List ℕ)) (all : Told) (before now
 
   reports_one : IsOne ReportCommand
   reports_one s s' text text' a b =
-      let e = a.2.are in
-      let f = b.2.are in
-      let one : b.0 ≡ a.0 = cc (e, f) in
-      let two : b.1 ≡ a.1 = cc (e, f) in
-      let k : Reports (Some all) before now form.Report a.0 (map File a.1) s' text' = rw (sym one, sym two) b.3 in
-      report_one spells all form.Report a.0 before now calm (map File a.1) s s' text text' a.3 k
+      let same = asked_once (codes "report") words b.0 a.0 _ _ b.3.asks a.3.asks in
+      let e = same.1 in
+      let zero = same.0 in
+      let one : b.1 ≡ a.1 = cc e in
+      let two : b.2 ≡ a.2 = cc e in
+      let k : Reports (Some all) before now a.0 form.Report a.1 (map File a.2) s' text' = rw (sym zero, sym one, sym two) b.4 in
+      report_one spells all a.0 form.Report a.1 before now calm (map File a.2) s s' text text' a.4 k
 
   exports_one : IsOne ExportCommand
   exports_one s s' text text' a b =
-      let l = a.3 in
-      let m = b.3 in
-      let e = l.are in
-      let f = m.are in
+      let l = a.4 in
+      let m = b.4 in
+      let same = asked_once (codes "export") words b.0 a.0 _ _ m.asks l.asks in
+      let e = same.1 in
       let forms = l.is_form in
-      let word : m.word ≡ l.word = cc (e, f) in
-      let other : form_of l.word ≡ Some b.0 = ap form_of (sym word) ∙ m.is_form in
-      let one : b.0 ≡ a.0 = cc (forms, other) in
-      let two : b.1 ≡ a.1 = cc (e, f) in
-      let three : b.2 ≡ a.2 = cc (e, f) in
-      let k : Reports (Some all) before now a.0 a.1 (map File a.2) s' text' = rw (sym one, sym two, sym three) b.4 in
-      report_one spells all a.0 a.1 before now calm (map File a.2) s s' text text' a.4 k
+      let word : m.word ≡ l.word = cc e in
+      let other : form_of l.word ≡ Some b.1 = ap form_of (sym word) ∙ m.is_form in
+      let zero = same.0 in
+      let one : b.1 ≡ a.1 = cc (forms, other) in
+      let two : b.2 ≡ a.2 = cc e in
+      let three : b.3 ≡ a.3 = cc e in
+      let k : Reports (Some all) before now a.0 a.1 a.2 (map File a.3) s' text' = rw (sym zero, sym one, sym two, sym three) b.5 in
+      report_one spells all a.0 a.1 a.2 before now calm (map File a.3) s s' text text' a.5 k
 
   makes_one_report : IsOne MakeCommand
   makes_one_report s s' text text' a b =
-      let m = a.4 in
-      let n = b.4 in
-      let e = m.are in
-      let f = n.are in
-      let one : b.0 ≡ a.0 = cc (e, f) in
-      let seeds : n.seed_word ≡ m.seed_word = cc (e, f) in
-      let rounds : n.rounds_word ≡ m.rounds_word = cc (e, f) in
-      let tests : n.tests_word ≡ m.tests_word = cc (e, f) in
-      let two : b.1 ≡ a.1 = same_some _ _ (sym n.seed_is ∙ ap (written 20) seeds ∙ m.seed_is) in
-      let three : b.2 ≡ a.2 = same_some _ _ (sym n.rounds_are ∙ ap (λ (word : List ℕ). bounded 0 1048576 (written 7 word)) rounds ∙ m.rounds_are) in
-      let four : b.3 ≡ a.3 = same_some _ _ (sym n.tests_are ∙ ap (λ (word : List ℕ). bounded 1 4096 (written 4 word)) tests ∙ m.tests_are) in
-      let k : Reports (Some all) before now form.Report a.0 (replicate a.3 (Made a.1 a.2)) s' text' = rw (sym one, sym two, sym three, sym four) b.5 in
-      report_one spells all form.Report a.0 before now calm (replicate a.3 (Made a.1 a.2)) s s' text text' a.5 k
+      let m = a.5 in
+      let n = b.5 in
+      let same = asked_once (codes "make") words b.0 a.0 _ _ n.asks m.asks in
+      let e = same.1 in
+      let zero = same.0 in
+      let one : b.1 ≡ a.1 = cc e in
+      let seeds : n.seed_word ≡ m.seed_word = cc e in
+      let rounds : n.rounds_word ≡ m.rounds_word = cc e in
+      let tests : n.tests_word ≡ m.tests_word = cc e in
+      let two : b.2 ≡ a.2 = same_some _ _ (sym n.seed_is ∙ ap (written 20) seeds ∙ m.seed_is) in
+      let three : b.3 ≡ a.3 = same_some _ _ (sym n.rounds_are ∙ ap (λ (word : List ℕ). bounded 0 1048576 (written 7 word)) rounds ∙ m.rounds_are) in
+      let four : b.4 ≡ a.4 = same_some _ _ (sym n.tests_are ∙ ap (λ (word : List ℕ). bounded 1 4096 (written 4 word)) tests ∙ m.tests_are) in
+      let k : Reports (Some all) before now a.0 form.Report a.1 (replicate a.4 (Made a.2 a.3)) s' text' = rw (sym zero, sym one, sym two, sym three, sym four) b.6 in
+      report_one spells all a.0 form.Report a.1 before now calm (replicate a.4 (Made a.2 a.3)) s s' text text' a.6 k
 
   none_or_report : AreApart NoCommand ReportCommand
-  none_or_report s s' text text' a b = a.0.3 b.0 b.1 b.2
+  none_or_report s s' text text' a b = a.0.3 b.0 b.1 b.2 b.3
 
   none_or_export : AreApart NoCommand ExportCommand
-  none_or_export s s' text text' a b = a.0.4 b.0 b.1 b.2 b.3
+  none_or_export s s' text text' a b = a.0.4 b.0 b.1 b.2 b.3 b.4
 
   none_or_make : AreApart NoCommand MakeCommand
-  none_or_make s s' text text' a b = a.0.5 b.0 b.1 b.2 b.3 b.4
+  none_or_make s s' text text' a b = a.0.5 b.0 b.1 b.2 b.3 b.4 b.5
 
   list_or_report : AreApart ListCommand ReportCommand
-  list_or_report s s' text text' a b = list_apart (codes "report") (b.0 ∷ b.1) words a.0 a.1 refl a.2 b.2.are
+  list_or_report s s' text text' a b = list_apart (codes "report") b.3.asks.behind words a.0 a.1 refl a.2 b.3.asks.are
 
   list_or_export : AreApart ListCommand ExportCommand
-  list_or_export s s' text text' a b = list_apart (codes "export") (b.3.word ∷ b.1 ∷ b.2) words a.0 a.1 refl a.2 b.3.are
+  list_or_export s s' text text' a b = list_apart (codes "export") b.4.asks.behind words a.0 a.1 refl a.2 b.4.asks.are
 
   list_or_make : AreApart ListCommand MakeCommand
-  list_or_make s s' text text' a b = list_apart (codes "make") (b.0 ∷ b.4.seed_word ∷ b.4.rounds_word ∷ b.4.tests_word ∷ []) words a.0 a.1 refl a.2 b.4.are
+  list_or_make s s' text text' a b = list_apart (codes "make") b.5.asks.behind words a.0 a.1 refl a.2 b.5.asks.are
 
   count_or_report : AreApart CountCommand ReportCommand
-  count_or_report s s' text text' a b = other_command (codes "count") (codes "report") (a.0 ∷ a.1 ∷ []) _ words (λ e. absurd (cc e)) a.2 b.2.are
+  count_or_report s s' text text' a b = other_command (codes "count") (codes "report") (a.0 ∷ a.1 ∷ []) _ words (λ e. absurd (cc e)) a.2 b.3.asks.are
 
   count_or_export : AreApart CountCommand ExportCommand
-  count_or_export s s' text text' a b = other_command (codes "count") (codes "export") (a.0 ∷ a.1 ∷ []) _ words (λ e. absurd (cc e)) a.2 b.3.are
+  count_or_export s s' text text' a b = other_command (codes "count") (codes "export") (a.0 ∷ a.1 ∷ []) _ words (λ e. absurd (cc e)) a.2 b.4.asks.are
 
   count_or_make : AreApart CountCommand MakeCommand
-  count_or_make s s' text text' a b = other_command (codes "count") (codes "make") (a.0 ∷ a.1 ∷ []) _ words (λ e. absurd (cc e)) a.2 b.4.are
+  count_or_make s s' text text' a b = other_command (codes "count") (codes "make") (a.0 ∷ a.1 ∷ []) _ words (λ e. absurd (cc e)) a.2 b.5.asks.are
 
   record_or_report : AreApart RecordCommand ReportCommand
-  record_or_report s s' text text' a b = other_command (codes "record") (codes "report") (a.0 ∷ a.1 ∷ a.2 ∷ a.3 ∷ []) _ words no_report a.4.0 b.2.are
+  record_or_report s s' text text' a b = other_command (codes "record") (codes "report") (a.0 ∷ a.1 ∷ a.2 ∷ a.3 ∷ []) _ words no_report a.4.0 b.3.asks.are
 
   record_or_export : AreApart RecordCommand ExportCommand
-  record_or_export s s' text text' a b = other_command (codes "record") (codes "export") (a.0 ∷ a.1 ∷ a.2 ∷ a.3 ∷ []) _ words no_export_record a.4.0 b.3.are
+  record_or_export s s' text text' a b = other_command (codes "record") (codes "export") (a.0 ∷ a.1 ∷ a.2 ∷ a.3 ∷ []) _ words no_export_record a.4.0 b.4.asks.are
 
   record_or_make : AreApart RecordCommand MakeCommand
-  record_or_make s s' text text' a b = other_command (codes "record") (codes "make") (a.0 ∷ a.1 ∷ a.2 ∷ a.3 ∷ []) _ words (λ e. absurd (cc e)) a.4.0 b.4.are
+  record_or_make s s' text text' a b = other_command (codes "record") (codes "make") (a.0 ∷ a.1 ∷ a.2 ∷ a.3 ∷ []) _ words (λ e. absurd (cc e)) a.4.0 b.5.asks.are
 
   report_or_export : AreApart ReportCommand ExportCommand
-  report_or_export s s' text text' a b = other_command (codes "report") (codes "export") (a.0 ∷ a.1) _ words no_export_report a.2.are b.3.are
+  report_or_export s s' text text' a b = other_command (codes "report") (codes "export") _ _ words no_export_report a.3.asks.are b.4.asks.are
 
   report_or_make : AreApart ReportCommand MakeCommand
-  report_or_make s s' text text' a b = other_command (codes "report") (codes "make") (a.0 ∷ a.1) _ words (λ e. absurd (cc e)) a.2.are b.4.are
+  report_or_make s s' text text' a b = other_command (codes "report") (codes "make") _ _ words (λ e. absurd (cc e)) a.3.asks.are b.5.asks.are
 
   export_or_make : AreApart ExportCommand MakeCommand
-  export_or_make s s' text text' a b = other_command (codes "export") (codes "make") (a.3.word ∷ a.1 ∷ a.2) _ words (λ e. absurd (cc e)) a.3.are b.4.are
+  export_or_make s s' text text' a b = other_command (codes "export") (codes "make") _ _ words (λ e. absurd (cc e)) a.4.asks.are b.5.asks.are
 
   abbrev Exporting : Family
   Exporting = Either ExportCommand MakeCommand

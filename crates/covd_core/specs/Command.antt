@@ -2,7 +2,7 @@
 -- the design, compiling; for `count` load of the record, decoding and shape; for `report` and `export` the same and
 -- admission, record by record; for `make` the making and the admission of each; for `record` load of the dump, reading it
 -- and making its record; then printing. The first step that refuses decides.
-use Rattle.std.specs.Prelude.{◌≡◌, ◌⊎◌, ℕ, List, [], ◌∷◌, map, replicate, Option, Some, ◌+◌, None}
+use Rattle.std.specs.Prelude.{◌≡◌, ◌⊎◌, ℕ, List, [], ◌∷◌, map, replicate, Option, Some, ◌+◌, None, nat_lt, if◌then◌else◌}
 use Rattle.cov_spec.specs.Causes.{Rose}
 use Rattle.cov_spec.specs.Told.{Grows, GrowsByFront, Stays}
 use Rattle.record_codec.specs.declared.record.Record.{Record}
@@ -10,11 +10,13 @@ use Rattle.design_data.specs.declared.design.Design.{Design}
 use Rattle.covd_commands.specs.declared.status.Status.{Status}
 use Rattle.covd_commands.specs.declared.status.Status.TheVariants as status
 use Rattle.cov_history.specs.declared.entry.Entry.{Entry}
-use Rattle.cov_report.specs.Report.{report_text}
+use Rattle.cov_report.specs.Report.{report_text, short_text}
 use Rattle.sha2.specs.Sha256.{sha256}
 use Rattle.export_lists.specs.Bins.{bins_text}
 use Rattle.export_lists.specs.Holes.{holes_text}
 use Rattle.export_json.specs.Export.{json_of}
+use Rattle.store_views.specs.Views.{rows_at}
+use Rattle.covd_commands.specs.declared.options.Options.{Options}
 use Rattle.covd_commands.specs.declared.forms.Form.{Form}
 use Rattle.covd_commands.specs.declared.forms.Form.TheVariants as form
 use Rattle.covd_commands.specs.declared.listing.Listing.{Listing}
@@ -40,20 +42,29 @@ NotTaken files before now d k h origin s text =
     FindsNone files before now d k origin s text
     ⊎ ((r : Record) × Finds files d k origin r × (s ≡ status.AdmitRefused) × (refusal_line k (admission d h r) ≡ Some text))
 
--- a text for each history over a design
-abbrev pub Shown : Type 0
-Shown = Design → List Entry → List ℕ
+-- the text of a history in a form, as the options ask; `source` is the text of the design
+abbrev pub form_text : Options → Form → (source : List ℕ) → Design → List Entry → List ℕ
+form_text options form.Report source = if options.short then short_text else report_text
+form_text options form.Bins source = bins_text
+form_text options form.Holes source = holes_text
+form_text options form.Json source = λ d h. json_of d h (sha256 source)
 
--- the text of a history in a form; `source` is the text of the design
-abbrev pub form_text : Form → (source : List ℕ) → Shown
-form_text form.Report source = report_text
-form_text form.Bins source = bins_text
-form_text form.Holes source = holes_text
-form_text form.Json source = λ d h. json_of d h (sha256 source)
+-- how coverage overall ends where a goal is set, or none is
+abbrev pub reached : (overall : ℕ) → (goal : Option ℕ) → Status
+reached overall None = status.Done
+reached overall (Some goal) = if nat_lt overall goal then status.BelowGoal else status.Done
+
+-- a status and a text for each history over a design
+abbrev pub Shown : Type 0
+Shown = Design → List Entry → Status × List ℕ
+
+-- those of a history in a form, as the options ask; `source` is the text of the design
+abbrev pub shown_by : Options → Form → (source : List ℕ) → Shown
+shown_by options form source d h = (reached (rows_at d h 0).millionths options.goal, form_text options form source d h)
 
 -- what is shown of a history
 abbrev pub Prints : Shown → Design → (h : List Entry) → Status → List ℕ → Type 0
-Prints shown d h s text = (s ≡ status.Done) × (text ≡ shown d h)
+Prints shown d h s text = (s ≡ (shown d h).0) × (text ≡ (shown d h).1)
 
 -- The records that come from there are taken in one after the other, the first of them being the k-th, and what is shown of
 -- their history is printed; or the first that isn't taken in decides.
@@ -64,18 +75,22 @@ Fills shown files before now d k h (origin ∷ later) s text =
     ⊎ ((r : Record) × Finds files d k origin r × (refusal_line k (admission d h r) ≡ None) × Fills shown files before now d (k + 1) (behind d h r) later s text)
 
 -- Status and text of a command that fills a store over this design with the records that come from there, and shows it in
--- this form.
-abbrev pub Reports : Files → ℕ → ℕ → Form → (design : List ℕ) → List Origin → Status → List ℕ → Type 0
-Reports files before now form design origins s text =
+-- this form as the options ask.
+abbrev pub Reports : Files → ℕ → ℕ → Options → Form → (design : List ℕ) → List Origin → Status → List ℕ → Type 0
+Reports files before now options form design origins s text =
     NoDesign files before now design s text
-    ⊎ ((d : Design) × (has : HasDesign files design d) × Fills (form_text form has.text) files before now d 1 [] origins s text)
+    ⊎ ((d : Design) × (has : HasDesign files design d) × Fills (shown_by options form has.text) files before now d 1 [] origins s text)
 
--- Status and text of `report DESIGN RECORD ..`, of `export FORM DESIGN RECORD ..`, and of `make DESIGN SEED EVENTS TESTS`.
+-- Status and text of `report DESIGN RECORD ..`, of `export FORM DESIGN RECORD ..`, and of `make DESIGN SEED EVENTS TESTS`,
+-- with options behind the command's word.
 abbrev pub FillAnswers : List (List ℕ) → Files → ℕ → ℕ → Status → List ℕ → Type 0
 FillAnswers words files before now s text =
-    ((design : List ℕ) × (names : List (List ℕ)) × IsReportCommand words design names × Reports files before now form.Report design (map File names) s text)
-    ⊎ (((form : Form) × (design : List ℕ) × (names : List (List ℕ)) × IsExportCommand words form design names × Reports files before now form design (map File names) s text)
-    ⊎ ((design : List ℕ) × (seed rounds tests : ℕ) × IsMakeCommand words design seed rounds tests × Reports files before now form.Report design (replicate tests (Made seed rounds)) s text))
+    ((options : Options) × (design : List ℕ) × (names : List (List ℕ)) × IsReportCommand words options design names
+    × Reports files before now options form.Report design (map File names) s text)
+    ⊎ (((options : Options) × (form : Form) × (design : List ℕ) × (names : List (List ℕ)) × IsExportCommand words options form design names
+    × Reports files before now options form design (map File names) s text)
+    ⊎ ((options : Options) × (design : List ℕ) × (seed rounds tests : ℕ) × IsMakeCommand words options design seed rounds tests
+    × Reports files before now options form.Report design (replicate tests (Made seed rounds)) s text))
 
 -- Status and text of any words; `before` and `now` are the counts of the shelf's faults.
 abbrev pub Answers : List (List ℕ) → Files → ℕ → ℕ → Status → List ℕ → Type 0

@@ -15,6 +15,7 @@ mod storing;
 mod writing;
 
 pub use cov_serve::{ServeWords, serve_words};
+pub use covd_commands::options::{Options, options_of};
 pub use covd_commands::record::{DumpRefusal, LONGEST_DUMP, dump_fault, dump_refusal_of};
 pub use covd_commands::{
     CompileFault, Compiled, MakeFault, Refusal, Status, compile, make_record, refusal_of,

@@ -31,18 +31,18 @@ fn filled<R: Threads + Sync, F: Shelf>(
         (λ done. IfOk done (λ a. FillAnswers (map string_bytes words.now) (F.files shelf.old) (F.faults shelf.old) (F.faults shelf.new) a.status a.text.items)) }
     ensures untouched { IfNone result (shelf.new ≡ shelf.old) }
 {
-    if let Some((design, names)) = report_words(words) {
+    if let Some((options, design, names)) = report_words(words) {
         let files = Origins::Files(names);
-        return Some(report(rt, alloc, Form::Report, design, files, shelf));
+        return Some(report(rt, alloc, options, Form::Report, design, files, shelf));
     }
-    if let Some((form, design, names)) = export_words(words) {
+    if let Some((options, form, design, names)) = export_words(words) {
         let files = Origins::Files(names);
-        return Some(report(rt, alloc, form, design, files, shelf));
+        return Some(report(rt, alloc, options, form, design, files, shelf));
     }
     match make_words(words) {
-        Some((design, numbers)) => {
+        Some((options, design, numbers)) => {
             let made = Origins::Made(numbers);
-            Some(report(rt, alloc, Form::Report, design, made, shelf))
+            Some(report(rt, alloc, options, Form::Report, design, made, shelf))
         }
         None => None,
     }

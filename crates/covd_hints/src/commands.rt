@@ -1,5 +1,7 @@
 //! What the words of a command stand for.
 
+use covd_core::options_of;
+
 /// The first word; none where there is none.
 pub(crate) fn command_of(words: &[String]) -> &str {
     match words.first() {
@@ -14,10 +16,12 @@ pub(crate) fn form_of(command: &str) -> &'static str {
         "check" => "covd check DESIGN",
         "tables" => "covd tables DESIGN",
         "count" => "covd count DESIGN RECORD",
-        "report" => "covd report DESIGN RECORD .., with one record or more",
-        "export" => "covd export FORM DESIGN RECORD .., where FORM is bins, holes or json",
+        "report" =>
+            "covd report [--goal PERCENT] [--short] DESIGN RECORD .., with one record or more; PERCENT is at most 100, with two digits behind its point at most",
+        "export" =>
+            "covd export [--goal PERCENT] FORM DESIGN RECORD .., where FORM is bins, holes or json; PERCENT is at most 100, with two digits behind its point at most",
         "make" =>
-            "covd make DESIGN SEED EVENTS TESTS, three numbers in digits: up to 18446744073709551615, 1048576 and 4096",
+            "covd make [--goal PERCENT] [--short] DESIGN SEED EVENTS TESTS, three numbers in digits: up to 18446744073709551615, 1048576 and 4096; PERCENT is at most 100, with two digits behind its point at most",
         "record" => "covd record DESIGN DUMP SCOPE ID, where ID has 1 to 255 signs from ! to ~",
         "session" => "covd session DESIGN",
         "serve" => "covd serve DESIGN --listen ADDR, or with --seats N behind it, N from 1 to 256",
@@ -26,10 +30,24 @@ pub(crate) fn form_of(command: &str) -> &'static str {
     }
 }
 
+/// The words behind a command's word and its options.
+fn behind_options(words: &[String]) -> &[String] {
+    let Some((command, rest)) = words.split_first() else {
+        return words;
+    };
+    match command.as_str() {
+        "report" | "export" | "make" => match options_of(rest) {
+            Some((_, further)) => further,
+            None => &[],
+        },
+        _ => rest,
+    }
+}
+
 /// The words from the design's name on, which stands behind the form of `export`.
 fn from_design(words: &[String]) -> &[String] {
-    let behind = if command_of(words) == "export" { 2 } else { 1 };
-    match words.get(behind..) {
+    let behind = if command_of(words) == "export" { 1 } else { 0 };
+    match behind_options(words).get(behind..) {
         Some(rest) => rest,
         None => &[],
     }

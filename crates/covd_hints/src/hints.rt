@@ -53,6 +53,13 @@ fn on_refused_dump<R: Files + AllocGlobal>(rt: &R, words: &[String]) -> Option<S
     )
 }
 
+/// The hint on coverage overall that is below the goal.
+fn below_goal(alloc: Global) -> Option<String> {
+    format!(in alloc;
+        "coverage overall is below the goal: covd export holes lists the bins that are missing, with the same design and records\n"
+    ).ok()
+}
+
 /// The hint on how a command with these words ended.
 fn hint_on<R: Files + AllocGlobal>(rt: &R, words: &[String], status: Status) -> Option<String> {
     match status {
@@ -62,6 +69,7 @@ fn hint_on<R: Files + AllocGlobal>(rt: &R, words: &[String], status: Status) -> 
         Status::AdmitRefused => on_refused_admission(rt, words),
         Status::DumpRefused => on_refused_dump(rt, words),
         Status::ShelfFault | Status::FileTooLong => on_files(rt, words),
+        Status::BelowGoal => below_goal(rt.alloc()),
         _ => None,
     }
 }

@@ -6,7 +6,7 @@ use Rattle.covd_commands.specs.FromFiles.{Files}
 use Rattle.covd_commands.specs.Origins.{origins_of}
 use Rattle.covd_commands.specs.declared.stop.Stop.{Stop}
 use Rattle.covd_commands.specs.declared.stop.Stop.TheVariants.{Refused}
-use Rattle.covd_core.specs.Command.{form_text, Fills}
+use Rattle.covd_core.specs.Command.{shown_by, Fills}
 use Rattle.covd_core.specs.Filling.{IsStored}
 use Rattle.covd_core.proofs.Fillings.{fills_from}
 use Rattle.covd_core.proofs.Openings.{has_design}
@@ -20,17 +20,17 @@ returns-in-Ok-clause-answer g c =
     let middle = g.F.Shelf.faults c.had_compiled.new.shelf in
     let now = g.F.Shelf.faults c.stored.new.shelf in
     let origins = origins_of c.args.origins in
-    let form = c.args.form in
+    let shown_of = shown_by c.args.options c.args.form in
     let compiled = c.in-Compiled.compiled in
     let has = has_design files c.args.design.now compiled (rw c.in-Compiled.is at c.in_ok-compiled.ensures.had) in
     let d = arc_value c.design.result.now in
     let made = c.in-Ok.ensures.stored in
     IfOk-weaker c.printed.result _ _ (λ a h.
-    let shown : Fills (form_text form c.text.result.now) later middle now d 1 [] origins a.status a.text.items = made.1.ends (form_text form c.text.result.now) now a.status a.text.items h in
-    let of_text = subst (λ (x : List ℕ). Fills (form_text form x) later middle now d 1 [] origins a.status a.text.items) c.text.ensures.text shown in
-    let of_design = subst (λ (x : Design). Fills (form_text form compiled.text) later middle now x 1 [] origins a.status a.text.items) c.design.ensures.design of_text in
-    let of_files = subst (λ (x : Files). Fills (form_text form compiled.text) x middle now compiled.design 1 [] origins a.status a.text.items) c.in_ok-compiled.ensures.same of_design in
-    inr (compiled.design, has, fills_from (form_text form compiled.text) files before middle now compiled.design origins 1 [] a.status a.text.items c.in_ok-compiled.ensures.later of_files))
+    let shown : Fills (shown_of c.text.result.now) later middle now d 1 [] origins a.status a.text.items = made.1.ends (shown_of c.text.result.now) now a.status a.text.items h in
+    let of_text = subst (λ (x : List ℕ). Fills (shown_of x) later middle now d 1 [] origins a.status a.text.items) c.text.ensures.text shown in
+    let of_design = subst (λ (x : Design). Fills (shown_of compiled.text) later middle now x 1 [] origins a.status a.text.items) c.design.ensures.design of_text in
+    let of_files = subst (λ (x : Files). Fills (shown_of compiled.text) x middle now compiled.design 1 [] origins a.status a.text.items) c.in_ok-compiled.ensures.same of_design in
+    inr (compiled.design, has, fills_from (shown_of compiled.text) files before middle now compiled.design origins 1 [] a.status a.text.items c.in_ok-compiled.ensures.later of_files))
     (c.printed.ensures d made.0)
 
 pub returns-clause-answer : goal.returns-clause-answer
@@ -42,7 +42,7 @@ returns-clause-answer g c =
     let now = g.F.Shelf.faults c.stored.new.shelf in
     let origins = origins_of c.args.origins in
     let compiled = c.in-Compiled.compiled in
-    let shown = form_text c.args.form compiled.text in
+    let shown = shown_by c.args.options c.args.form compiled.text in
     let has = has_design files c.args.design.now compiled (rw c.in-Compiled.is at c.in_ok-compiled.ensures.had) in
     let d = arc_value c.design.result.now in
     IfOk-weaker c.into_answer.result _ _ (λ a h.
