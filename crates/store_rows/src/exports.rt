@@ -3,6 +3,7 @@ use ask_rows::say;
 use cov_base::Memory;
 use export_json::json_lines;
 use export_lists::{bins_lines, holes_lines};
+use export_ucis::ucis_lines;
 use merge_store::Store;
 use std::alloc::Global;
 use std::io::Print;
@@ -18,6 +19,7 @@ fn text_of<R: Threads + Sync>(
     match form {
         "bins" => bins_lines(alloc, store),
         "holes" => holes_lines(alloc, store),
+        "ucis" => ucis_lines(alloc, store),
         _ => json_lines(rt, alloc, store, &[0; 32]),
     }
 }

@@ -7,8 +7,8 @@
 //! `late ASK <- OTHER` makes an ask ready, then puts the other, and then that one. `many N STEPS` admits the records n0, n1
 //! and so on to both stores, of which the plain one works no answers out meanwhile; `again N PATH` asks so often for a
 //! coverage, and `random N SEED` puts N times 100 random asks, each time over a history of their own. `export FORM` shows
-//! the store in the form `bins`, `holes` or `json`. Each line is written again, and behind it what the store answers;
-//! where the plain store answers otherwise, a line says so.
+//! the store in the form `bins`, `holes`, `json` or `ucis`. Each line is written again, and behind it what the store
+//! answers; where the plain store answers otherwise, a line says so.
 #![tactic(auto)]
 
 mod exports;

@@ -1,8 +1,12 @@
 -- Options, and the first parts of points, crosses and instances, as elements of the interchange format.
 use Rattle.std.specs.Prelude.{ℕ, List, [], ◌∷◌, codes, Bool, slice_get, Option, Some, None}
+use Rattle.design_data.specs.declared.infos.Signal.{Signal}
 use Rattle.design_data.specs.declared.infos.ItemInfo.{ItemInfo}
+use Rattle.design_data.specs.declared.infos.ItemShape.{ItemShape}
+use Rattle.design_data.specs.declared.infos.ItemShape.TheVariants.{Point, Cross}
 use Rattle.design_data.specs.declared.infos.InstInfo.{InstInfo}
 use Rattle.design_data.specs.declared.infos.Remarks.{Remarks}
+use Rattle.expr_text.specs.Expressions.{expr_text}
 use Rattle.markup.specs.Trees.{Markup, Both, Break, Element, Empty, Text, Attribute, attribute, number, truth, each, line}
 use Rattle.ucis_elements.specs.Words.{named, source_id}
 
@@ -36,13 +40,23 @@ instance_options merge inst = options (common_options inst.weight inst.goal inst
 
 -- ---- elements with lines of their own in them
 
--- what a coverpoint begins with
+-- What a point samples, as text of SystemVerilog; a cross samples nothing of its own. The names are those of the design's
+-- signals and of the arguments of the instance's sample function.
+abbrev pub shape_attributes : (signals arguments : List Signal) → ItemShape → List Attribute
+shape_attributes signals arguments (Point expr) = attribute (codes "exprString") (expr_text signals arguments expr) ∷ []
+shape_attributes signals arguments (Cross axes) = []
+
+abbrev pub point_attributes : (signals arguments : List Signal) → (key : ℕ) → (excluded : Bool) → ItemInfo → List Attribute
+point_attributes signals arguments key excluded item = named item.name key excluded (shape_attributes signals arguments item.shape)
+
+-- what stands in a coverpoint before its bins
 abbrev pub point_head : ItemInfo → Markup
 point_head item = Both Break (point_options item)
 
 -- a coverpoint with its bins (19.5)
-abbrev pub point_with : (key : ℕ) → (excluded : Bool) → ItemInfo → (bins : Markup) → Markup
-point_with key excluded item bins = line (Element (codes "coverpoint") (named item.name key excluded []) (Both (point_head item) bins))
+abbrev pub point_with : (signals arguments : List Signal) → (key : ℕ) → (excluded : Bool) → ItemInfo → (bins : Markup) → Markup
+point_with signals arguments key excluded item bins =
+    line (Element (codes "coverpoint") (point_attributes signals arguments key excluded item) (Both (point_head item) bins))
 
 -- the name of a crossed point
 abbrev pub name_of : Option ItemInfo → List ℕ

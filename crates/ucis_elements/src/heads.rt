@@ -1,10 +1,10 @@
-//! The first parts of points, crosses and instances.
+//! The first parts of crosses and instances.
 ghost use Rattle.std.specs.Prelude.{◌≡◌, [], ◌++◌, slice_get, codes, OnOk};
 ghost use Rattle.markup.specs.Trees.{each, markup_text, start_text};
 ghost use Rattle.ucis_elements.specs.Words.{named};
-ghost use Rattle.ucis_elements.specs.Items.{name_of, expr_element, point_head, cross_head, group_id, instance_head};
+ghost use Rattle.ucis_elements.specs.Items.{name_of, expr_element, cross_head, group_id, instance_head};
 
-use crate::options::{append_cross_options, append_instance_options, append_point_options};
+use crate::options::{append_cross_options, append_instance_options};
 use crate::words::{append_named, append_source_id};
 use cov_base::Memory;
 use design_data::{InstInfo, ItemInfo};
@@ -23,20 +23,6 @@ fn begin_named(
     begin_tag(text, word)?;
     append_named(text, name, key, excluded)?;
     end_tag(text)
-}
-
-/// A coverpoint, up to its bins.
-pub fn begin_point(
-    text: &mut Vec<u8>,
-    key: u32,
-    excluded: bool,
-    item: &ItemInfo,
-) -> Result<(), Memory>
-    ensures { OnOk result (text.new.items ≡ text.old.items ++ (start_text (codes "coverpoint") (named item.now.name key excluded []) ++ markup_text (point_head item.now))) }
-{
-    begin_named(text, "coverpoint", item.name.as_slice(), key, excluded)?;
-    end_line(text)?;
-    append_point_options(text, item)
 }
 
 /// The name of a crossed point.

@@ -7,10 +7,12 @@ mod bins;
 mod heads;
 mod options;
 mod patterns;
+mod points;
 mod rules;
 mod texts;
 mod words;
 
 pub use bins::{append_cross_bin, append_point_bin};
-pub use heads::{begin_cross, begin_instance, begin_point};
+pub use heads::{begin_cross, begin_instance};
+pub use points::{Names, begin_point};
 pub use words::{append_named, append_source_id, append_user_attr};
