@@ -15,6 +15,7 @@ loop-at-preserved g c =
       told = r.told ∙ i.told;
       seen = r.seen ∙ i.seen;
       crash = λ f now. i.crash f (r.crash f now);
+      image = λ was. c.in_ok-count.ensures.there (i.image was);
       moments = joined g.D.Disk.moment g.D.Disk.left_since old c.loop-at.disk c.read_behind.new.disk (g.D.Disk.may_leave old) (g.D.Disk.may_leave c.loop-at.disk) (g.D.Disk.may_leave old) i.moments r.moments (λ f p. p) (λ f q. i.crash f q);
       within = omega (arith, c.in_ok-count.ensures.bound, r.room);
       room = r.room ∙ i.room;
