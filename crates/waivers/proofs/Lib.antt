@@ -1,0 +1,9 @@
+pub mod Splits
+pub mod Filled
+pub mod Meaning
+pub mod Found
+pub mod Places
+pub mod Runs
+pub mod Said
+pub mod Heard
+pub mod Told
