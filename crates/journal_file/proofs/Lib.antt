@@ -1,0 +1,11 @@
+pub mod Looked
+pub mod Longer
+pub mod Linked
+pub mod Started
+pub mod Taken
+pub mod Headed
+pub mod Finished
+pub mod Added
+pub mod Begun
+pub mod Told
+pub mod Right
