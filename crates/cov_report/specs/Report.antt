@@ -1,5 +1,5 @@
--- The report of a history: how many tests it has and which, the coverage of all, of each type, of its instances and of
--- their items, the illegal bins that were hit, and the ranking of the tests.
+-- The report of a history: how many tests it has and which, notes, the coverage of all with what stands below it, that of each
+-- type, of its instances and of their items, the illegal bins that were hit, and the ranking of the tests.
 use Rattle.std.specs.Prelude.{ℕ, List, [], ◌++◌, codes, length, Bool, ◌&&◌, if◌then◌else◌, bytes_eq}
 use Rattle.std.specs.List.{flat_map, list_any}
 use Rattle.rank_report.specs.Lines.{rank_text}
@@ -42,9 +42,10 @@ abbrev pub lines_of_type : List InstInfo → List Node → (row : ℕ → CoverR
 lines_of_type instances nodes row n =
     cover_line (codes "type") (path_of nodes n) (row n) ++ flat_map (lines_of_instance instances nodes row) (children nodes n)
 
--- the coverage of all, and each type that has an instance
-abbrev pub coverage_text : List InstInfo → List Node → (row : ℕ → CoverRow) → List ℕ
-coverage_text instances nodes row = overall_line (row 0).millionths ++ flat_map (lines_of_type instances nodes row) (children nodes 0)
+-- the coverage of all, what stands below it, and each type that has an instance
+abbrev pub coverage_text : (below : List ℕ) → List InstInfo → List Node → (row : ℕ → CoverRow) → List ℕ
+coverage_text below instances nodes row =
+    overall_line (row 0).millionths ++ (below ++ flat_map (lines_of_type instances nodes row) (children nodes 0))
 
 -- ---- illegal bins
 
@@ -57,16 +58,18 @@ illegal_text nodes count = flat_map (line_of_illegal nodes count) (bins_under no
 
 -- ---- the whole
 
-unfoldable pub report_text : (opening : Design) → List Entry → List ℕ
-report_text opening h =
+unfoldable pub report_text : (notes below : List ℕ) → (opening : Design) → List Entry → List ℕ
+report_text notes below opening h =
     tests_text (tests_of h)
-    ++ (coverage_text (design_of opening h).instances (nodes_at opening h) (rows_at opening h)
+    ++ (notes
+    ++ (coverage_text below (design_of opening h).instances (nodes_at opening h) (rows_at opening h)
     ++ (illegal_text (nodes_at opening h) (count_of opening h)
-    ++ rank_text 1 (ranked_at opening h) (ids_of (tests_of h))))
+    ++ rank_text 1 (ranked_at opening h) (ids_of (tests_of h)))))
 
 -- the same without a line for each test, and without their ranking
-unfoldable pub short_text : (opening : Design) → List Entry → List ℕ
-short_text opening h =
+unfoldable pub short_text : (notes below : List ℕ) → (opening : Design) → List Entry → List ℕ
+short_text notes below opening h =
     merge_line (length (tests_of h))
-    ++ (coverage_text (design_of opening h).instances (nodes_at opening h) (rows_at opening h)
-    ++ illegal_text (nodes_at opening h) (count_of opening h))
+    ++ (notes
+    ++ (coverage_text below (design_of opening h).instances (nodes_at opening h) (rows_at opening h)
+    ++ illegal_text (nodes_at opening h) (count_of opening h)))

@@ -73,7 +73,8 @@ fn append_item(text: &mut Vec<u8>, word: &str, path: &[u8], row: CoverRow) -> Re
 /// The line of an item.
 fn append_item_at(text: &mut Vec<u8>, store: &Store, node: u32) -> Result<(), Memory>
     requires { node < length (nodes_now store.now) }
-    ensures { OnOk result (text.new.items ≡ text.old.items ++ line_of_item (nodes_now store.now) (rows_at (opening_of store.now) (entries_of store.now)) node) }
+    ensures { OnOk result (text.new.items ≡ text.old.items
+        ++ line_of_item (nodes_now store.now) (rows_at (opening_of store.now) (entries_of store.now)) node) }
 {
     let row = store.cover_row(node)?;
     let path = store.path_text(node)?;
@@ -94,7 +95,8 @@ fn is_printed(instances: &[InstInfo], name: &Name) -> bool
 /// The line of a type or an instance.
 fn append_cover_at(text: &mut Vec<u8>, store: &Store, word: &str, node: u32) -> Result<(), Memory>
     requires { node < length (nodes_now store.now) }
-    ensures { OnOk result (text.new.items ≡ text.old.items ++ cover_line word.now (path_of (nodes_now store.now) node) (rows_at (opening_of store.now) (entries_of store.now) node)) }
+    ensures { OnOk result (text.new.items ≡ text.old.items ++ cover_line word.now (path_of (nodes_now store.now) node)
+        (rows_at (opening_of store.now) (entries_of store.now) node)) }
 {
     let row = store.cover_row(node)?;
     let path = store.path_text(node)?;
@@ -105,8 +107,11 @@ fn append_cover_at(text: &mut Vec<u8>, store: &Store, word: &str, node: u32) -> 
 /// The line of an instance, where it is printed.
 fn append_printed(text: &mut Vec<u8>, store: &Store, node: u32) -> Result<(), Memory>
     requires { node < length (nodes_now store.now) }
-    ensures { OnOk result (text.new.items ≡ text.old.items ++ (if is_printed_meant (design_of (opening_of store.now) (entries_of store.now)).instances (node_at (nodes_now store.now) node).name
-        then cover_line (codes "instance") (path_of (nodes_now store.now) node) (rows_at (opening_of store.now) (entries_of store.now) node) else [])) }
+    ensures { OnOk result (text.new.items ≡ text.old.items
+        ++ (if is_printed_meant (design_of (opening_of store.now) (entries_of store.now)).instances
+        (node_at (nodes_now store.now) node).name
+        then cover_line (codes "instance") (path_of (nodes_now store.now) node)
+        (rows_at (opening_of store.now) (entries_of store.now) node) else [])) }
 {
     let instances = store.design().instances();
     if is_printed(instances, &store.nodes()[node as usize].name) {
@@ -118,7 +123,9 @@ fn append_printed(text: &mut Vec<u8>, store: &Store, node: u32) -> Result<(), Me
 /// The lines of an instance and its items.
 fn append_instance(text: &mut Vec<u8>, store: &Store, node: u32) -> Result<(), Memory>
     requires { node < length (nodes_now store.now) }
-    ensures { OnOk result (text.new.items ≡ text.old.items ++ lines_of_instance (design_of (opening_of store.now) (entries_of store.now)).instances (nodes_now store.now) (rows_at (opening_of store.now) (entries_of store.now)) node) }
+    ensures { OnOk result (text.new.items ≡ text.old.items
+        ++ lines_of_instance (design_of (opening_of store.now) (entries_of store.now)).instances (nodes_now store.now)
+        (rows_at (opening_of store.now) (entries_of store.now)) node) }
 {
     append_printed(text, store, node)?;
     for item in children(store, node) {
@@ -130,7 +137,9 @@ fn append_instance(text: &mut Vec<u8>, store: &Store, node: u32) -> Result<(), M
 /// The lines of a type, its instances and their items.
 fn append_type(text: &mut Vec<u8>, store: &Store, node: u32) -> Result<(), Memory>
     requires { node < length (nodes_now store.now) }
-    ensures { OnOk result (text.new.items ≡ text.old.items ++ lines_of_type (design_of (opening_of store.now) (entries_of store.now)).instances (nodes_now store.now) (rows_at (opening_of store.now) (entries_of store.now)) node) }
+    ensures { OnOk result (text.new.items ≡ text.old.items
+        ++ lines_of_type (design_of (opening_of store.now) (entries_of store.now)).instances (nodes_now store.now)
+        (rows_at (opening_of store.now) (entries_of store.now)) node) }
 {
     append_cover_at(text, store, "type", node)?;
     for instance in children(store, node) {
@@ -148,11 +157,14 @@ fn append_overall(text: &mut Vec<u8>, millionths: u32) -> Result<(), Memory>
     append(text, b"\n")
 }
 
-/// The coverage of all, and the lines of each type.
-pub(crate) fn append_coverage(text: &mut Vec<u8>, store: &Store) -> Result<(), Memory>
-    ensures { OnOk result (text.new.items ≡ text.old.items ++ coverage_text (design_of (opening_of store.now) (entries_of store.now)).instances (nodes_now store.now) (rows_at (opening_of store.now) (entries_of store.now))) }
+/// The coverage of all, what stands below it, and the lines of each type.
+pub(crate) fn append_coverage(text: &mut Vec<u8>, store: &Store, below: &[u8]) -> Result<(), Memory>
+    ensures { OnOk result (text.new.items ≡ text.old.items ++ coverage_text below.now
+        (design_of (opening_of store.now) (entries_of store.now)).instances (nodes_now store.now)
+        (rows_at (opening_of store.now) (entries_of store.now))) }
 {
     append_overall(text, store.cover_row(0)?.millionths)?;
+    append(text, below)?;
     for group in children(store, 0) {
         append_type(text, store, *group)?;
     }

@@ -10,6 +10,7 @@ use crate::coverage::append_coverage;
 use crate::illegal::append_all_illegal;
 use crate::ranking::append_ranking;
 use crate::tests::{append_merge, append_tests, ids_of};
+use appending::append;
 use cov_base::Memory;
 use cov_tree::Name;
 use merge_store::Store;
@@ -28,21 +29,24 @@ fn append_all_tests(alloc: Global, text: &mut Vec<u8>, store: &Store) -> Result<
     Ok(ids)
 }
 
-/// The text of the report of a store: its tests, the coverage of all, of each type that has an instance, of the instances
-/// that are printed and of all their items, the illegal bins that were hit, and the ranking of the tests. It is built in
-/// one buffer. The tests are ranked by all processors.
+/// The text of the report of a store: its tests, notes behind them, the coverage of all and what stands below it, that of each
+/// type that has an instance, of the instances that are printed and of all their items, the illegal bins that were hit, and
+/// the ranking of the tests. It is built in one buffer. The tests are ranked by all processors.
 #[tactic(auto, unfolding(crate::specs::Report::report_text))]
 pub fn report_lines<R: Threads + Sync>(
     rt: &R,
     alloc: Global,
     store: &Store,
+    notes: &[u8],
+    below: &[u8],
 ) -> Result<Vec<u8>, Memory>
-    ensures { IfOk result (λ text. text.items ≡ report_text (opening_of store.now)
+    ensures { IfOk result (λ text. text.items ≡ report_text notes.now below.now (opening_of store.now)
         (entries_of store.now)) }
 {
     let mut text = Vec::new(alloc);
     let ids = append_all_tests(alloc, &mut text, store)?;
-    append_coverage(&mut text, store)?;
+    append(&mut text, notes)?;
+    append_coverage(&mut text, store, below)?;
     append_all_illegal(&mut text, store)?;
     append_ranking(rt, alloc, &mut text, store, ids.as_slice())?;
     Ok(text)
@@ -58,12 +62,18 @@ fn append_number_of_tests(alloc: Global, text: &mut Vec<u8>, store: &Store) -> R
 
 /// The same without a line for each test and without their ranking, which isn't worked out.
 #[tactic(auto, unfolding(crate::specs::Report::short_text))]
-pub fn short_lines(alloc: Global, store: &Store) -> Result<Vec<u8>, Memory>
-    ensures { IfOk result (λ text. text.items ≡ short_text (opening_of store.now) (entries_of store.now)) }
+pub fn short_lines(
+    alloc: Global,
+    store: &Store,
+    notes: &[u8],
+    below: &[u8],
+) -> Result<Vec<u8>, Memory>
+    ensures { IfOk result (λ text. text.items ≡ short_text notes.now below.now (opening_of store.now) (entries_of store.now)) }
 {
     let mut text = Vec::new(alloc);
     append_number_of_tests(alloc, &mut text, store)?;
-    append_coverage(&mut text, store)?;
+    append(&mut text, notes)?;
+    append_coverage(&mut text, store, below)?;
     append_all_illegal(&mut text, store)?;
     Ok(text)
 }

@@ -58,6 +58,14 @@ fn begun<R: Files + Print>(
     serve_start(alloc, words, &mut shelf, &mut link)
 }
 
+/// Prints at which address the server listens: the one that is bound, whose port the system chose where the words have 0.
+fn announce<R: Print>(rt: &R, listener: &TcpListener, address: &str) -> io::Result<()> {
+    match listener.local_addr() {
+        Ok(bound) => println!(rt; "listening {bound}"),
+        Err(_) => println!(rt; "listening {address}"),
+    }
+}
+
 /// Serves the listener's connections by so many workers, each with a seat of its own, until all of them have ended.
 fn listen<R: Threads + Wait + Sync + Print + AllocGlobal>(
     rt: &R,
@@ -70,7 +78,7 @@ fn listen<R: Threads + Wait + Sync + Print + AllocGlobal>(
     requires seat { HasSeat opening_of IsSound shared.now seat.old }
     requires room { (workers ≤ free seat.old) × (workers ≤ left seat.old) }
 {
-    if println!(rt; "listening {address}").is_err() {
+    if announce(rt, listener, address).is_err() {
         return Status::WriteFault;
     }
     match serve_store(rt, rt.alloc(), listener, shared, seat, workers, u64::MAX) {

@@ -1,8 +1,7 @@
 -- Words that are no form.
 use Rattle.std.proofs.Common.{◌≡◌, ℕ, List, [], ◌∷◌, Option, Some, None, sym, ap, ◌∙◌}
 use Rattle.std.specs.Prelude.{codes}
-use Rattle.covd_commands.specs.declared.options.Options.{Options}
-use Rattle.covd_commands.specs.Options.{no_options, options_from}
+use Rattle.covd_commands.specs.Options.{Options, no_options, options_from}
 use Rattle.covd_commands.specs.Digits.{written, bounded}
 use Rattle.covd_commands.specs.Forms.{Asks, NoneAsked, IsNoReport, IsNoExport, IsNoMake}
 

@@ -1,4 +1,4 @@
--- A file that isn't had stays so when the count of faults is looked at from an earlier time.
+-- A file that isn't had stays so when the count of faults is looked at from an earlier time, or at a later one.
 use Rattle.std.proofs.Common.{◌≡◌, ◌≤◌, ◌+◌, ◌^◌, ◌-◌, ℕ, List, min, Some, None, inl, inr, arith, subst}
 use Rattle.std.proofs.Math.Nat.{min-le_left, min-le_right, le-min}
 use Rattle.cov_spec.specs.Causes.{Rose}
@@ -28,6 +28,22 @@ pub not_loaded : (files : Files) (before middle now : ℕ) (name : List ℕ) (mo
 not_loaded files before middle now name most status.ShelfFault text le h = (elim h.0 [ inl lacks ↦ inl lacks | inr rose ↦ inr (rose_more before middle now le rose) ], h.1)
 not_loaded files before middle now name most status.FileTooLong text le h = (h.0, long_more files before middle now name most h.0 le h.1, h.2)
 not_loaded files before middle now name most other text le h = absurd h
+
+-- ---- and when it is looked at at a later time
+
+rose_until : (before now last : ℕ) → now ≤ last → Rose before now → Rose before last
+rose_until before now last le rose = omega (arith, le, rose)
+
+long_until : (files : Files) (before now last : ℕ) (name : List ℕ) (most size : ℕ) → now ≤ last → HasLongFile files before now name most size → HasLongFile files before last name most size
+long_until None before now last name most size le h = (rose_until before now last le h.0, h.1)
+long_until (Some files) before now last name most size le h = h
+
+pub not_loaded_until : (files : Files) (before now last : ℕ) (name : List ℕ) (most : ℕ) (s : Status) (text : List ℕ) → now ≤ last → NotLoaded files before now name most s text → NotLoaded files before last name most s text
+not_loaded_until files before now last name most status.ShelfFault text le h = (elim h.0 [ inl lacks ↦ inl lacks | inr rose ↦ inr (rose_until before now last le rose) ], h.1)
+not_loaded_until files before now last name most status.FileTooLong text le h = (h.0, long_until files before now last name most h.0 le h.1, h.2)
+not_loaded_until files before now last name most other text le h = absurd h
+
+-- ---- what commands answer then
 
 by_record : (files : Files) (before now : ℕ) (design rec : List ℕ) (d : Design) (s : Status) (text : List ℕ) → HasDesign files design d → NotLoaded files before now rec longest_record s text → Counts files before now design rec s text
 by_record files before now design rec d status.ShelfFault text has h = inr (d, has, h)

@@ -2,9 +2,8 @@
 use Rattle.std.specs.Prelude.{◌≡◌, false, ℕ, List, [], ◌∷◌, codes, bytes_eq, Option, Some, None, if◌then◌else◌}
 use Rattle.cov_ground.specs.Limits.{most_tests}
 use Rattle.covd_commands.specs.declared.forms.Form.{Form}
-use Rattle.covd_commands.specs.declared.forms.Form.TheVariants.{Bins, Holes, Json}
-use Rattle.covd_commands.specs.declared.options.Options.{Options}
-use Rattle.covd_commands.specs.Options.{no_options, options_from}
+use Rattle.covd_commands.specs.declared.forms.Form.TheVariants.{Bins, Holes, Json, Ucis, Html}
+use Rattle.covd_commands.specs.Options.{Options, no_options, options_from}
 use Rattle.covd_commands.specs.Digits.{written, bounded}
 
 -- rounds of a test, at most
@@ -31,7 +30,9 @@ abbrev pub form_of : (word : List ℕ) → Option Form
 form_of word =
     if bytes_eq word (codes "bins") then Some Bins
     else (if bytes_eq word (codes "holes") then Some Holes
-    else (if bytes_eq word (codes "json") then Some Json else None))
+    else (if bytes_eq word (codes "json") then Some Json
+    else (if bytes_eq word (codes "ucis") then Some Ucis
+    else (if bytes_eq word (codes "html") then Some Html else None))))
 
 -- the words are `export`, options other than `--short`, the word of a form, the design's name and the names of one record or more
 pub record IsExportCommand (words : List (List ℕ)) (options : Options) (form : Form) (design : List ℕ) (names : List (List ℕ)) : Type 0 where

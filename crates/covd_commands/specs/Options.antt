@@ -1,12 +1,12 @@
 -- Options of a command: words that begin with two hyphens, between the command's own word and its others, in any order and
 -- each at most once. The word of two hyphens alone ends them.
-use Rattle.std.specs.Prelude.{ℕ, ◌+◌, ◌*◌, List, [], ◌∷◌, codes, bytes_eq, length, eqb, nat_eq, nat_lt, Bool, true, false, not, Option, Some, None, if◌then◌else◌}
+use Rattle.std.specs.Prelude.{ℕ, ◌+◌, ◌*◌, List, [], ◌∷◌, codes, bytes_eq, length, eqb, nat_eq, nat_lt, Bool, true, false, not, Option, Some, None, option_map, if◌then◌else◌}
 use Rattle.std.specs.List.{starts_with, position_or_len, before_first, after_first}
-use Rattle.covd_commands.specs.declared.options.Options.{Options}
+use Rattle.covd_commands.specs.declared.options.Options.{Options as Coded}
 use Rattle.covd_commands.specs.declared.options.Flag.{Flag}
-use Rattle.covd_commands.specs.declared.options.Flag.TheVariants.{Short}
+use Rattle.covd_commands.specs.declared.options.Flag.TheVariants.{Short, Passed, KeepGoing}
 use Rattle.covd_commands.specs.declared.options.Valued.{Valued}
-use Rattle.covd_commands.specs.declared.options.Valued.TheVariants.{Goal}
+use Rattle.covd_commands.specs.declared.options.Valued.TheVariants.{Goal, Waivers}
 use Rattle.covd_commands.specs.Digits.{written, bounded}
 
 -- ---- a percentage: one digit to 3, and where a point stands behind them, one digit or 2 more; at most 100
@@ -42,33 +42,56 @@ millionths_of word =
 
 -- ---- options
 
+-- what a command is asked for beside its words
+pub record Options : Type 0 where
+  -- the coverage overall that is to be reached, in millionths
+  pub goal : Option ℕ
+  -- no line for each test, and no ranking
+  pub short : Bool
+  -- tests that ended OK alone are merged
+  pub passed : Bool
+  -- a record that can't be taken in is left out
+  pub keep_going : Bool
+  -- the name of the file of waivers
+  pub waivers : Option (List ℕ)
+
 -- none of them
 abbrev pub no_options : Options
-no_options = record { goal = None; short = false }
+no_options = record { goal = None; short = false; passed = false; keep_going = false; waivers = None }
 
--- the goal beside those that stand before it; none where one has been given
-abbrev pub with_goal : Options → Option ℕ → Option Options
-with_goal given None = None
-with_goal given (Some goal) = elim given.goal as (λ (one : Option ℕ). Option Options) [
-  | None ↦ Some (record { goal = Some goal; short = given.short })
-  | Some before ↦ None
-]
+-- a value where none has been given
+abbrev pub once : {A : Type 0} → (given : Option A) → (value : Option A) → Option A
+once None value = value
+once (Some before) value = None
+
+-- what is had with a value, where there is one
+abbrev pub filled : {A : Type 0} → (A → Options) → (value : Option A) → Option Options
+filled made None = None
+filled made (Some value) = Some (made value)
 
 -- the options that have a value, which is the next word
 abbrev pub valued_of : (word : List ℕ) → Option Valued
-valued_of word = if bytes_eq word (codes "--goal") then Some Goal else None
+valued_of word =
+    if bytes_eq word (codes "--goal") then Some Goal
+    else (if bytes_eq word (codes "--waivers") then Some Waivers else None)
 
--- the option with a value beside those that stand before it
+-- the option with a value beside those that stand before it; none where it has been given, or can't have the value
 abbrev pub with_value : Options → Valued → (value : List ℕ) → Option Options
-with_value given Goal value = with_goal given (millionths_of value)
+with_value given Goal value = filled (λ goal. record given { goal = Some goal }) (once given.goal (millionths_of value))
+with_value given Waivers value = filled (λ name. record given { waivers = Some name }) (once given.waivers (Some value))
 
 -- the options without a value
 abbrev pub flag_of : (word : List ℕ) → Option Flag
-flag_of word = if bytes_eq word (codes "--short") then Some Short else None
+flag_of word =
+    if bytes_eq word (codes "--short") then Some Short
+    else (if bytes_eq word (codes "--passed") then Some Passed
+    else (if bytes_eq word (codes "--keep-going") then Some KeepGoing else None))
 
 -- the option beside those that stand before it; none where it has been given
 abbrev pub with_flag : Options → Flag → Option Options
-with_flag given Short = if given.short then None else Some (record { goal = given.goal; short = true })
+with_flag given Short = if given.short then None else Some (record given { short = true })
+with_flag given Passed = if given.passed then None else Some (record given { passed = true })
+with_flag given KeepGoing = if given.keep_going then None else Some (record given { keep_going = true })
 
 -- the words with which options begin, as no other word does
 abbrev pub is_hyphened : List ℕ → Bool
@@ -99,3 +122,14 @@ options_from None given (word ∷ words) =
     if bytes_eq word (codes "--") then Some (given, words)
     else (if not (is_hyphened word) then Some (given, word ∷ words)
     else behind_name (λ flag. beside (λ more. options_from None more words) (with_flag given flag)) (λ name. options_from (Some name) given words) (flag_of word) (valued_of word))
+
+-- ---- as the code has them
+
+abbrev pub options_in : Coded → Options
+options_in coded = record {
+  goal = coded.goal;
+  short = coded.short;
+  passed = coded.passed;
+  keep_going = coded.keep_going;
+  waivers = option_map (λ name. name.now) coded.waivers;
+}

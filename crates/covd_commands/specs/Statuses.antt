@@ -1,7 +1,7 @@
 -- The exit statuses and their numbers.
 use Rattle.std.specs.Prelude.{ℕ}
 use Rattle.covd_commands.specs.declared.status.Status.{Status}
-use Rattle.covd_commands.specs.declared.status.Status.TheVariants.{Done, Memory, BadWords, DesignRefused, RecordRefused, AdmitRefused, ReadFault, WriteFault, ShelfFault, TornFrame, FrameTooLong, SessionTooLong, FileTooLong, DumpRefused, NoWorker, BelowGoal}
+use Rattle.covd_commands.specs.declared.status.Status.TheVariants.{Done, Memory, BadWords, DesignRefused, RecordRefused, AdmitRefused, ReadFault, WriteFault, ShelfFault, TornFrame, FrameTooLong, SessionTooLong, FileTooLong, DumpRefused, NoWorker, Partly, BelowGoal, WaiversRefused}
 
 abbrev pub number_of : Status → ℕ
 number_of Done = 0
@@ -19,4 +19,6 @@ number_of SessionTooLong = 11
 number_of FileTooLong = 12
 number_of DumpRefused = 13
 number_of NoWorker = 14
+number_of Partly = 18
 number_of BelowGoal = 19
+number_of WaiversRefused = 20

@@ -1,6 +1,7 @@
 //! The words of the commands that fill a store.
 ghost use Rattle.std.specs.Prelude.{◌≡◌, ◌∷◌, [], ℕ, Some, List, map, string_bytes, codes, IfSome, MatchOption};
 ghost use Rattle.cov_ground.specs.Limits.{most_tests};
+ghost use Rattle.covd_commands.specs.Options.{options_in};
 ghost use Rattle.covd_commands.specs.Digits.{written as written_meant, bounded as bounded_meant};
 ghost use Rattle.covd_commands.specs.Forms.{form_of as form_meant, most_rounds, Asks, NoneAsked, IsReportCommand, IsNoReport, IsExportCommand, IsNoExport, IsMakeCommand, IsNoMake};
 
@@ -9,9 +10,10 @@ use crate::options::{Options, options_of};
 
 /// The options and the words behind a command's own, the first of them apart; None where this is another command, where the
 /// options aren't such, or no word is behind them.
-fn behind<'w>(command: &str, words: &'w [String]) -> Option<(Options, &'w str, &'w [String])>
+fn behind<'w>(command: &str, words: &'w [String]) -> Option<(Options<'w>, &'w str, &'w [String])>
     ensures { MatchOption result (NoneAsked command.now (map string_bytes words.now))
-        (λ parts. Asks command.now (map string_bytes words.now) parts.0 (parts.1.now ∷ map string_bytes parts.2.now)) }
+        (λ parts. Asks command.now (map string_bytes words.now) (options_in parts.0)
+        (parts.1.now ∷ map string_bytes parts.2.now)) }
 {
     let (first, rest) = words.split_first()?;
     if first.as_str() != command {
@@ -23,8 +25,10 @@ fn behind<'w>(command: &str, words: &'w [String]) -> Option<(Options, &'w str, &
 }
 
 /// The options, the design's name and the records' of `report`.
-pub fn report_words(words: &[String]) -> Option<(Options, &str, &[String])>
-    ensures { MatchOption result (IsNoReport (map string_bytes words.now)) (λ parts. IsReportCommand (map string_bytes words.now) parts.0 parts.1.now (map string_bytes parts.2.now)) }
+pub fn report_words(words: &[String]) -> Option<(Options<'_>, &str, &[String])>
+    ensures { MatchOption result (IsNoReport (map string_bytes words.now))
+        (λ parts. IsReportCommand (map string_bytes words.now) (options_in parts.0) parts.1.now
+        (map string_bytes parts.2.now)) }
 {
     let (options, design, names) = behind("report", words)?;
     if names.is_empty() {
@@ -44,6 +48,10 @@ pub enum Form {
     Holes,
     /// One object of JSON (RFC 8259).
     Json,
+    /// A text of XML in the interchange format of UCIS 1.0.
+    Ucis,
+    /// One page of HTML.
+    Html,
 }
 
 /// The form that a word of `export` names.
@@ -59,13 +67,20 @@ fn form_of(word: &str) -> Option<Form>
     if word == "json" {
         return Some(Form::Json);
     }
+    if word == "ucis" {
+        return Some(Form::Ucis);
+    }
+    if word == "html" {
+        return Some(Form::Html);
+    }
     None
 }
 
 /// The options, the form, the design's name and the records' of `export`.
-pub fn export_words(words: &[String]) -> Option<(Options, Form, &str, &[String])>
+pub fn export_words(words: &[String]) -> Option<(Options<'_>, Form, &str, &[String])>
     ensures { MatchOption result (IsNoExport (map string_bytes words.now))
-        (λ parts. IsExportCommand (map string_bytes words.now) parts.0 parts.1 parts.2.now (map string_bytes parts.3.now)) }
+        (λ parts. IsExportCommand (map string_bytes words.now) (options_in parts.0) parts.1 parts.2.now
+        (map string_bytes parts.3.now)) }
 {
     let (options, word, rest) = behind("export", words)?;
     if options.short {
@@ -110,8 +125,12 @@ fn three(words: &[String]) -> Option<(&str, &str, &str)>
 /// The numbers of `make`.
 fn numbers_of(seed: &str, rounds: &str, tests: &str) -> Option<Numbers>
     ensures { MatchOption result
-        ((s r t : ℕ) → written_meant 20 seed.now ≡ Some s → bounded_meant 0 most_rounds (written_meant 7 rounds.now) ≡ Some r → bounded_meant 1 most_tests (written_meant 4 tests.now) ≡ Some t → ⊥)
-        (λ n. (written_meant 20 seed.now ≡ Some n.seed) × (bounded_meant 0 most_rounds (written_meant 7 rounds.now) ≡ Some n.rounds) × (bounded_meant 1 most_tests (written_meant 4 tests.now) ≡ Some n.tests)) }
+        ((s r t : ℕ) → written_meant 20 seed.now ≡ Some s
+        → bounded_meant 0 most_rounds (written_meant 7 rounds.now) ≡ Some r
+        → bounded_meant 1 most_tests (written_meant 4 tests.now) ≡ Some t → ⊥)
+        (λ n. (written_meant 20 seed.now ≡ Some n.seed)
+        × (bounded_meant 0 most_rounds (written_meant 7 rounds.now) ≡ Some n.rounds)
+        × (bounded_meant 1 most_tests (written_meant 4 tests.now) ≡ Some n.tests)) }
 {
     let seed = seed_of(seed)?;
     let rounds = rounds_of(rounds)?;
@@ -124,9 +143,10 @@ fn numbers_of(seed: &str, rounds: &str, tests: &str) -> Option<Numbers>
 }
 
 /// The options, the design's name and the numbers of `make`.
-pub fn make_words(words: &[String]) -> Option<(Options, &str, Numbers)>
+pub fn make_words(words: &[String]) -> Option<(Options<'_>, &str, Numbers)>
     ensures { MatchOption result (IsNoMake (map string_bytes words.now))
-        (λ parts. IsMakeCommand (map string_bytes words.now) parts.0 parts.1.now parts.2.seed parts.2.rounds parts.2.tests) }
+        (λ parts. IsMakeCommand (map string_bytes words.now) (options_in parts.0) parts.1.now
+        parts.2.seed parts.2.rounds parts.2.tests) }
 {
     let (options, design, rest) = behind("make", words)?;
     let (seed, rounds, tests) = three(rest)?;

@@ -1,17 +1,23 @@
 //! Options of commands.
 ghost use Rattle.std.specs.Prelude.{◌≡◌, None, ◌∷◌, List, ℕ, map, option_map, string_bytes, length, IsTrue, IfSome, ◌≤◌, ◌↔◌};
 ghost use Rattle.covd_commands.specs.Digits.{bounded as bounded_meant};
-ghost use Rattle.covd_commands.specs.Options.{times as times_meant, sum_of as sum_meant, fraction_of as fraction_meant, percent_of as percent_meant, millionths_of as millionths_meant, no_options, with_goal as with_goal_meant, is_hyphened as is_hyphened_meant, options_from as options_meant, valued_of as valued_meant, with_value as with_value_meant, flag_of as flag_meant, with_flag as with_flag_meant};
+ghost use Rattle.covd_commands.specs.Options.{times as times_meant, sum_of as sum_meant, fraction_of as fraction_meant, percent_of as percent_meant, millionths_of as millionths_meant, no_options, is_hyphened as is_hyphened_meant, options_from as options_meant, valued_of as valued_meant, flag_of as flag_meant, options_in};
 
 use crate::numbers::{bounded, written};
 
 /// What a command is asked for beside its words. Each may be left out.
-#[derive(Clone, Copy, PartialEq, Eq)]
-pub struct Options {
+#[derive(Clone, Copy)]
+pub struct Options<'w> {
     /// The coverage overall that is to be reached, in millionths, at most 1,000,000.
     pub goal: Option<u32>,
     /// Whether the lines of tests are left out, those of their ranking too.
     pub short: bool,
+    /// Whether tests that ended OK alone are merged.
+    pub passed: bool,
+    /// Whether a record that can't be taken in is left out, and the others are merged.
+    pub keep_going: bool,
+    /// The name of the file of waivers.
+    pub waivers: Option<&'w str>,
 }
 
 /// What the digits behind the point of a percentage stand for, in millionths of the whole.
@@ -71,6 +77,10 @@ fn millionths_of(word: &str) -> Option<u64>
 enum Flag {
     /// The lines of tests are left out.
     Short,
+    /// Tests that ended OK alone are merged.
+    Passed,
+    /// Records that can't be taken in are left out.
+    KeepGoing,
 }
 
 /// The options that have a value.
@@ -78,53 +88,65 @@ enum Flag {
 enum Valued {
     /// A percentage.
     Goal,
+    /// The name of a file.
+    Waivers,
 }
 
-impl Options {
+impl<'w> Options<'w> {
+    ghost use Rattle.std.specs.Prelude.{◌≡◌, option_map, IfSome, ◌≤◌};
+    ghost use Rattle.covd_commands.specs.Options.{no_options, with_value as with_value_meant, with_flag as with_flag_meant, options_in};
+
     /// None of them.
-    pub const fn none() -> Options
-        ensures { result ≡ no_options }
+    pub const fn none() -> Options<'w>
+        ensures { options_in result ≡ no_options }
     {
         Options {
             goal: None,
             short: false,
-        }
-    }
-
-    /// The goal beside those that stand before it; None where one has been given.
-    fn with_goal(self, goal: Option<u64>) -> Option<Options>
-        requires { IfSome goal (λ millionths. millionths ≤ 1000000) }
-        ensures { result ≡ with_goal_meant self goal }
-    {
-        let goal = goal?;
-        match self.goal {
-            Some(_) => None,
-            None => Some(Options {
-                goal: Some(goal as u32),
-                short: self.short,
-            }),
+            passed: false,
+            keep_going: false,
+            waivers: None,
         }
     }
 
     /// The option without a value beside those that stand before it; None where it has been given.
-    fn with_flag(self, flag: Flag) -> Option<Options>
-        ensures { result ≡ with_flag_meant self flag }
+    fn with_flag(self, flag: Flag) -> Option<Options<'w>>
+        ensures { option_map options_in result ≡ with_flag_meant (options_in self.entry) flag }
     {
         match flag {
-            Flag::Short if self.short => None,
-            Flag::Short => Some(Options {
-                goal: self.goal,
+            Flag::Short if !self.short => Some(Options {
                 short: true,
+                ..self
             }),
+            Flag::Passed if !self.passed => Some(Options {
+                passed: true,
+                ..self
+            }),
+            Flag::KeepGoing if !self.keep_going => Some(Options {
+                keep_going: true,
+                ..self
+            }),
+            _ => None,
         }
     }
 
-    /// The option with a value beside those that stand before it.
-    fn with_value(self, name: Valued, value: &str) -> Option<Options>
-        ensures { result ≡ with_value_meant self name value.now }
+    /// The option with a value beside those that stand before it; None where it has been given, or can't have the value.
+    fn with_value(self, name: Valued, value: &'w str) -> Option<Options<'w>>
+        ensures { option_map options_in result ≡ with_value_meant (options_in self.entry) name value.now }
     {
         match name {
-            Valued::Goal => self.with_goal(millionths_of(value)),
+            Valued::Goal if self.goal.is_none() => {
+                let millionths = millionths_of(value)?;
+                Some(Options {
+                    goal: Some(millionths as u32),
+                    ..self
+                })
+            }
+            Valued::Waivers if self.waivers.is_none() => Some(Options {
+                waivers: Some(value),
+                ..self
+            }),
+            _ => None,
         }
     }
 }
@@ -136,6 +158,12 @@ fn flag_of(word: &str) -> Option<Flag>
     if word == "--short" {
         return Some(Flag::Short);
     }
+    if word == "--passed" {
+        return Some(Flag::Passed);
+    }
+    if word == "--keep-going" {
+        return Some(Flag::KeepGoing);
+    }
     None
 }
 
@@ -145,6 +173,9 @@ fn valued_of(word: &str) -> Option<Valued>
 {
     if word == "--goal" {
         return Some(Valued::Goal);
+    }
+    if word == "--waivers" {
+        return Some(Valued::Waivers);
     }
     None
 }
@@ -158,8 +189,9 @@ fn is_hyphened(word: &str) -> bool
 
 /// The options that words begin with beside those before them, and the words behind them. None where a word that begins with
 /// two hyphens is no option, where an option lacks its value or has one that it can't have, and where it stands twice.
-fn options_from(given: Options, words: &[String]) -> Option<(Options, &[String])>
-    ensures { option_map (λ found. (found.0, map string_bytes found.1.now)) result ≡ options_meant None given (map string_bytes words.now) }
+fn options_from<'w>(given: Options<'w>, words: &'w [String]) -> Option<(Options<'w>, &'w [String])>
+    ensures { option_map (λ found. (options_in found.0, map string_bytes found.1.now)) result
+        ≡ options_meant None (options_in given.entry) (map string_bytes words.now) }
 {
     let Some((word, rest)) = words.split_first() else {
         return Some((given, words));
@@ -182,8 +214,9 @@ fn options_from(given: Options, words: &[String]) -> Option<(Options, &[String])
 
 /// The options that words begin with, and the words behind them. None where a word that begins with two hyphens is no option,
 /// where an option lacks its value or has one that it can't have, and where it stands twice.
-pub fn options_of(words: &[String]) -> Option<(Options, &[String])>
-    ensures { option_map (λ found. (found.0, map string_bytes found.1.now)) result ≡ options_meant None no_options (map string_bytes words.now) }
+pub fn options_of(words: &[String]) -> Option<(Options<'_>, &[String])>
+    ensures { option_map (λ found. (options_in found.0, map string_bytes found.1.now)) result
+        ≡ options_meant None no_options (map string_bytes words.now) }
 {
     options_from(Options::none(), words)
 }

@@ -35,8 +35,12 @@ pub enum Status {
     DumpRefused,
     /// The server's address can't be listened on, or all its workers have ended.
     NoWorker,
+    /// The text was printed whole, and records that couldn't be taken in were left out.
+    Partly,
     /// The text was printed whole, and coverage overall is below the goal.
     BelowGoal,
+    /// The file of waivers is refused.
+    WaiversRefused,
 }
 
 impl Status {
@@ -60,7 +64,9 @@ impl Status {
             Status::FileTooLong => 12,
             Status::DumpRefused => 13,
             Status::NoWorker => 14,
+            Status::Partly => 18,
             Status::BelowGoal => 19,
+            Status::WaiversRefused => 20,
         }
     }
 }

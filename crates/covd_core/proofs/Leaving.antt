@@ -5,7 +5,7 @@ use Rattle.covd_commands.specs.declared.status.Status.{Status}
 use Rattle.covd_commands.specs.declared.status.Status.TheVariants as status
 use Rattle.covd_commands.specs.FromFiles.{Files}
 use Rattle.covd_core.specs.Command.{Answers, Ends, Leaves}
-use Rattle.covd_core.proofs.Fillings.{never_memory, never_write_fault, no_answer}
+use Rattle.covd_core.proofs.Never.{never_memory, never_write_fault, no_answer}
 
 module _ (words : List (List ℕ)) (files : Files) (before now : ℕ) (text : List ℕ) where
   no_memory : Answers words files before now status.Memory text → ⊥

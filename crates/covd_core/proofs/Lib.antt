@@ -1,10 +1,9 @@
-pub mod Admissions
-pub mod Ahead
-pub mod Fillings
-pub mod Fitting
+pub mod Behind
 pub mod Grown
 pub mod Leaving
+pub mod Never
 pub mod OneAnswer
 pub mod OneDesign
 pub mod Openings
 pub mod Unserved
+pub mod Waived

@@ -1,97 +1,74 @@
 -- Told files and a shelf that didn't fail leave one status and one text to the words.
-use Rattle.std.proofs.Common.{◌≡◌, ℕ, ◌+◌, List, [], ◌∷◌, length, map, Some, None, inl, inr, refl, sym, ap, subst, ◌∙◌, arith}
+use Rattle.std.proofs.Common.{◌≡◌, ℕ, ◌+◌, List, [], ◌∷◌, length, map, Option, Some, None, inl, inr, refl, sym, ap, subst, ◌∙◌, arith}
 use Rattle.std.specs.Prelude.{slice_index, replicate, codes}
 use Rattle.cov_spec.specs.Causes.{Rose}
-use Rattle.record_codec.specs.declared.record.Record.{Record}
 use Rattle.design_data.specs.declared.design.Design.{Design}
 use Rattle.covd_commands.specs.declared.status.Status.{Status}
 use Rattle.covd_commands.specs.declared.status.Status.TheVariants as status
 use Rattle.covd_commands.specs.Lines.{bad_words_text}
 use Rattle.covd_commands.specs.FromFiles.{Files}
 use Rattle.cov_spec.specs.Files.{file_of}
-use Rattle.covd_commands.specs.declared.options.Options.{Options}
+use Rattle.covd_commands.specs.Options.{Options}
 use Rattle.covd_commands.specs.declared.forms.Form.{Form}
 use Rattle.covd_commands.specs.declared.forms.Form.TheVariants as form
 use Rattle.covd_commands.specs.declared.listing.Listing.{Listing}
 use Rattle.covd_commands.specs.Listings.{listing_of, IsListCommand, Lists}
 use Rattle.covd_commands.specs.Commands.{IsCountCommand, IsRecordCommand, Counts, Records}
-use Rattle.covd_core.specs.Command.{Shown, shown_by, IsNoCommand, Answers, HasOneAnswer, NotTaken, Fills, Reports}
-use Rattle.cov_history.specs.declared.entry.Entry.{Entry}
+use Rattle.covd_core.specs.Command.{shown_by, IsNoCommand, Answers, HasOneAnswer, Reports}
+use Rattle.covd_core.specs.Waived.{NamesWaivers, NoWaivers}
+use Rattle.covd_core.proofs.Waived.{waivers_one, no_waivers_one, waivers_or_none}
+use Rattle.covd_filling.specs.Outcomes.{nothing_yet, Fills}
+use Rattle.covd_filling.proofs.OneFilling.{fills_one}
+use Rattle.waivers.specs.declared.waiver.Waiver.{Waiver}
 use Rattle.covd_commands.specs.Digits.{written, bounded}
 use Rattle.covd_commands.specs.Forms.{form_of, IsReportCommand, IsExportCommand, IsMakeCommand}
-use Rattle.covd_core.specs.Admission.{admission, behind}
-use Rattle.covd_commands.specs.Unadmitted.{refusal_line}
-use Rattle.covd_commands.specs.Finding.{Origin, File, Made, Finds, FindsNone}
+use Rattle.covd_commands.specs.Finding.{Origin, File, Made}
 use Rattle.covd_commands.proofs.NoForm.{asked_once}
 use Rattle.covd_commands.proofs.Refusals.{IsReading}
-use Rattle.covd_commands.proofs.OneEach.{Told, Family, IsOne, AreApart, Either, either_one, apart_both, WithDesign, with_one, list_one, count_one, record_one_answer, unfound_one, found_one, found_or_not}
-
--- ---- records of a store
-
-module _ (spells : IsReading) (all : Told) (before now : ℕ) (calm : Rose before now → ⊥) (d : Design) where
-  module _ (k : ℕ) (h : List Entry) (origin : Origin) where
-    abbrev Unfound : Family
-    Unfound s text = FindsNone (Some all) before now d k origin s text
-
-    abbrev Unadmitted : Family
-    Unadmitted s text = (r : Record) × Finds (Some all) d k origin r × (s ≡ status.AdmitRefused) × (refusal_line k (admission d h r) ≡ Some text)
-
-    line_of : (r q : Record) (text text' : List ℕ) → r ≡ q → refusal_line k (admission d h r) ≡ Some text → refusal_line k (admission d h q) ≡ Some text' → text ≡ text'
-    line_of r q text text' same e f = let g : refusal_line k (admission d h r) ≡ Some text' = ap (λ (x : Record). refusal_line k (admission d h x)) same ∙ f in cc (e, g)
-
-    unadmitted_one : IsOne Unadmitted
-    unadmitted_one s s' text text' a b = (a.2 ∙ sym b.2, line_of a.0 b.0 text text' (found_one spells all before now calm d k origin a.0 b.0 a.1 b.1) a.3 b.3)
-
-    unfound_or_unadmitted : AreApart Unfound Unadmitted
-    unfound_or_unadmitted s s' text text' a b = found_or_not spells all before now calm d k origin s text b.0 b.1 a
-
-    not_taken_one : IsOne (NotTaken (Some all) before now d k h origin)
-    not_taken_one = either_one Unfound Unadmitted (unfound_one spells all before now calm d k origin) unadmitted_one unfound_or_unadmitted
-
-    -- one that is taken in isn't refused
-    taken : (s : Status) (text : List ℕ) (r : Record) → Finds (Some all) d k origin r → refusal_line k (admission d h r) ≡ None → NotTaken (Some all) before now d k h origin s text → ⊥
-    taken s text r found free x = elim x [
-      | inl a ↦ found_or_not spells all before now calm d k origin s text r found a
-      | inr a ↦
-          let e = a.3 in
-          let f : refusal_line k (admission d h a.0) ≡ None = ap (λ (q : Record). refusal_line k (admission d h q)) (found_one spells all before now calm d k origin a.0 r a.1 found) ∙ free in
-          cc (e, f)
-    ]
-
-  fills_one : (shown : Shown) (origins : List Origin) (k : ℕ) (h : List Entry) → IsOne (Fills shown (Some all) before now d k h origins)
-  fills_one shown [] k h s s' text text' a b = (a.0 ∙ sym b.0, a.1 ∙ sym b.1)
-  fills_one shown (origin ∷ later) k h s s' text text' a b = elim a [
-    | inl x ↦ elim b [ inl y ↦ not_taken_one k h origin s s' text text' x y | inr y ↦ absurd (taken k h origin s text y.0 y.1 y.2 x) ]
-    | inr x ↦ elim b [
-      | inl y ↦ absurd (taken k h origin s' text' x.0 x.1 x.2 y)
-      | inr y ↦
-          let same = found_one spells all before now calm d k origin y.0 x.0 y.1 x.1 in
-          fills_one shown later (k + 1) (behind d h x.0) s s' text text' x.3 (subst (λ (r : Record). Fills shown (Some all) before now d (k + 1) (behind d h r) later s' text') same y.3)
-    ]
-  ]
+use Rattle.covd_commands.proofs.OneEach.{Told, Family, IsOne, AreApart, Either, either_one, apart_both, WithDesign, with_one, list_one, count_one, record_one_answer}
 
 -- ---- report, export and make
 
 module _ (spells : IsReading) (all : Told) (options : Options) (form : Form) (design : List ℕ) (before now : ℕ) (calm : Rose before now → ⊥) (origins : List Origin) where
-  -- how the command ends with the design, whose file is this text
+  -- how the command ends with the design, whose file is this text, and with these waivers
   pub record Shows (d : Design) (s : Status) (text : List ℕ) : Type 0 where
     source : List ℕ
     file : file_of all design ≡ Some source
-    fills : Fills (shown_by options form source) (Some all) before now d 1 [] origins s text
+    waivers : Option (List Waiver)
+    has : NamesWaivers (Some all) options.waivers waivers
+    fills : Fills (shown_by options form source waivers) options (Some all) before now d 1 nothing_yet origins s text
 
   same_source : (a b : List ℕ) → file_of all design ≡ Some a → file_of all design ≡ Some b → a ≡ b
   same_source a b e f = cc (e, f)
 
+  abbrev Unread : Family
+  Unread s text = NoWaivers (Some all) before now options.waivers s text
+
   shows_one : (d : Design) → IsOne (Shows d)
   shows_one d s s' text text' a b =
-      let fills = subst (λ (x : List ℕ). Fills (shown_by options form x) (Some all) before now d 1 [] origins s text) (same_source a.source b.source a.file b.file) a.fills in
-      fills_one spells all before now calm d (shown_by options form b.source) origins 1 [] s s' text text' fills b.fills
+      let source = same_source a.source b.source a.file b.file in
+      let waivers = waivers_one all before now calm options.waivers a.waivers b.waivers a.has b.has in
+      let of_source = subst (λ (x : List ℕ). Fills (shown_by options form x a.waivers) options (Some all) before now d 1 nothing_yet origins s text) source a.fills in
+      let fills = subst (λ (x : Option (List Waiver)). Fills (shown_by options form b.source x) options (Some all) before now d 1 nothing_yet origins s text) waivers of_source in
+      fills_one spells all before now calm d (shown_by options form b.source b.waivers) options origins 1 nothing_yet s s' text text' fills b.fills
 
-  with_text : (s : Status) (text : List ℕ) → Reports (Some all) before now options form design origins s text → WithDesign all design before now calm Shows shows_one s text
-  with_text s text h = elim h [ inl a ↦ inl a | inr a ↦ inr (a.0, a.1, record { source = a.1.text; file = a.1.file; fills = a.2 }) ]
+  unread_or_shown : (d : Design) → AreApart Unread (Shows d)
+  unread_or_shown d s s' text text' a b = waivers_or_none all before now calm options.waivers b.waivers s text b.has a
+
+  abbrev Ends : Design → Family
+  Ends d = Either Unread (Shows d)
+
+  ends_one : (d : Design) → IsOne (Ends d)
+  ends_one d = either_one Unread (Shows d) (no_waivers_one all before now calm options.waivers) (shows_one d) (unread_or_shown d)
+
+  with_text : (s : Status) (text : List ℕ) → Reports (Some all) before now options form design origins s text → WithDesign all design before now calm Ends ends_one s text
+  with_text s text h = elim h [
+    | inl a ↦ inl a
+    | inr a ↦ inr (a.0, a.1, elim a.2 [ inl b ↦ inl b | inr b ↦ inr (record { source = a.1.text; file = a.1.file; waivers = b.0; has = b.1; fills = b.2 }) ])
+  ]
 
   report_one : IsOne (Reports (Some all) before now options form design origins)
-  report_one s s' text text' h k = with_one all design before now calm Shows shows_one s s' text text' (with_text s text h) (with_text s' text' k)
+  report_one s s' text text' h k = with_one all design before now calm Ends ends_one s s' text text' (with_text s text h) (with_text s' text' k)
 
 -- ---- the words
 

@@ -1,11 +1,11 @@
 -- What a command answers: a status and a text, from its words and the files of a shelf. The steps are: words, load of
--- the design, compiling; for `count` load of the record, decoding and shape; for `report` and `export` the same and
--- admission, record by record; for `make` the making and the admission of each; for `record` load of the dump, reading it
--- and making its record; then printing. The first step that refuses decides.
-use Rattle.std.specs.Prelude.{◌≡◌, ◌⊎◌, ℕ, List, [], ◌∷◌, map, replicate, Option, Some, ◌+◌, None, nat_lt, if◌then◌else◌}
+-- the design, compiling; for `count` load of the record, decoding and shape; for `report` and `export` load and reading of
+-- the waivers, then load, decoding and shape of a record and its admission, record by record; for `make` the making and the admission of each; for `record` load of the dump, reading it
+-- and making its record; then printing. The first step that refuses decides; with `--keep-going` a record that is refused
+-- is left out instead.
+use Rattle.std.specs.Prelude.{◌≡◌, ◌⊎◌, ℕ, List, [], ◌∷◌, ◌++◌, map, replicate, Option, Some, None, Result, Ok, Err, Bool, nat_lt, if◌then◌else◌}
 use Rattle.cov_spec.specs.Causes.{Rose}
 use Rattle.cov_spec.specs.Told.{Grows, GrowsByFront, Stays}
-use Rattle.record_codec.specs.declared.record.Record.{Record}
 use Rattle.design_data.specs.declared.design.Design.{Design}
 use Rattle.covd_commands.specs.declared.status.Status.{Status}
 use Rattle.covd_commands.specs.declared.status.Status.TheVariants as status
@@ -15,14 +15,20 @@ use Rattle.sha2.specs.Sha256.{sha256}
 use Rattle.export_lists.specs.Bins.{bins_text}
 use Rattle.export_lists.specs.Holes.{holes_text}
 use Rattle.export_json.specs.Export.{json_of}
+use Rattle.export_ucis.specs.Export.{ucis_text}
+use Rattle.export_page.specs.Page.{page_text}
 use Rattle.store_views.specs.Views.{rows_at}
-use Rattle.covd_commands.specs.declared.options.Options.{Options}
+use Rattle.cov_history.specs.Answers.{nodes_at}
+use Rattle.covd_commands.specs.Options.{Options}
 use Rattle.covd_commands.specs.declared.forms.Form.{Form}
 use Rattle.covd_commands.specs.declared.forms.Form.TheVariants as form
 use Rattle.covd_commands.specs.declared.listing.Listing.{Listing}
 use Rattle.covd_commands.specs.Forms.{IsReportCommand, IsExportCommand, IsMakeCommand, IsNoReport, IsNoExport, IsNoMake}
-use Rattle.covd_core.specs.Admission.{admission, behind}
-use Rattle.covd_commands.specs.Unadmitted.{refusal_line}
+use Rattle.covd_filling.specs.Outcomes.{Filled, nothing_yet, Shown, Fills}
+use Rattle.waivers.specs.declared.waiver.Waiver.{Waiver}
+use Rattle.store_waivers.specs.Waived.{Limit, waiving}
+use Rattle.store_waivers.specs.Lines.{waiver_lines, hit_lines, unwaived_line, full_line}
+use Rattle.covd_core.specs.Waived.{NamesWaivers, NoWaivers}
 use Rattle.covd_commands.specs.Lines.{bad_words_text}
 pub use Rattle.covd_commands.specs.FromFiles.{Files, IsUnread, NotLoaded, HasDesign, HasNoDesign, NoDesign, HasRecord, IsRefusedText, HasNoRecord}
 pub use Rattle.covd_commands.specs.Listings.{IsListCommand, IsNoList, Lists}
@@ -34,52 +40,62 @@ pub use Rattle.covd_commands.specs.Finding.{Origin, File, Made, Finds, IsTooMuch
 abbrev pub IsNoCommand : List (List ℕ) → Type 0
 IsNoCommand words = IsNoList words × IsNoCount words × IsNoRecord words × IsNoReport words × IsNoExport words × IsNoMake words
 
--- ---- filling a store, which has the history `h` so far
+-- ---- what is shown of a store that is filled
 
--- The k-th record isn't taken in: it isn't found, or isn't admitted.
-abbrev pub NotTaken : Files → ℕ → ℕ → Design → (k : ℕ) → (h : List Entry) → Origin → Status → List ℕ → Type 0
-NotTaken files before now d k h origin s text =
-    FindsNone files before now d k origin s text
-    ⊎ ((r : Record) × Finds files d k origin r × (s ≡ status.AdmitRefused) × (refusal_line k (admission d h r) ≡ Some text))
+-- what is shown beside a history: the lines of records that were left out, and of waivers; and what stands below the coverage of all
+pub record Beside : Type 0 where
+  pub notes : List ℕ
+  pub below : List ℕ
 
 -- the text of a history in a form, as the options ask; `source` is the text of the design
-abbrev pub form_text : Options → Form → (source : List ℕ) → Design → List Entry → List ℕ
-form_text options form.Report source = if options.short then short_text else report_text
-form_text options form.Bins source = bins_text
-form_text options form.Holes source = holes_text
-form_text options form.Json source = λ d h. json_of d h (sha256 source)
+abbrev pub form_text : Options → Form → (source : List ℕ) → Beside → Design → List Entry → List ℕ
+form_text options form.Report source beside = (if options.short then short_text else report_text) beside.notes beside.below
+form_text options form.Bins source beside = bins_text
+form_text options form.Holes source beside = holes_text
+form_text options form.Json source beside = λ d h. json_of d h (sha256 source)
+form_text options form.Ucis source beside = ucis_text
+form_text options form.Html source beside = λ d h. page_text d h (sha256 source)
 
 -- how coverage overall ends where a goal is set, or none is
 abbrev pub reached : (overall : ℕ) → (goal : Option ℕ) → Status
 reached overall None = status.Done
 reached overall (Some goal) = if nat_lt overall goal then status.BelowGoal else status.Done
 
--- a status and a text for each history over a design
-abbrev pub Shown : Type 0
-Shown = Design → List Entry → Status × List ℕ
+-- how a command ends that shows all: where a record couldn't be taken in, that comes first
+abbrev pub shown_status : (partly : Bool) → (overall : ℕ) → (goal : Option ℕ) → Status
+shown_status partly overall goal = if partly then status.Partly else reached overall goal
 
--- those of a history in a form, as the options ask; `source` is the text of the design
-abbrev pub shown_by : Options → Form → (source : List ℕ) → Shown
-shown_by options form source d h = (reached (rows_at d h 0).millionths options.goal, form_text options form source d h)
+-- what is shown of a history in a form, as the options ask
+abbrev pub shown_at : Options → Form → (source : List ℕ) → (partly : Bool) → Beside → Design → List Entry → Status × List ℕ
+shown_at options form source partly beside d h =
+    (shown_status partly (rows_at d h 0).millionths options.goal, form_text options form source beside d h)
 
--- what is shown of a history
-abbrev pub Prints : Shown → Design → (h : List Entry) → Status → List ℕ → Type 0
-Prints shown d h s text = (s ≡ (shown d h).0) × (text ≡ (shown d h).1)
+-- the same behind an Exclude of each node that a waiver leaves out; or the limit that they would pass
+abbrev pub shown_waived : Options → Form → (source : List ℕ) → List Waiver → Design → Filled → Result (List Entry) Limit → Status × List ℕ
+shown_waived options form source waivers d f (Ok h) =
+    shown_at options form source f.partly
+    (record {
+      notes = f.left ++ (waiver_lines (nodes_at d f.history) waivers ++ hit_lines d h);
+      below = unwaived_line (rows_at d f.history 0).millionths;
+    }) d h
+shown_waived options form source waivers d f (Err limit) = (status.WaiversRefused, full_line limit.which limit.have limit.want)
 
--- The records that come from there are taken in one after the other, the first of them being the k-th, and what is shown of
--- their history is printed; or the first that isn't taken in decides.
-abbrev pub Fills : Shown → Files → ℕ → ℕ → Design → (k : ℕ) → (h : List Entry) → List Origin → Status → List ℕ → Type 0
-Fills shown files before now d k h [] s text = Prints shown d h s text
-Fills shown files before now d k h (origin ∷ later) s text =
-    NotTaken files before now d k h origin s text
-    ⊎ ((r : Record) × Finds files d k origin r × (refusal_line k (admission d h r) ≡ None) × Fills shown files before now d (k + 1) (behind d h r) later s text)
+-- what is shown of a store that is filled, with the waivers of a file, where one is named
+abbrev pub shown_by : Options → Form → (source : List ℕ) → Option (List Waiver) → Shown
+shown_by options form source None d f = shown_at options form source f.partly (record { notes = f.left; below = [] }) d f.history
+shown_by options form source (Some waivers) d f = shown_waived options form source waivers d f (waiving d f.history waivers)
+
+-- ---- the whole
 
 -- Status and text of a command that fills a store over this design with the records that come from there, and shows it in
 -- this form as the options ask.
 abbrev pub Reports : Files → ℕ → ℕ → Options → Form → (design : List ℕ) → List Origin → Status → List ℕ → Type 0
 Reports files before now options form design origins s text =
     NoDesign files before now design s text
-    ⊎ ((d : Design) × (has : HasDesign files design d) × Fills (shown_by options form has.text) files before now d 1 [] origins s text)
+    ⊎ ((d : Design) × (has : HasDesign files design d)
+    × (NoWaivers files before now options.waivers s text
+    ⊎ ((waivers : Option (List Waiver)) × NamesWaivers files options.waivers waivers
+    × Fills (shown_by options form has.text waivers) options files before now d 1 nothing_yet origins s text)))
 
 -- Status and text of `report DESIGN RECORD ..`, of `export FORM DESIGN RECORD ..`, and of `make DESIGN SEED EVENTS TESTS`,
 -- with options behind the command's word.

@@ -1,9 +1,8 @@
 pub mod Command
+pub mod Waived
+pub mod Waiving
 pub mod Sessions
 pub mod Starts
-pub mod Filling
-pub mod Batches
-pub mod Admission
 pub use Rattle.covd_commands.specs.Columns
 pub use Rattle.covd_commands.specs.Dumps
 pub use Rattle.covd_commands.specs.Lines

@@ -3,15 +3,12 @@
 //! What the program does with its words: `run` over any shelf of files and any sink.
 #![tactic(auto)]
 
-mod admitting;
-mod batches;
-mod filling;
 mod printing;
 mod report;
 mod running;
 mod session;
 mod starting;
-mod storing;
+mod waiving;
 mod writing;
 
 pub use cov_serve::{ServeWords, serve_words};
@@ -22,3 +19,4 @@ pub use covd_commands::{
 };
 pub use running::run;
 pub use starting::serve_start;
+pub use waiving::LONGEST_WAIVERS;

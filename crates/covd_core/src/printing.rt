@@ -3,7 +3,7 @@ ghost use Rattle.std.specs.Prelude.{◌≡◌, ◌≤◌, map, string_bytes, IfO
 ghost use Rattle.covd_core.specs.Command.{FillAnswers, Answers, ends_of, Leaves, HasOneAnswer};
 ghost use Rattle.covd_commands.specs.Forms.{IsNoReport, IsNoExport, IsNoMake};
 
-use crate::report::report;
+use crate::report::{Asked, report};
 use crate::writing::write_all;
 use cov_base::{Link, Memory, Shelf};
 use covd_commands::Status;
@@ -32,17 +32,32 @@ fn filled<R: Threads + Sync, F: Shelf>(
     ensures untouched { IfNone result (shelf.new ≡ shelf.old) }
 {
     if let Some((options, design, names)) = report_words(words) {
-        let files = Origins::Files(names);
-        return Some(report(rt, alloc, options, Form::Report, design, files, shelf));
+        let asked = Asked {
+            options,
+            form: Form::Report,
+            design,
+            origins: Origins::Files(names),
+        };
+        return Some(report(rt, alloc, asked, shelf));
     }
     if let Some((options, form, design, names)) = export_words(words) {
-        let files = Origins::Files(names);
-        return Some(report(rt, alloc, options, form, design, files, shelf));
+        let asked = Asked {
+            options,
+            form,
+            design,
+            origins: Origins::Files(names),
+        };
+        return Some(report(rt, alloc, asked, shelf));
     }
     match make_words(words) {
         Some((options, design, numbers)) => {
-            let made = Origins::Made(numbers);
-            Some(report(rt, alloc, options, Form::Report, design, made, shelf))
+            let asked = Asked {
+                options,
+                form: Form::Report,
+                design,
+                origins: Origins::Made(numbers),
+            };
+            Some(report(rt, alloc, asked, shelf))
         }
         None => None,
     }

@@ -16,10 +16,11 @@ use std::thread::Threads;
 /// design; `tables DESIGN`, which prints what a writer of its records has to announce; `count DESIGN RECORD`, which prints
 /// how often the record hits each bin; `report DESIGN RECORD ..` and `make DESIGN SEED EVENTS TESTS`, which print the report
 /// of a store that is filled with the records of files or of a generator; `export FORM DESIGN RECORD ..`, which prints such
-/// a store in the form `bins`, `holes` or `json`; and `record DESIGN DUMP SCOPE ID`, which writes the bytes of the
-/// record of a value change dump. What they write is built whole before its first byte is written, and nothing is read. `session DESIGN` answers the requests that
-/// come over the link, over a store that begins without tests, until a Bye or the end of what comes. Threads are started to
-/// bin records and to rank tests.
+/// a store in the form `bins`, `holes`, `json`, `ucis` or `html`; and `record DESIGN DUMP SCOPE ID`, which writes the bytes
+/// of the record of a value change dump. Those that fill a store take options behind their own word. What they write is
+/// built whole before its first byte is written, and nothing is read. `session DESIGN` answers the requests that come over
+/// the link, over a store that begins without tests, until a Bye or the end of what comes. Threads are started to bin
+/// records and to rank tests.
 pub fn run<R: Threads + Sync, F: Shelf, L: Link>(
     rt: &R,
     alloc: Global,

@@ -17,11 +17,11 @@ pub(crate) fn form_of(command: &str) -> &'static str {
         "tables" => "covd tables DESIGN",
         "count" => "covd count DESIGN RECORD",
         "report" =>
-            "covd report [--goal PERCENT] [--short] DESIGN RECORD .., with one record or more; PERCENT is at most 100, with two digits behind its point at most",
+            "covd report [OPTION ..] DESIGN RECORD .., with one record or more, where an OPTION, each once at most, is --goal PERCENT (at most 100, with two digits behind its point at most), --keep-going, --passed, --short or --waivers FILE",
         "export" =>
-            "covd export [--goal PERCENT] FORM DESIGN RECORD .., where FORM is bins, holes or json; PERCENT is at most 100, with two digits behind its point at most",
+            "covd export [OPTION ..] FORM DESIGN RECORD .., where FORM is bins, holes, json, ucis or html, and an OPTION, each once at most, is --goal PERCENT (at most 100, with two digits behind its point at most), --keep-going, --passed or --waivers FILE",
         "make" =>
-            "covd make [--goal PERCENT] [--short] DESIGN SEED EVENTS TESTS, three numbers in digits: up to 18446744073709551615, 1048576 and 4096; PERCENT is at most 100, with two digits behind its point at most",
+            "covd make [OPTION ..] DESIGN SEED EVENTS TESTS, three numbers in digits: up to 18446744073709551615, 1048576 and 4096; an OPTION, each once at most, is --goal PERCENT (at most 100, with two digits behind its point at most), --keep-going, --passed, --short or --waivers FILE",
         "record" => "covd record DESIGN DUMP SCOPE ID, where ID has 1 to 255 signs from ! to ~",
         "session" => "covd session DESIGN",
         "serve" => "covd serve DESIGN --listen ADDR, or with --seats N behind it, N from 1 to 256",
@@ -41,6 +41,15 @@ fn behind_options(words: &[String]) -> &[String] {
             None => &[],
         },
         _ => rest,
+    }
+}
+
+/// The name of the file of waivers, where one is named.
+pub(crate) fn waivers_of(words: &[String]) -> Option<&str> {
+    let (command, rest) = words.split_first()?;
+    match command.as_str() {
+        "report" | "export" | "make" => options_of(rest)?.0.waivers,
+        _ => None,
     }
 }
 

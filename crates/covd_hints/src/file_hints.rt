@@ -5,7 +5,7 @@ use crate::kind_hints::{Wanted, kind_hint};
 use cov_base::Shelf;
 use cov_ground::limits::{LONGEST_DESIGN, LONGEST_RECORD};
 use cov_net::FileShelf;
-use covd_core::LONGEST_DUMP;
+use covd_core::{LONGEST_DUMP, LONGEST_WAIVERS};
 use std::alloc::Global;
 use std::fs;
 use std::fs::File;
@@ -106,6 +106,10 @@ fn opening_hint<R: Files + AllocGlobal>(rt: &R, name: &str) -> Option<String> {
 fn limit_of(wanted: Wanted) -> (u64, &'static str) {
     match wanted {
         Wanted::Design => (LONGEST_DESIGN, "a design text has at most 1048576 bytes"),
+        Wanted::Waivers => (
+            LONGEST_WAIVERS,
+            "a file of waivers has at most 1048576 bytes",
+        ),
         Wanted::Record => (
             LONGEST_RECORD,
             "a record has at most 8388608 bytes; make more records, of shorter pieces of the test",

@@ -1,7 +1,7 @@
 //! Hints on how a command ended.
 
 use crate::admission_hints::{on_admission, on_making};
-use crate::commands::{command_of, design_of, dump_of, form_of, records_of};
+use crate::commands::{command_of, design_of, dump_of, form_of, records_of, waivers_of};
 use crate::design_hints::on_design;
 use crate::dump_hints::on_dump;
 use crate::file_hints::{file_hint, first_file_hint};
@@ -18,11 +18,17 @@ fn words_hint(alloc: Global, words: &[String]) -> Option<String> {
     format!(in alloc; "the words are: {form}; covd --help says more\n").ok()
 }
 
-/// The hint on the first file that can't be had: the design text, the dump, the records.
+/// The hint on the first file that can't be had: the design text, the waivers, the dump, the records.
 fn on_files<R: Files + AllocGlobal>(rt: &R, words: &[String]) -> Option<String> {
     let hint = file_hint(rt, design_of(words)?, Wanted::Design);
     if hint.is_some() {
         return hint;
+    }
+    if let Some(waivers) = waivers_of(words) {
+        let hint = file_hint(rt, waivers, Wanted::Waivers);
+        if hint.is_some() {
+            return hint;
+        }
     }
     match dump_of(words) {
         Some(dump) => file_hint(rt, dump, Wanted::Dump),
@@ -60,6 +66,23 @@ fn below_goal(alloc: Global) -> Option<String> {
     ).ok()
 }
 
+/// The hint on records that were left out.
+fn left_out(alloc: Global, words: &[String]) -> Option<String> {
+    if command_of(words) == "export" {
+        return format!(in alloc;
+            "records were left out: covd report --keep-going with the same design and records has a line left N CAUSE NAME for each\n"
+        ).ok();
+    }
+    format!(in alloc; "records were left out: see the lines left N CAUSE NAME\n").ok()
+}
+
+/// The hint on waivers that are refused.
+fn on_waivers(alloc: Global) -> Option<String> {
+    format!(in alloc;
+        "a line of the file of waivers is: waive PATTERN \"REASON\" [by NAME] [on YYYY-MM-DD], or a comment behind #; the number is how many bytes stand before the fault\n"
+    ).ok()
+}
+
 /// The hint on how a command with these words ended.
 fn hint_on<R: Files + AllocGlobal>(rt: &R, words: &[String], status: Status) -> Option<String> {
     match status {
@@ -69,7 +92,9 @@ fn hint_on<R: Files + AllocGlobal>(rt: &R, words: &[String], status: Status) -> 
         Status::AdmitRefused => on_refused_admission(rt, words),
         Status::DumpRefused => on_refused_dump(rt, words),
         Status::ShelfFault | Status::FileTooLong => on_files(rt, words),
+        Status::Partly => left_out(rt.alloc(), words),
         Status::BelowGoal => below_goal(rt.alloc()),
+        Status::WaiversRefused => on_waivers(rt.alloc()),
         _ => None,
     }
 }

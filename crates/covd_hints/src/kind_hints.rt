@@ -7,6 +7,7 @@ use text_place::FileKind;
 #[derive(Clone, Copy)]
 pub(crate) enum Wanted {
     Design,
+    Waivers,
     Record,
     Dump,
 }
@@ -68,9 +69,9 @@ fn advice_on(kind: FileKind, wanted: Wanted) -> Option<Advice> {
         (FileKind::FstDump, _) => Some(FST_DUMP),
         (FileKind::Program, _) => Some(PROGRAM),
         (FileKind::PortDump, _) => Some(PORT_DUMP),
-        (FileKind::Record, Wanted::Design | Wanted::Dump) => Some(RECORD),
-        (FileKind::Dump, Wanted::Design | Wanted::Record) => Some(DUMP),
-        (FileKind::Source, Wanted::Record | Wanted::Dump) => Some(SOURCE),
+        (FileKind::Record, Wanted::Design | Wanted::Waivers | Wanted::Dump) => Some(RECORD),
+        (FileKind::Dump, Wanted::Design | Wanted::Waivers | Wanted::Record) => Some(DUMP),
+        (FileKind::Source, Wanted::Waivers | Wanted::Record | Wanted::Dump) => Some(SOURCE),
         _ => None,
     }
 }

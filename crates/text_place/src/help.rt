@@ -24,8 +24,8 @@ Usage:
                              covd report bus.sv t1.rec t2.rec
   covd export FORM DESIGN RECORD ..
                              prints the merge as lines of bins or of holes, as
-                             JSON:
-                             covd export holes bus.sv t1.rec
+                             JSON, as UCIS XML or as a page of HTML:
+                             covd export html bus.sv t1.rec > page.html
   covd make DESIGN SEED EVENTS TESTS
                              the same for TESTS made-up tests of EVENTS rounds of
                              random values: covd make bus.sv 7 20000 3
@@ -50,10 +50,16 @@ Options, between the command's word and its others, in any order (-- ends them):
   --goal PERCENT   of report, export and make: status 19 where the coverage
                    overall is below, as 95 or 99.5 (two digits behind the point
                    at most): covd report --goal 95 bus.sv t1.rec
+  --keep-going     of the same: a record that can't be taken in is left out,
+                   with a line in the report, and status 18
+  --passed         of the same: tests alone that ended with OK
+  --waivers FILE   of the same: nodes that a line waive PATTERN \"REASON\" of the
+                   file matches are left out of coverage; * stands for a part of
+                   a name, ** for anything
   --short          of report and make: no line for each test, and no ranking
 
 Words:
-  FORM     bins, holes or json
+  FORM     bins, holes, json, ucis or html
   SCOPE    the scope of the dump whose variables are the design's: tb, TOP.tb
   ID       the test's name, 1 to 255 letters, digits and signs without blanks
   SEED     1 to 20 digits, at most 18446744073709551615
@@ -76,7 +82,9 @@ What is printed goes to standard output. The exit status is one of:
   12   a file is too long
   13   the dump is refused
   14   the address can't be listened on, or no worker is left (serve)
+  18   done, but for records that could not be taken in (--keep-going)
   19   done, and the coverage overall is below the goal
+  20   the waivers are refused
 ";
 
 /// What `covd --version` prints: the version, and the toolchain with which it is proved.

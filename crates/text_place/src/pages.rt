@@ -57,17 +57,23 @@ The exit status is one of:
 
 /// What `covd help report` prints.
 pub const REPORT: &str = "\
-covd report [--goal PERCENT] [--short] DESIGN RECORD ..
+covd report [OPTION ..] DESIGN RECORD ..
 
 Merges the records of tests and prints the tests, the coverage overall, of each
 type, instance, point and cross, the illegal bins that were hit, and the ranking
 of the tests.
 
   --goal PERCENT   status 19 where the coverage overall is below, as 95 or 99.5
+  --keep-going     a record that can't be taken in is left out, with a line, and
+                   the status is 18
+  --passed         tests alone that ended with OK
+  --waivers FILE   nodes that a line waive PATTERN \"REASON\" of the file matches
+                   are left out of coverage; * stands for a part of a name, **
+                   for anything
   --short          no line for each test, and no ranking
   --               ends the options
 
-  covd report --goal 95 bus.sv t1.rec t2.rec
+  covd report --goal 95 --waivers bus.waivers bus.sv t1.rec t2.rec
 
 The exit status is one of:
    0   done
@@ -78,23 +84,34 @@ The exit status is one of:
    7   standard output failed
    8   a file could not be read
   12   a file is too long
+  18   done, but for records that could not be taken in
   19   done, and the coverage overall is below the goal
+  20   the waivers are refused
 ";
 
 /// What `covd help export` prints.
 pub const EXPORT: &str = "\
-covd export [--goal PERCENT] FORM DESIGN RECORD ..
+covd export [OPTION ..] FORM DESIGN RECORD ..
 
 Merges the records of tests as covd report does, and prints the merge in a form:
 
   bins   a line for each bin: its number, kind, count, state and path
   holes  the bins that are not covered, item by item
   json   one object of JSON
+  ucis   XML in the interchange format of UCIS 1.0
+  html   one page with everything on it, for a browser
 
   --goal PERCENT   status 19 where the coverage overall is below, as 95 or 99.5
+  --keep-going     a record that can't be taken in is left out, and the status is
+                   18
+  --passed         tests alone that ended with OK
+  --waivers FILE   nodes that a line waive PATTERN \"REASON\" of the file matches
+                   are left out of coverage; * stands for a part of a name, **
+                   for anything
   --               ends the options
 
   covd export holes bus.sv t1.rec t2.rec
+  covd export html bus.sv t1.rec t2.rec > page.html
 
 The exit status is one of:
    0   done
@@ -105,12 +122,14 @@ The exit status is one of:
    7   standard output failed
    8   a file could not be read
   12   a file is too long
+  18   done, but for records that could not be taken in
   19   done, and the coverage overall is below the goal
+  20   the waivers are refused
 ";
 
 /// What `covd help make` prints.
 pub const MAKE: &str = "\
-covd make [--goal PERCENT] [--short] DESIGN SEED EVENTS TESTS
+covd make [OPTION ..] DESIGN SEED EVENTS TESTS
 
 Makes TESTS tests of EVENTS rounds of random values each, merges them, and prints
 what covd report prints. Equal words make equal tests.
@@ -120,6 +139,12 @@ what covd report prints. Equal words make equal tests.
   TESTS    1 to 4 digits, 1 to 4096
 
   --goal PERCENT   status 19 where the coverage overall is below, as 95 or 99.5
+  --keep-going     a record that can't be taken in is left out, with a line, and
+                   the status is 18
+  --passed         tests alone that ended with OK
+  --waivers FILE   nodes that a line waive PATTERN \"REASON\" of the file matches
+                   are left out of coverage; * stands for a part of a name, **
+                   for anything
   --short          no line for each test, and no ranking
   --               ends the options
 
@@ -133,7 +158,9 @@ The exit status is one of:
    7   standard output failed
    8   the file could not be read
   12   the file is too long
+  18   done, but for records that could not be taken in
   19   done, and the coverage overall is below the goal
+  20   the waivers are refused
 ";
 
 /// What `covd help record` prints.
